@@ -1,0 +1,30 @@
+-- Laws and shared definitions that more than one crate needs; no code.
+--
+-- want                                                                     look in          names
+-- ⊕ ⊖ ⊗ ⊘ over binary64, a literal as `bits`, +0.0                          Floats           _⊕_ _⊖_ _⊗_ _⊘_, bits, zero⁺, zero-bits
+-- a property of each element; map over ++; Bool, `cond`                     Lists            All, all-*, map-append, cond-ind, decide, same-bool
+-- order of floats: transitive, total; NaN and infinities apart              Order            le-tr, lt-le-tr, le-or-lt, lt→nle, le-rfl, neg-le
+-- rounding is monotone: sums, differences, quotients by 2                   Order            add-mono-l, add-mono-r, sub-mono-l, sub-anti-r, round-signed; half-mono in WholeNumbers
+-- a finite value as a signed fraction (below Order; rarely needed)          Signed           p, n, d, Order, order-of-le, le-of-order
+-- a value of the format rounds to itself; z ≤ z + c                         Exact            round-self, add-ge
+-- 0 < b - a; 0 ≤ x / y ≤ 1                                                  Quotient         sub-positive, quotient-in
+-- the weight of a blend lies from 0 to 1, both included                     Weight           weight-between, difference-finite
+-- whole numbers up to 2^53 are exact; ceil and floor; squeezing             WholeNumbers     number, Is, is-le, is-lt, add-int, sub-int, half-int, ceil-le, Floored, between
+-- times 0 to 2^31, whole seconds as ℤ, rising lists, last and appended      Times            Time, second, secondTime, Rising, RisingSeconds, end, reaches, appended
+-- what a call tests of its lists, and what that says of each element        Checks           all, isTime, rising, risingSeconds; *-says
+-- runs of a list of times, a list passed run by run, the seam               Runs             splits, runsOf, passed, endsRun, seam, front
+-- equal values have equal bits, and the other way                           SameBits         value-of-bits, bits-of-value
+pub mod Floats
+pub mod Lists
+pub mod Signed
+pub mod Order
+pub mod Exact
+pub mod Quotient
+pub mod WholeNumbers
+pub mod Times
+pub mod Weight
+pub mod Checks
+pub mod Loops
+pub mod Tables
+pub mod Runs
+pub mod SameBits

@@ -1,0 +1,201 @@
+-- What the definitions satisfy, in the form that the code has them. Assumes nothing.
+use mathlib.Core.Path.{_≡_, refl, sym, ap, _∙_}
+use mathlib.Core.Bool.{Bool, true, false, cond, not, _&&_, _||_, Bool·beq}
+use mathlib.Core.List.{List, [], _∷_}
+use Prim.Native.Nat.{ℕ, zero, suc, _+_, _-_, _*_, _^_, _/_, _%_, _≤_, _<_, compare}
+use native.Mathlib.Nat.{not-suc-le-zero}
+use native.Mathlib.Numerals.{add-one}
+use native.Mathlib.Omega.{arith}
+use lib.Dec.{T, eqb, ltb, eqb·suc-zero}
+use lib.ListN.{length, drop, getD, drop-of-length-le}
+use borrow.Author.Tests.{ne-eqb, eq-eqb}
+use lib.Seq.{drop-cons}
+use lib.IntN.{ℤ, pos, negsuc, negℤ}
+use lib.Ieee.Scale.{finite}
+use lib.Ieee.{Float, Format, prec, low, emax, nan, inf, fin, add, sub, sum, round, size, nearest, odd, units, binary64, ne, eq, lt, isNan, div, ofBits, neg, up, down}
+use Rattle.numbers.specs.declared.SineCosine.{SineCosine}
+use Rattle.laws.specs.Floats.{zero64, _⊗_, _⊖_, _⊕_, _⊘_, one64}
+use Rattle.numbers.specs.Numbers.{choose, sineCosineAt, sineNear, cosineNear, sineAt, cosineAt, rest, quarter, magnitude, below, left, eighth, arctangent, arcsine, power, powerIn, horner, hornerFrom}
+
+-- ---- power
+
+fuel-zero : (k : ℕ) (a : Float) (n : ℕ) (c : Float) → powerIn k true a n c ≡ c
+unfolding powerIn
+fuel-zero zero a n c = refl
+fuel-zero (suc k) a n c = refl
+
+enough : (k j n : ℕ) (a c : Float) → n ≤ k → n ≤ j → powerIn k (eqb n 0) a n c ≡ powerIn j (eqb n 0) a n c
+unfolding powerIn
+enough zero j zero a c p q = fuel-zero zero a 0 c ∙ sym (fuel-zero j a 0 c)
+enough zero j (suc n) a c p q = absurd (not-suc-le-zero p)
+enough (suc k) j zero a c p q = fuel-zero (suc k) a 0 c ∙ sym (fuel-zero j a 0 c)
+enough (suc k) zero (suc n) a c p q = absurd (not-suc-le-zero q)
+enough (suc k) (suc j) (suc n) a c p q =
+    rw (eqb·suc-zero n) (enough k j (suc n / 2) (a ⊗ a) (cond (eqb (suc n % 2) 1) (c ⊗ a) c) (omega arith) (omega arith))
+
+pub power-none : (a c : Float) → power a 0 c ≡ c
+unfolding power powerIn
+power-none a c = refl
+
+pub power-more : (a : Float) (n : ℕ) (c : Float) → (n ≡ 0 → ⊥) → power a n c ≡ power (a ⊗ a) (n / 2) (cond (eqb (n % 2) 1) (c ⊗ a) c)
+unfolding power powerIn
+power-more a zero c f = absurd (f refl)
+power-more a (suc n) c f =
+    rw (eqb·suc-zero n) (enough n (suc n / 2) (suc n / 2) (a ⊗ a) (cond (eqb (suc n % 2) 1) (c ⊗ a) c) (omega arith) (omega arith))
+
+pub power-stop : (a : Float) (n : ℕ) (c : Float) → n ≡ 0 → c ≡ power a n c
+power-stop a n c e = rw e (sym (power-none a c))
+
+pub power-odd : (a : Float) (n : ℕ) (c : Float) → (n ≡ 0 → ⊥) → n % 2 ≡ 1 → power (a ⊗ a) (n / 2) (c ⊗ a) ≡ power a n c
+power-odd a n c f e = sym (power-more a n c f ∙ rw e refl)
+
+pub power-even : (a : Float) (n : ℕ) (c : Float) → (n ≡ 0 → ⊥) → (n % 2 ≡ 1 → ⊥) → power (a ⊗ a) (n / 2) c ≡ power a n c
+power-even a n c f e = sym (power-more a n c f ∙ rw (ne-eqb (n % 2) 1 e) refl)
+
+-- ---- Horner
+
+pub horner-start : (z : Float) (t : List Float) → 0 < length t → hornerFrom z (one64 ⊘ getD t 0 nan) (drop 1 t) ≡ horner z t
+unfolding horner
+horner-start z [] h = absurd (not-suc-le-zero h)
+horner-start z (x ∷ t) h = refl
+
+pub horner-step : (z p : Float) (t : List Float) (i : ℕ) → i < length t
+    → hornerFrom z p (drop i t) ≡ hornerFrom z (p ⊗ z ⊕ one64 ⊘ getD t i nan) (drop (i + 1) t)
+unfolding hornerFrom
+horner-step z p t i h = rw (add-one, drop-cons t i nan)
+
+pub horner-end : (z p : Float) (t : List Float) (i : ℕ) → length t ≤ i → hornerFrom z p (drop i t) ≡ p
+unfolding hornerFrom
+horner-end z p t i h = rw (drop-of-length-le t h)
+
+-- ---- tests
+
+same-sign : (s : Bool) → Bool·beq s s ≡ true
+same-sign true = refl
+same-sign false = refl
+
+pub nan-made : zero64 ⊘ zero64 ≡ nan
+unfolding div ofBits
+nan-made = refl
+
+pub ne-isNan : (x : Float) → ne x x ≡ isNan x
+unfolding ne eq isNan
+ne-isNan nan = refl
+ne-isNan (inf s) = rw (same-sign s)
+ne-isNan (fin s m e) = rw (eq-eqb (m * up e * down e) (m * up e * down e) refl, same-sign s)
+
+-- ---- arctangent
+
+pub arctangent-nan-y : (y x : Float) → ne y y ≡ true → nan ≡ arctangent y x
+unfolding arctangent
+arctangent-nan-y y x h = rw (sym (ne-isNan y) ∙ h)
+
+pub arctangent-nan-x : (y x : Float) → ne y y ≡ false → ne x x ≡ true → nan ≡ arctangent y x
+unfolding arctangent
+arctangent-nan-x y x g h = rw (sym (ne-isNan y) ∙ g, sym (ne-isNan x) ∙ h)
+
+pub arctangent-origin : (y x : Float) → ne y y ≡ false → ne x x ≡ false → eq y zero64 ≡ true → eq x zero64 ≡ true → zero64 ≡ arctangent y x
+unfolding arctangent
+arctangent-origin y x g h a b = rw (sym (ne-isNan y) ∙ g, sym (ne-isNan x) ∙ h, a, b)
+
+pub arctangent-open : (y x : Float) → ne y y ≡ false → ne x x ≡ false → eq y zero64 && eq x zero64 ≡ false
+    → below y (left x (eighth (magnitude y) (magnitude x))) ≡ arctangent y x
+unfolding arctangent
+arctangent-open y x g h a = rw (sym (ne-isNan y) ∙ g, sym (ne-isNan x) ∙ h, a)
+
+-- ---- sine and cosine
+
+module _ (a b c d : Float) where
+  pub choose-0 : (j : ℕ) → j ≡ 0 → a ≡ choose j a b c d
+  choose-0 j e = rw e
+
+  pub choose-1 : (j : ℕ) → j ≡ 1 → b ≡ choose j a b c d
+  choose-1 j e = rw e
+
+  pub choose-2 : (j : ℕ) → j ≡ 2 → c ≡ choose j a b c d
+  choose-2 j e = rw e
+
+  pub choose-3 : (j : ℕ) → (j ≡ 0 → ⊥) → (j ≡ 1 → ⊥) → (j ≡ 2 → ⊥) → d ≡ choose j a b c d
+  choose-3 zero f g h = absurd (f refl)
+  choose-3 (suc zero) f g h = absurd (g refl)
+  choose-3 (suc (suc zero)) f g h = absurd (h refl)
+  choose-3 (suc (suc (suc n))) f g h = refl
+
+pub sine-is : (x : Float) (k : ℤ) (r : Float) (j : ℕ) → r ≡ rest x k → j ≡ quarter k
+    → choose j (sineNear r) (cosineNear r) (neg (sineNear r)) (neg (cosineNear r)) ≡ sineAt x k
+unfolding sineAt
+sine-is x k r j p q = rw (p, q)
+
+pub cosine-is : (x : Float) (k : ℤ) (r : Float) (j : ℕ) → r ≡ rest x k → j ≡ quarter k
+    → choose j (cosineNear r) (neg (sineNear r)) (neg (cosineNear r)) (sineNear r) ≡ cosineAt x k
+unfolding cosineAt
+cosine-is x k r j p q = rw (p, q)
+
+-- both, by the quadrant
+module _ (x : Float) (k : ℤ) (r : Float) (j : ℕ) (s c : Float) (p : r ≡ rest x k) (q : j ≡ quarter k) (es : s ≡ sineNear r) (ec : c ≡ cosineNear r) where
+  both : (a b : Float)
+      → a ≡ choose j (sineNear r) (cosineNear r) (neg (sineNear r)) (neg (cosineNear r))
+      → b ≡ choose j (cosineNear r) (neg (sineNear r)) (neg (cosineNear r)) (sineNear r)
+      → _≡_ {A = SineCosine} (record { sine = a; cosine = b }) (sineCosineAt x k)
+  unfolding sineCosineAt
+  both a b ea eb = λ i. record { sine = (ea ∙ sine-is x k r j p q) i; cosine = (eb ∙ cosine-is x k r j p q) i }
+
+  pub both-0 : j ≡ 0 → _≡_ {A = SineCosine} (record { sine = s; cosine = c }) (sineCosineAt x k)
+  both-0 e = both s c (es ∙ choose-0 _ _ _ _ j e) (ec ∙ choose-0 _ _ _ _ j e)
+
+  pub both-1 : j ≡ 1 → _≡_ {A = SineCosine} (record { sine = c; cosine = neg s }) (sineCosineAt x k)
+  both-1 e = both c (neg s) (ec ∙ choose-1 _ _ _ _ j e) (ap neg es ∙ choose-1 _ _ _ _ j e)
+
+  pub both-2 : j ≡ 2 → _≡_ {A = SineCosine} (record { sine = neg s; cosine = neg c }) (sineCosineAt x k)
+  both-2 e = both (neg s) (neg c) (ap neg es ∙ choose-2 _ _ _ _ j e) (ap neg ec ∙ choose-2 _ _ _ _ j e)
+
+  pub both-3 : (j ≡ 0 → ⊥) → (j ≡ 1 → ⊥) → (j ≡ 2 → ⊥) → _≡_ {A = SineCosine} (record { sine = neg c; cosine = s }) (sineCosineAt x k)
+  both-3 f g h = both (neg c) s (ap neg ec ∙ choose-3 _ _ _ _ j f g h) (es ∙ choose-3 _ _ _ _ j f g h)
+
+-- ---- finite
+
+opposite : (s : Bool) → Bool·beq s (not s) ≡ false
+opposite true = refl
+opposite false = refl
+
+odd-real : (d : ℕ) (s : Bool) (q k l : ℕ) → isNan (odd d s q k l) ≡ false
+unfolding odd isNan
+odd-real d s zero k l = refl
+odd-real d s (suc q) k l = refl
+
+cond-real : (b : Bool) (x y : Float) → isNan x ≡ false → isNan y ≡ false → isNan (cond b x y) ≡ false
+cond-real true x y h g = h
+cond-real false x y h g = g
+
+units-real : (f : Format) (s : Bool) (q k : ℕ) → isNan (units f s q k) ≡ false
+unfolding units isNan
+units-real f s q k = cond-real (ltb (q * 2 ^ k) (2 ^ (low f + suc (emax f)))) _ _ (odd-real (suc (prec f)) s q k (low f)) refl
+
+round-real : (f : Format) (s : Bool) (a c : ℕ) → isNan (round f s a c) ≡ false
+unfolding round
+round-real f s a c =
+    let n = a * 2 ^ low f in
+    let k = size (n / c) - prec f in
+    let u = c * 2 ^ k in
+    units-real f s (nearest (n / u) (compare (n % u * 2) u)) k
+
+sum-real : (f : Format) (s : Bool) (a : ℕ) (t : Bool) (b c : ℕ) → isNan (sum f s a t b c) ≡ false
+unfolding sum
+sum-real f s a t b c =
+    cond-real (Bool·beq s t) _ _ (round-real f s (a + b) c)
+    (cond-real (ltb a b) _ _ (round-real f t (b - a) c) (round-real f (s && ltb b a) (a - b) c))
+
+same : (x : Float) → isNan x ≡ false → eq x x ≡ true
+unfolding eq isNan
+same nan h = sym h
+same (inf s) h = same-sign s
+same (fin s m e) h = rw (eq-eqb (m * up e * down e) (m * up e * down e) refl, same-sign s)
+
+-- x - x is a number just where x is finite
+pub self-sub : (x : Float) → eq (x ⊖ x) (x ⊖ x) ≡ finite x
+unfolding sub add neg eq
+self-sub nan = refl
+self-sub (inf s) = rw (opposite s)
+self-sub (fin s m e) =
+    let a = m * up e * down e in
+    same (sum binary64 s a (not s) a (down e * down e)) (sum-real binary64 s a (not s) a (down e * down e))

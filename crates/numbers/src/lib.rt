@@ -1,0 +1,312 @@
+// The elementary numbers of document 01, each equal to a definition of specs/.
+ghost use mathlib.Core.Path.{_≡_};
+ghost use Prim.Native.Nat.{ℕ, _<_};
+ghost use Prim.Native.Nat.{_≤_};
+ghost use lib.Signed.{mag};
+ghost use lib.ListN.{length};
+ghost use lib.Dec.{T};
+ghost use lib.Ieee as Ieee;
+ghost use lib.Ieee.Scale.{finite};
+ghost use Rattle.numbers.specs.Numbers.{power, horner, magnitude, angleNear, angle, eighth, left, below, arctangent, arcsine, sineNear, cosineNear, near, rounded, quarter, rest, sineAt, cosineAt, sine, cosine, sineCosineAt, sineCosine, halved, halfPi};
+ghost use Rattle.laws.specs.Floats.{_⊘_};
+
+const SINES: [f64; 7] = [
+    -1307674368000.0,
+    6227020800.0,
+    -39916800.0,
+    362880.0,
+    -5040.0,
+    120.0,
+    -6.0,
+];
+
+const COSINES: [f64; 8] = [
+    20922789888000.0,
+    -87178291200.0,
+    479001600.0,
+    -3628800.0,
+    40320.0,
+    -720.0,
+    24.0,
+    -2.0,
+];
+
+const ODDS: [f64; 21] = [
+    -43.0,
+    41.0,
+    -39.0,
+    37.0,
+    -35.0,
+    33.0,
+    -31.0,
+    29.0,
+    -27.0,
+    25.0,
+    -23.0,
+    21.0,
+    -19.0,
+    17.0,
+    -15.0,
+    13.0,
+    -11.0,
+    9.0,
+    -7.0,
+    5.0,
+    -3.0,
+];
+
+const HALF_PI: f64 = 1.5707963267948966;
+
+const HALF_PI_HIGH: f64 = 1.5707963267341256;
+
+const HALF_PI_LOW: f64 = 6.077100506506192e-11;
+
+const PI: f64 = 3.141592653589793;
+
+const FOURTH_PI: f64 = 0.7853981633974483;
+
+// a to the n, times c: the exponent falls by halving.
+pub fn power(a: f64, n: u32, c: f64) -> f64
+    ensures { λ r. ⌜ r ≡ power a n c ⌝ }
+{
+    if n == 0 {
+        c
+    } else if n % 2 == 1 {
+        power(a * a, n / 2, c * a)
+    } else {
+        power(a * a, n / 2, c)
+    }
+}
+
+// p starts at 1 / t[0], then p * z + 1 / t[i].
+fn horner(z: f64, t: &[f64]) -> f64
+    requires { ⌜ 0 < length (now t) ⌝ }
+    ensures { λ r. ⌜ r ≡ horner z (now (t .entry)) ⌝ }
+{
+    let mut p = 1.0 / t[0];
+    let mut i = 1;
+    while i < t.len() {
+        p = p * z + 1.0 / t[i];
+        i += 1;
+    }
+    p
+}
+
+fn magnitude(x: f64) -> f64
+    ensures { λ r. ⌜ r ≡ magnitude x ⌝ }
+{
+    if x < 0.0 { -x } else { x }
+}
+
+fn sine_near(r: f64) -> f64
+    ensures { λ s. ⌜ s ≡ sineNear r ⌝ }
+{
+    let z = r * r;
+    r + r * (z * horner(z, &SINES))
+}
+
+fn cosine_near(r: f64) -> f64
+    ensures { λ c. ⌜ c ≡ cosineNear r ⌝ }
+{
+    let z = r * r;
+    1.0 + z * horner(z, &COSINES)
+}
+
+// h / 2 to the nearest whole number, a half away from zero.
+fn halved(h: i64) -> i64
+    requires { ⌜ mag h ≤ 4194304 ⌝ }
+    ensures { λ k. ⌜ k ≡ halved h ⌝ }
+{
+    if h < 0 { (h - 1) / 2 } else { (h + 1) / 2 }
+}
+
+// The whole number nearest to x / HALF_PI, a half away from zero. Twice the quotient is exact, and so
+// its whole part, with one added, halves to that number.
+fn turns(x: f64) -> i64
+    requires { ⌜ T (near x) ⌝ }
+    ensures { λ k. ⌜ k ≡ rounded (x ⊘ halfPi) ⌝ }
+{
+    let q = x / HALF_PI;
+    let h = std::num::truncating_f64_to_i64(q + q);
+    halved(h)
+}
+
+// k mod 4, from 0 to 3.
+fn quarter(k: i64) -> u64
+    ensures { λ j. ⌜ j ≡ quarter k ⌝ }
+{
+    let m = k % 4;
+    if m < 0 { (m + 4) as u64 } else { m as u64 }
+}
+
+fn rest(x: f64, k: i64) -> f64
+    ensures { λ r. ⌜ r ≡ rest x k ⌝ }
+{
+    let f = std::num::nearest_i64_to_f64(k);
+    (x - f * HALF_PI_HIGH) - f * HALF_PI_LOW
+}
+
+fn sine_at(x: f64, k: i64) -> f64
+    ensures { λ r. ⌜ r ≡ sineAt x k ⌝ }
+{
+    let r = rest(x, k);
+    let j = quarter(k);
+    if j == 0 {
+        sine_near(r)
+    } else if j == 1 {
+        cosine_near(r)
+    } else if j == 2 {
+        -sine_near(r)
+    } else {
+        -cosine_near(r)
+    }
+}
+
+fn cosine_at(x: f64, k: i64) -> f64
+    ensures { λ r. ⌜ r ≡ cosineAt x k ⌝ }
+{
+    let r = rest(x, k);
+    let j = quarter(k);
+    if j == 0 {
+        cosine_near(r)
+    } else if j == 1 {
+        -sine_near(r)
+    } else if j == 2 {
+        -cosine_near(r)
+    } else {
+        sine_near(r)
+    }
+}
+
+// NaN where x is not finite or its magnitude exceeds 2^20.
+pub fn sine(x: f64) -> f64
+    ensures { λ r. ⌜ r ≡ sine x ⌝ }
+{
+    if x >= -1048576.0 && x <= 1048576.0 {
+        return sine_at(x, turns(x));
+    }
+    0.0 / 0.0
+}
+
+pub fn cosine(x: f64) -> f64
+    ensures { λ r. ⌜ r ≡ cosine x ⌝ }
+{
+    if x >= -1048576.0 && x <= 1048576.0 {
+        return cosine_at(x, turns(x));
+    }
+    0.0 / 0.0
+}
+
+// Both at once, from one reduction.
+pub struct SineCosine {
+    pub sine: f64,
+    pub cosine: f64,
+}
+
+fn sine_cosine_at(x: f64, k: i64) -> SineCosine
+    ensures { λ r. ⌜ r ≡ sineCosineAt x k ⌝ }
+{
+    let r = rest(x, k);
+    let j = quarter(k);
+    let s = sine_near(r);
+    let c = cosine_near(r);
+    if j == 0 {
+        SineCosine { sine: s, cosine: c }
+    } else if j == 1 {
+        SineCosine {
+            sine: c,
+            cosine: -s,
+        }
+    } else if j == 2 {
+        SineCosine {
+            sine: -s,
+            cosine: -c,
+        }
+    } else {
+        SineCosine {
+            sine: -c,
+            cosine: s,
+        }
+    }
+}
+
+pub fn sine_cosine(x: f64) -> SineCosine
+    ensures { λ r. ⌜ r ≡ sineCosine x ⌝ }
+{
+    if x >= -1048576.0 && x <= 1048576.0 {
+        return sine_cosine_at(x, turns(x));
+    }
+    SineCosine {
+        sine: 0.0 / 0.0,
+        cosine: 0.0 / 0.0,
+    }
+}
+
+fn angle_near(q: f64) -> f64
+    ensures { λ r. ⌜ r ≡ angleNear q ⌝ }
+{
+    let w = q * q;
+    q + q * (w * horner(w, &ODDS))
+}
+
+fn angle(q: f64) -> f64
+    ensures { λ r. ⌜ r ≡ angle q ⌝ }
+{
+    if q > 0.4142135623730951 {
+        FOURTH_PI + angle_near((q - 1.0) / (q + 1.0))
+    } else {
+        0.0 + angle_near(q)
+    }
+}
+
+fn eighth(a: f64, b: f64) -> f64
+    ensures { λ r. ⌜ r ≡ eighth a b ⌝ }
+{
+    if a > b {
+        HALF_PI - angle(b / a)
+    } else {
+        angle(a / b)
+    }
+}
+
+fn left(x: f64, t: f64) -> f64
+    ensures { λ r. ⌜ r ≡ left x t ⌝ }
+{
+    if x < 0.0 { PI - t } else { t }
+}
+
+fn below(y: f64, t: f64) -> f64
+    ensures { λ r. ⌜ r ≡ below y t ⌝ }
+{
+    if y < 0.0 { -t } else { t }
+}
+
+// The angle of the point (x, y): NaN where one is NaN, and zero at the origin.
+pub fn arctangent(y: f64, x: f64) -> f64
+    ensures { λ r. ⌜ r ≡ arctangent y x ⌝ }
+{
+    if y != y || x != x {
+        return 0.0 / 0.0;
+    }
+    if y == 0.0 && x == 0.0 {
+        return 0.0;
+    }
+    below(y, left(x, eighth(magnitude(y), magnitude(x))))
+}
+
+pub fn arcsine(v: f64) -> f64
+    ensures { λ r. ⌜ r ≡ arcsine v ⌝ }
+{
+    if v < -1.0 || v > 1.0 {
+        return 0.0 / 0.0;
+    }
+    arctangent(v, root::root((1.0 - v) * (1.0 + v)))
+}
+
+// Neither NaN nor an infinity.
+pub fn is_finite(x: f64) -> bool
+    ensures { λ r. ⌜ r ≡ finite x ⌝ }
+{
+    let d = x - x;
+    d == d
+}
