@@ -63,8 +63,8 @@ kept-by S s rows rows' e e' =
     λ i. keptOf S (λ o. cond (o .good && coveredIn S s (o .at)) (found S (S .epoch (o .at) (o .observed) (fieldIn S s (o .at))) (find (second (o .at)) (e i)) (find (second (o .at)) (e' i)) (find (second (o .at)) (s .accC)) (find (second (o .at)) (s .accD))) none) (s .obs)
 
 -- F, once the horizon and the kept epochs are
-final-by : (S : Stages) (s : Submission S) (o : Option Float) (es : List (S .Epoch)) → horizon S s ≡ o → kept S s ≡ es → final S s ≡ countTo S o (map (S .time) es)
-final-by S s o es h k = λ i. countTo S (h i) (map (S .time) (k i))
+final-by : (S : Stages) (s : Submission S) (o : Option Float) (es : List (S .Epoch)) → horizon S s ≡ o → kept S s ≡ es → final S s ≡ countTo o (map (S .time) es)
+final-by S s o es h k = λ i. countTo (h i) (map (S .time) (k i))
 
 -- ---- the shorter submission: horizon 2010, three kept epochs, two of them final
 shorter-states : fitted (stagesOf toy) shorter (shorter .statesC) ≡ (pos 2000, bits 0x3ff0000000000000) ∷ (pos 2002, bits 0x3ff0000000000000) ∷ (pos 2004, bits 0x3ff0000000000000) ∷ (pos 2006, bits 0x3ff0000000000000) ∷ (pos 2008, bits 0x3ff0000000000000) ∷ []
