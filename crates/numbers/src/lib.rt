@@ -9,6 +9,7 @@ ghost use lib.Ieee as Ieee;
 ghost use lib.Ieee.Scale.{finite};
 ghost use Rattle.numbers.specs.Numbers.{power, horner, magnitude, angleNear, angle, eighth, left, below, arctangent, arcsine, sineNear, cosineNear, near, rounded, quarter, rest, sineAt, cosineAt, sine, cosine, sineCosineAt, sineCosine, halved, halfPi};
 ghost use Rattle.laws.specs.Floats.{_⊘_};
+ghost use Rattle.numbers.specs.Seconds.{wholeSecond};
 
 const SINES: [f64; 7] = [
     -1307674368000.0,
@@ -309,4 +310,24 @@ pub fn is_finite(x: f64) -> bool
 {
     let d = x - x;
     d == d
+}
+
+// A whole GPS second, which keys a list.
+pub struct GpsSecond(pub i64);
+
+// GPS seconds with a fraction.
+pub struct GpsTime(pub f64);
+
+// The one step from a time to its second; 0 where no i64 holds it.
+pub fn whole_second(t: GpsTime) -> GpsSecond
+    ensures { λ r. ⌜ r .0 ≡ wholeSecond (t .0) ⌝ }
+{
+    let x = t.0;
+    if x >= -9223372036854775808.0 {
+        if x < 9223372036854775808.0 {
+            let n = std::num::truncating_f64_to_i64(x);
+            return GpsSecond(n);
+        }
+    }
+    GpsSecond(0)
 }
