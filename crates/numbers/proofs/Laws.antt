@@ -3,7 +3,7 @@ use mathlib.Core.Path.{_≡_, refl, sym, ap, _∙_}
 use mathlib.Core.Bool.{Bool, true, false, cond, not, _&&_, _||_, Bool·beq}
 use mathlib.Core.List.{List, [], _∷_}
 use Prim.Native.Nat.{ℕ, zero, suc, _+_, _-_, _*_, _^_, _/_, _%_, _≤_, _<_, compare}
-use native.Mathlib.Nat.{not-suc-le-zero}
+use native.Mathlib.Nat.{not-suc-le-zero, div-eq-of-lt, div-eq-sub-div}
 use native.Mathlib.Numerals.{add-one}
 use native.Mathlib.Omega.{arith}
 use lib.Dec.{T, eqb, ltb, eqb·suc-zero}
@@ -15,7 +15,7 @@ use lib.Ieee.Scale.{finite}
 use lib.Ieee.{Float, Format, prec, low, emax, nan, inf, fin, add, sub, sum, round, size, nearest, odd, units, binary64, ne, eq, lt, isNan, div, ofBits, neg, up, down}
 use Rattle.numbers.specs.declared.SineCosine.{SineCosine}
 use Rattle.laws.specs.Floats.{zero64, _⊗_, _⊖_, _⊕_, _⊘_, one64}
-use Rattle.numbers.specs.Numbers.{choose, sineCosineAt, sineNear, cosineNear, sineAt, cosineAt, rest, quarter, magnitude, below, left, eighth, arctangent, arcsine, power, powerIn, horner, hornerFrom}
+use Rattle.numbers.specs.Numbers.{choose, sineCosineAt, sineNear, cosineNear, sineAt, cosineAt, rest, quarter, magnitude, below, left, eighth, arctangent, arcsine, power, powerIn, hornerFrom, alternating, downward}
 
 -- ---- power
 
@@ -54,19 +54,19 @@ power-even a n c f e = sym (power-more a n c f ∙ rw (ne-eqb (n % 2) 1 e) refl)
 
 -- ---- Horner
 
-pub horner-start : (z : Float) (t : List Float) → 0 < length t → hornerFrom z (one64 ⊘ getD t 0 nan) (drop 1 t) ≡ horner z t
-unfolding horner
-horner-start z [] h = absurd (not-suc-le-zero h)
-horner-start z (x ∷ t) h = refl
+-- one turn: the next entry down
+pub horner-turn : (z p s : Float) (table : List Float) (step i : ℕ) (goal : Float) → 0 < step → step ≤ i
+    → hornerFrom z p (alternating (neg s) (downward table step (i - step) (i / step))) ≡ goal
+    → hornerFrom z (p ⊗ z ⊕ neg s ⊘ getD table (i - step) nan) (alternating (neg (neg s)) (downward table step (i - step - step) ((i - step) / step))) ≡ goal
+unfolding hornerFrom alternating downward
+horner-turn z p s table step i goal h k inv =
+    let e : i / step ≡ suc ((i - step) / step) = div-eq-sub-div h k ∙ add-one ((i - step) / step) in
+    rw e at inv
 
-pub horner-step : (z p : Float) (t : List Float) (i : ℕ) → i < length t
-    → hornerFrom z p (drop i t) ≡ hornerFrom z (p ⊗ z ⊕ one64 ⊘ getD t i nan) (drop (i + 1) t)
-unfolding hornerFrom
-horner-step z p t i h = rw (add-one, drop-cons t i nan)
-
-pub horner-end : (z p : Float) (t : List Float) (i : ℕ) → length t ≤ i → hornerFrom z p (drop i t) ≡ p
-unfolding hornerFrom
-horner-end z p t i h = rw (drop-of-length-le t h)
+pub horner-done : (z p s : Float) (table : List Float) (step i : ℕ) (goal : Float) → i < step
+    → hornerFrom z p (alternating (neg s) (downward table step (i - step) (i / step))) ≡ goal → p ≡ goal
+unfolding hornerFrom alternating downward
+horner-done z p s table step i goal h inv = let e : i / step ≡ 0 = div-eq-of-lt h in rw e at inv
 
 -- ---- tests
 

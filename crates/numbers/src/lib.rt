@@ -1,58 +1,57 @@
 // The elementary numbers of document 01, each equal to a definition of specs/.
 ghost use mathlib.Core.Path.{_≡_};
-ghost use Prim.Native.Nat.{ℕ, _<_};
-ghost use Prim.Native.Nat.{_≤_};
+ghost use Prim.Native.Nat.{ℕ, suc, _<_, _≤_, _/_};
 ghost use lib.Signed.{mag};
 ghost use lib.ListN.{length};
 ghost use lib.Dec.{T};
 ghost use lib.Ieee as Ieee;
 ghost use lib.Ieee.Scale.{finite};
-ghost use Rattle.numbers.specs.Numbers.{power, horner, magnitude, angleNear, angle, eighth, left, below, arctangent, arcsine, sineNear, cosineNear, near, rounded, quarter, rest, sineAt, cosineAt, sine, cosine, sineCosineAt, sineCosine, halved, halfPi};
+ghost use Rattle.numbers.specs.Numbers.{power, horner, alternating, downward, magnitude, angleNear, angle, eighth, left, below, arctangent, arcsine, sineNear, cosineNear, near, rounded, quarter, rest, sineAt, cosineAt, sine, cosine, sineCosineAt, sineCosine, halved, halfPi};
 ghost use Rattle.laws.specs.Floats.{_⊘_};
+ghost use Rattle.numbers.specs.Seconds.{wholeSecond};
 
-const SINES: [f64; 7] = [
-    -1307674368000.0,
-    6227020800.0,
-    -39916800.0,
-    362880.0,
-    -5040.0,
-    120.0,
-    -6.0,
-];
-
-const COSINES: [f64; 8] = [
-    20922789888000.0,
-    -87178291200.0,
-    479001600.0,
-    -3628800.0,
-    40320.0,
-    -720.0,
+// 2! to 16!
+const FACTORIALS: [f64; 15] = [
+    2.0,
+    6.0,
     24.0,
-    -2.0,
+    120.0,
+    720.0,
+    5040.0,
+    40320.0,
+    362880.0,
+    3628800.0,
+    39916800.0,
+    479001600.0,
+    6227020800.0,
+    87178291200.0,
+    1307674368000.0,
+    20922789888000.0,
 ];
 
+// 3 to 43
 const ODDS: [f64; 21] = [
-    -43.0,
-    41.0,
-    -39.0,
-    37.0,
-    -35.0,
-    33.0,
-    -31.0,
-    29.0,
-    -27.0,
-    25.0,
-    -23.0,
-    21.0,
-    -19.0,
-    17.0,
-    -15.0,
-    13.0,
-    -11.0,
-    9.0,
-    -7.0,
+    3.0,
     5.0,
-    -3.0,
+    7.0,
+    9.0,
+    11.0,
+    13.0,
+    15.0,
+    17.0,
+    19.0,
+    21.0,
+    23.0,
+    25.0,
+    27.0,
+    29.0,
+    31.0,
+    33.0,
+    35.0,
+    37.0,
+    39.0,
+    41.0,
+    43.0,
 ];
 
 const HALF_PI: f64 = 1.5707963267948966;
@@ -78,16 +77,18 @@ pub fn power(a: f64, n: u32, c: f64) -> f64
     }
 }
 
-// p starts at 1 / t[0], then p * z + 1 / t[i].
-fn horner(z: f64, t: &[f64]) -> f64
-    requires { ⌜ 0 < length (now t) ⌝ }
-    ensures { λ r. ⌜ r ≡ horner z (now (t .entry)) ⌝ }
+// p starts at sign / table[first], then p * z plus one over each entry further down, the sign turning.
+fn horner(z: f64, table: &[f64], first: usize, step: usize, sign: f64) -> f64
+    requires { ⌜ (0 < step) × (first < length (now table)) ⌝ }
+    ensures { λ r. ⌜ r ≡ horner z (alternating sign (downward (now (table .entry)) step first (suc (first / step)))) ⌝ }
 {
-    let mut p = 1.0 / t[0];
-    let mut i = 1;
-    while i < t.len() {
-        p = p * z + 1.0 / t[i];
-        i += 1;
+    let mut i = first;
+    let mut s = sign;
+    let mut p = s / table[i];
+    while step <= i {
+        i -= step;
+        s = -s;
+        p = p * z + s / table[i];
     }
     p
 }
@@ -102,14 +103,14 @@ fn sine_near(r: f64) -> f64
     ensures { λ s. ⌜ s ≡ sineNear r ⌝ }
 {
     let z = r * r;
-    r + r * (z * horner(z, &SINES))
+    r + r * (z * horner(z, &FACTORIALS, 13, 2, -1.0))
 }
 
 fn cosine_near(r: f64) -> f64
     ensures { λ c. ⌜ c ≡ cosineNear r ⌝ }
 {
     let z = r * r;
-    1.0 + z * horner(z, &COSINES)
+    1.0 + z * horner(z, &FACTORIALS, 14, 2, 1.0)
 }
 
 // h / 2 to the nearest whole number, a half away from zero.
@@ -246,7 +247,7 @@ fn angle_near(q: f64) -> f64
     ensures { λ r. ⌜ r ≡ angleNear q ⌝ }
 {
     let w = q * q;
-    q + q * (w * horner(w, &ODDS))
+    q + q * (w * horner(w, &ODDS, 20, 1, -1.0))
 }
 
 fn angle(q: f64) -> f64
@@ -309,4 +310,24 @@ pub fn is_finite(x: f64) -> bool
 {
     let d = x - x;
     d == d
+}
+
+// A whole GPS second, which keys a list.
+pub struct GpsSecond(pub i64);
+
+// GPS seconds with a fraction.
+pub struct GpsTime(pub f64);
+
+// The one step from a time to its second; 0 where no i64 holds it.
+pub fn whole_second(t: GpsTime) -> GpsSecond
+    ensures { λ r. ⌜ r .0 ≡ wholeSecond (t .0) ⌝ }
+{
+    let x = t.0;
+    if x >= -9223372036854775808.0 {
+        if x < 9223372036854775808.0 {
+            let n = std::num::truncating_f64_to_i64(x);
+            return GpsSecond(n);
+        }
+    }
+    GpsSecond(0)
 }

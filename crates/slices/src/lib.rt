@@ -4,7 +4,7 @@ ghost use mathlib.Core.Bool.{true, cond, _&&_};
 ghost use mathlib.Core.List.{reverse as reversed};
 ghost use lib.ListN.{length};
 ghost use lib.Ieee.Scale.{finite};
-ghost use Rattle.laws.specs.Checks.{all, isTime, rising as risingOf, risingSeconds};
+ghost use Rattle.laws.specs.Checks.{all, isKey, isTime, rising as risingOf, risingSeconds};
 ghost use Rattle.laws.specs.Loops.{cleared};
 ghost use Rattle.slices.specs.Slices.{copied, lookup};
 
@@ -129,6 +129,45 @@ pub fn rising(t: &[f64]) -> bool
     while 1 < t.len() - i {
         let next = i + 1;
         if t[i] < t[next] {
+            i = next;
+        } else {
+            return false;
+        }
+    }
+    true
+}
+
+// From 0 to 2^31, both included.
+pub fn is_key(k: i64) -> bool
+    ensures { λ r. ⌜ r ≡ isKey k ⌝ }
+{
+    if 0 <= k { k <= 2147483648 } else { false }
+}
+
+pub fn all_keys(keys: &[i64]) -> bool
+    ensures { λ r. ⌜ r ≡ all isKey (now (keys .entry)) ⌝ }
+{
+    let mut i = 0;
+    while i < keys.len() {
+        if !is_key(keys[i]) {
+            return false;
+        }
+        i += 1;
+    }
+    true
+}
+
+// Each below the next.
+pub fn rising_keys(keys: &[i64]) -> bool
+    ensures { λ r. ⌜ r ≡ risingSeconds (now (keys .entry)) ⌝ }
+{
+    if keys.len() == 0 {
+        return true;
+    }
+    let mut i = 0;
+    while 1 < keys.len() - i {
+        let next = i + 1;
+        if keys[i] < keys[next] {
             i = next;
         } else {
             return false;

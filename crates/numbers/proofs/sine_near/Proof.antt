@@ -1,7 +1,7 @@
 use lib.Ieee.{ofBits, ofInt, neg}
 use mathlib.Core.Path.{_≡_, refl, sym, ap, _∙_}
 use Rattle.laws.specs.WholeNumbers.{number}
-use Rattle.numbers.specs.Numbers.{sineNear, sines, factorial}
+use Rattle.numbers.specs.Numbers.{sineNear, sines, factorial, alternating, downward}
 use borrow.Author.Needs.{needs}
 use Rattle.numbers.proofs.sine_near.Statement.{statement}
 use Rattle.numbers.proofs.sine_near.Tie as tie
@@ -19,7 +19,7 @@ horner-requires c κs = search needs
 
 -- src/lib.rt:91:1
 returns : tie.Need-returns
-unfolding sineNear sines factorial ofBits number ofInt neg
+unfolding sineNear sines factorial alternating downward ofBits number ofInt neg
 returns c = rw (c .horner .ensures)
 
 pub sine-near-spec : {M : Type 1} → statement M
