@@ -1,21 +1,20 @@
 -- What the definitions satisfy, in the form that the code has them. Assumes nothing.
 use mathlib.Core.Path.{_≡_, refl, sym, ap, _∙_}
-use mathlib.Core.Bool.{Bool, true, false, cond, not, _&&_, _||_, Bool·beq}
-use mathlib.Core.List.{List, [], _∷_}
+use mathlib.Core.Bool.{Bool, true, false, cond, not, _&&_, Bool·beq}
+use mathlib.Core.List.{List}
 use Prim.Native.Nat.{ℕ, zero, suc, _+_, _-_, _*_, _^_, _/_, _%_, _≤_, _<_, compare}
 use native.Mathlib.Nat.{not-suc-le-zero, div-eq-of-lt, div-eq-sub-div}
 use native.Mathlib.Numerals.{add-one}
 use native.Mathlib.Omega.{arith}
-use lib.Dec.{T, eqb, ltb, eqb·suc-zero}
-use lib.ListN.{length, drop, getD, drop-of-length-le}
+use lib.Dec.{eqb, ltb, eqb·suc-zero}
+use lib.ListN.{getD}
 use borrow.Author.Tests.{ne-eqb, eq-eqb}
-use lib.Seq.{drop-cons}
-use lib.IntN.{ℤ, pos, negsuc, negℤ}
+use lib.IntN.{ℤ}
 use lib.Ieee.Scale.{finite}
-use lib.Ieee.{Float, Format, prec, low, emax, nan, inf, fin, add, sub, sum, round, size, nearest, odd, units, binary64, ne, eq, lt, isNan, div, ofBits, neg, up, down}
+use lib.Ieee.{Float, Format, prec, low, emax, nan, inf, fin, add, sub, sum, round, size, nearest, odd, units, binary64, ne, eq, isNan, div, ofBits, neg, up, down}
 use Rattle.numbers.specs.declared.SineCosine.{SineCosine}
-use Rattle.laws.specs.Floats.{zero64, _⊗_, _⊖_, _⊕_, _⊘_, one64}
-use Rattle.numbers.specs.Numbers.{choose, sineCosineAt, sineNear, cosineNear, sineAt, cosineAt, rest, quarter, magnitude, below, left, eighth, arctangent, arcsine, power, powerIn, hornerFrom, alternating, downward}
+use Rattle.laws.specs.Floats.{zero64, _⊗_, _⊖_, _⊕_, _⊘_}
+use Rattle.numbers.specs.Numbers.{choose, sineCosineAt, sineNear, cosineNear, sineAt, cosineAt, rest, quarter, magnitude, below, left, eighth, arctangent, power, powerIn, hornerFrom, alternating, downward}
 
 -- ---- power
 

@@ -1,22 +1,22 @@
--- x / (pi / 2) for a magnitude of x that does not exceed 2 ^ 20: the quotient does not exceed it either, and twice the quotient is exact.
--- So the whole part of twice the quotient, with one64 added, halves to the nearest whole number, a half away from zero. Assumes nothing.
+-- x / (pi / 2) for a magnitude of x that does not exceed 2^20: the quotient does not exceed it either, and twice the quotient is exact.
+-- So the whole part of twice the quotient, with one added, halves to the nearest whole number, a half away from zero. Assumes nothing.
 use mathlib.Core.Path.{_≡_, refl, sym, ap, _∙_, subst}
 use mathlib.Core.Bool.{Bool, true, false, cond, not, _&&_, _||_, Bool·beq, true≢false}
-use Prim.Native.Nat.{ℕ, zero, suc, _+_, _-_, _*_, _/_, _%_, _^_, _≤_, _<_, min}
-use native.Mathlib.Nat.{le-of-lt, le-of-eq, le-trans, lt-of-le-of-lt, mul-assoc, mul-comm, mul-left-comm, mul-right-comm, mul-one, one-mul, mul-pos, mul-le-mul-left, mul-le-mul-right, le-of-mul-le-mul-right, add-div-right, div-div-eq-div-mul, min-eq-left, div-le-of-le-mul, add-mul, mul-add}
+use Prim.Native.Nat.{ℕ, zero, suc, _+_, _-_, _*_, _/_, _%_, _^_, _≤_, _<_}
+use native.Mathlib.Nat.{le-of-lt, le-of-eq, le-trans, lt-of-le-of-lt, mul-assoc, mul-comm, mul-left-comm, mul-right-comm, mul-one, one-mul, mul-pos, mul-le-mul-right, le-of-mul-le-mul-right, add-div-right, div-div-eq-div-mul, min-eq-left, div-le-of-le-mul, add-mul}
 use native.Mathlib.Omega.{arith}
-use lib.Dec.{T, ltb, leb, eqb, ltb→lt, leb→le, eqb→eq, lt→ltb, le→leb, nltb→le, lit<}
+use lib.Dec.{T, ltb, leb, eqb, ltb→lt, leb→le, eqb→eq, lt→ltb, nltb→le, lit<}
 use lib.Pow.{pow-add, pow-pos, pow-lt}
 use lib.IntN.{ℤ, pos, negsuc, negℤ}
 use lib.Signed.{mag}
-use lib.Ieee.{Float, nan, inf, fin, Format, binary32, binary64, prec, emax, low, up, down, round, units, add, sum, div, neg, lt, le, eq, ofBits, fits, toSigned}
+use lib.Ieee.{Float, nan, inf, fin, binary64, prec, emax, low, up, down, round, units, add, div, neg, lt, le, eq, ofBits, fits, toSigned}
 use lib.Ieee.Exact.{HasValue, units-val, round-exact}
 use lib.Ieee.Fits.{round-is, round-fits, up-pos, down-pos, and-l, and-r}
 use lib.Ieee.Nearest.{div-same}
 use lib.Ieee.Order.{round-mono, kept, drop}
 use lib.Ieee.Scale.{grid, overflow, round-val}
 use Rattle.laws.specs.Floats.{_⊕_, _⊘_}
-use Rattle.numbers.specs.Numbers.{near, limit, halfPi, halfUp, rounded, halved}
+use Rattle.numbers.specs.Numbers.{near, halfPi, halfUp, rounded, halved}
 
 -- ---- what a comparison says of the fractions
 
@@ -239,7 +239,7 @@ ends (fin false m e) s a c C b v =
     let y : 0 < 2 ^ 63 * D + M * 1 = omega arith in
     record { low-end = or-l (ltb 0 (2 ^ 63 * D + M * 1)) _ (lt→ltb 0 (2 ^ 63 * D + M * 1) y); high-end = lt→ltb (M * 1) (2 ^ 63 * D) x }
 
--- ---- the whole part of twice the value, with one64 added, halves to the nearest whole number
+-- ---- the whole part of twice the value, with one added, halves to the nearest whole number
 
 half : (M D : ℕ) → 0 < D → ((M * D + M * D) / (D * D) + 1) / 2 ≡ (M * 2 + D) / (D * 2)
 half M D P =
@@ -251,7 +251,7 @@ half M D P =
     two-times x = omega arith
 
     e : (M * D + M * D) * D ≡ M * 2 * (D * D)
-    e = ap (λ (x : ℕ). x * D) (two-times (M * D)) ∙ simp (mul-assoc, mul-comm, mul-left-comm)
+    e = ap (λ (x : ℕ). x * D) (two-times (M * D)) ∙ simp (mul-assoc, mul-comm)
 
 halved-neg : (n : ℕ) → halved (negℤ (pos n)) ≡ negℤ (pos ((n + 1) / 2))
 unfolding halved

@@ -1,10 +1,9 @@
 // The elementary numbers of document 01, each equal to a definition of specs/.
 ghost use mathlib.Core.Path.{_≡_};
-ghost use Prim.Native.Nat.{ℕ, suc, _<_, _≤_, _/_};
+ghost use Prim.Native.Nat.{suc, _<_, _≤_, _/_};
 ghost use lib.Signed.{mag};
 ghost use lib.ListN.{length};
 ghost use lib.Dec.{T};
-ghost use lib.Ieee as Ieee;
 ghost use lib.Ieee.Scale.{finite};
 ghost use Rattle.numbers.specs.Numbers.{power, horner, alternating, downward, magnitude, angleNear, angle, eighth, left, below, arctangent, arcsine, sineNear, cosineNear, near, rounded, quarter, rest, sineAt, cosineAt, sine, cosine, sineCosineAt, sineCosine, halved, halfPi};
 ghost use Rattle.laws.specs.Floats.{_⊘_};
@@ -54,6 +53,7 @@ const ODDS: [f64; 21] = [
     43.0,
 ];
 
+// Document 01's H, and its parts A and B.
 const HALF_PI: f64 = 1.5707963267948966;
 
 const HALF_PI_HIGH: f64 = 1.5707963267341256;
@@ -64,20 +64,7 @@ const PI: f64 = 3.141592653589793;
 
 const FOURTH_PI: f64 = 0.7853981633974483;
 
-// a to the n, times c: the exponent falls by halving.
-pub fn power(a: f64, n: u32, c: f64) -> f64
-    ensures { λ r. ⌜ r ≡ power a n c ⌝ }
-{
-    if n == 0 {
-        c
-    } else if n % 2 == 1 {
-        power(a * a, n / 2, c * a)
-    } else {
-        power(a * a, n / 2, c)
-    }
-}
-
-// p starts at sign / table[first], then p * z plus one over each entry further down, the sign turning.
+// p starts at sign / table[first], then p * z + the next coefficient, step places down, the sign turned.
 fn horner(z: f64, table: &[f64], first: usize, step: usize, sign: f64) -> f64
     requires { ⌜ (0 < step) × (first < length (now table)) ⌝ }
     ensures { λ r. ⌜ r ≡ horner z (alternating sign (downward (now (table .entry)) step first (suc (first / step)))) ⌝ }
@@ -93,26 +80,6 @@ fn horner(z: f64, table: &[f64], first: usize, step: usize, sign: f64) -> f64
     p
 }
 
-fn magnitude(x: f64) -> f64
-    ensures { λ r. ⌜ r ≡ magnitude x ⌝ }
-{
-    if x < 0.0 { -x } else { x }
-}
-
-fn sine_near(r: f64) -> f64
-    ensures { λ s. ⌜ s ≡ sineNear r ⌝ }
-{
-    let z = r * r;
-    r + r * (z * horner(z, &FACTORIALS, 13, 2, -1.0))
-}
-
-fn cosine_near(r: f64) -> f64
-    ensures { λ c. ⌜ c ≡ cosineNear r ⌝ }
-{
-    let z = r * r;
-    1.0 + z * horner(z, &FACTORIALS, 14, 2, 1.0)
-}
-
 // h / 2 to the nearest whole number, a half away from zero.
 fn halved(h: i64) -> i64
     requires { ⌜ mag h ≤ 4194304 ⌝ }
@@ -121,8 +88,7 @@ fn halved(h: i64) -> i64
     if h < 0 { (h - 1) / 2 } else { (h + 1) / 2 }
 }
 
-// The whole number nearest to x / HALF_PI, a half away from zero. Twice the quotient is exact, and so
-// its whole part, with one added, halves to that number.
+// x / HALF_PI to the nearest whole number, a half away from zero; twice the quotient is exact.
 fn turns(x: f64) -> i64
     requires { ⌜ T (near x) ⌝ }
     ensures { λ k. ⌜ k ≡ rounded (x ⊘ halfPi) ⌝ }
@@ -132,19 +98,36 @@ fn turns(x: f64) -> i64
     halved(h)
 }
 
+// What is left of x after k quarters of a turn.
+fn rest(x: f64, k: i64) -> f64
+    ensures { λ r. ⌜ r ≡ rest x k ⌝ }
+{
+    let f = std::num::nearest_i64_to_f64(k);
+    (x - f * HALF_PI_HIGH) - f * HALF_PI_LOW
+}
+
+// From 15! at place 13 by twos to 3!.
+fn sine_near(r: f64) -> f64
+    ensures { λ s. ⌜ s ≡ sineNear r ⌝ }
+{
+    let z = r * r;
+    r + r * (z * horner(z, &FACTORIALS, 13, 2, -1.0))
+}
+
+// From 16! at place 14 by twos to 2!.
+fn cosine_near(r: f64) -> f64
+    ensures { λ c. ⌜ c ≡ cosineNear r ⌝ }
+{
+    let z = r * r;
+    1.0 + z * horner(z, &FACTORIALS, 14, 2, 1.0)
+}
+
 // k mod 4, from 0 to 3.
 fn quarter(k: i64) -> u64
     ensures { λ j. ⌜ j ≡ quarter k ⌝ }
 {
     let m = k % 4;
     if m < 0 { (m + 4) as u64 } else { m as u64 }
-}
-
-fn rest(x: f64, k: i64) -> f64
-    ensures { λ r. ⌜ r ≡ rest x k ⌝ }
-{
-    let f = std::num::nearest_i64_to_f64(k);
-    (x - f * HALF_PI_HIGH) - f * HALF_PI_LOW
 }
 
 fn sine_at(x: f64, k: i64) -> f64
@@ -198,7 +181,6 @@ pub fn cosine(x: f64) -> f64
     0.0 / 0.0
 }
 
-// Both at once, from one reduction.
 pub struct SineCosine {
     pub sine: f64,
     pub cosine: f64,
@@ -231,6 +213,7 @@ fn sine_cosine_at(x: f64, k: i64) -> SineCosine
     }
 }
 
+// Both at once, from one reduction.
 pub fn sine_cosine(x: f64) -> SineCosine
     ensures { λ r. ⌜ r ≡ sineCosine x ⌝ }
 {
@@ -243,6 +226,13 @@ pub fn sine_cosine(x: f64) -> SineCosine
     }
 }
 
+fn magnitude(x: f64) -> f64
+    ensures { λ r. ⌜ r ≡ magnitude x ⌝ }
+{
+    if x < 0.0 { -x } else { x }
+}
+
+// From 43 at place 20 to 3.
 fn angle_near(q: f64) -> f64
     ensures { λ r. ⌜ r ≡ angleNear q ⌝ }
 {
@@ -250,6 +240,7 @@ fn angle_near(q: f64) -> f64
     q + q * (w * horner(w, &ODDS, 20, 1, -1.0))
 }
 
+// The angle whose tangent is q, for q from 0 to 1.
 fn angle(q: f64) -> f64
     ensures { λ r. ⌜ r ≡ angle q ⌝ }
 {
@@ -260,22 +251,25 @@ fn angle(q: f64) -> f64
     }
 }
 
-fn eighth(a: f64, b: f64) -> f64
-    ensures { λ r. ⌜ r ≡ eighth a b ⌝ }
+// The angle of the point of these magnitudes.
+fn eighth(y: f64, x: f64) -> f64
+    ensures { λ r. ⌜ r ≡ eighth y x ⌝ }
 {
-    if a > b {
-        HALF_PI - angle(b / a)
+    if y > x {
+        HALF_PI - angle(x / y)
     } else {
-        angle(a / b)
+        angle(y / x)
     }
 }
 
+// Mirrored to the left where x is below zero.
 fn left(x: f64, t: f64) -> f64
     ensures { λ r. ⌜ r ≡ left x t ⌝ }
 {
     if x < 0.0 { PI - t } else { t }
 }
 
+// Mirrored downwards where y is below zero.
 fn below(y: f64, t: f64) -> f64
     ensures { λ r. ⌜ r ≡ below y t ⌝ }
 {
@@ -302,6 +296,19 @@ pub fn arcsine(v: f64) -> f64
         return 0.0 / 0.0;
     }
     arctangent(v, root::root((1.0 - v) * (1.0 + v)))
+}
+
+// a to the n, times c: the exponent falls by halving.
+pub fn power(a: f64, n: u32, c: f64) -> f64
+    ensures { λ r. ⌜ r ≡ power a n c ⌝ }
+{
+    if n == 0 {
+        c
+    } else if n % 2 == 1 {
+        power(a * a, n / 2, c * a)
+    } else {
+        power(a * a, n / 2, c)
+    }
 }
 
 // Neither NaN nor an infinity.

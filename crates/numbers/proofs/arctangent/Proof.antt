@@ -1,51 +1,23 @@
+-- `numbers::arctangent` meets its contract. Assumes nothing.
 use mathlib.Core.Bool.{false, _&&_}
 use lib.Ieee.{eq}
 use Rattle.laws.specs.Floats.{zero64}
-use mathlib.Core.Path.{_≡_, refl, sym, ap, _∙_}
+use mathlib.Core.Path.{_≡_, _∙_}
 use mathlib.Core.Logic.{⊎-elim}
 use Rattle.numbers.proofs.Laws.{nan-made, arctangent-nan-y, arctangent-nan-x, arctangent-origin, arctangent-open}
 use borrow.Author.Needs.{needs}
 use Rattle.numbers.proofs.arctangent.Statement.{statement}
 use Rattle.numbers.proofs.arctangent.Tie as tie
-use Rattle.numbers.proofs.arctangent.Reads as reads
-use Rattle.numbers.proofs.arctangent.Lts as lts
-use Rattle.numbers.proofs.below.Reads as below-reads
-use Rattle.numbers.proofs.eighth.Reads as eighth-reads
-use Rattle.numbers.proofs.left.Reads as left-reads
-use Rattle.numbers.proofs.magnitude.Reads as magnitude-reads
 
--- src/lib.rt:149:9
 returns : tie.Need-returns
 returns c = ⊎-elim
     (λ w. nan-made ∙ arctangent-nan-y _ _ (w .taken))
     (λ w. nan-made ∙ arctangent-nan-x _ _ (w .0 .left) (w .1 .taken))
     (c .if1 .came)
 
--- src/lib.rt:152:9
 returns-2 : tie.Need-returns-2
 returns-2 c = arctangent-origin _ _ (c .before .before .before .if1 .left) (c .before .before .if2 .left) (c .before .if3 .taken) (c .if4 .taken)
 
--- src/lib.rt:154:29
-magnitude-requires : tie.Need-magnitude-requires
-magnitude-requires c κs = search needs
-
--- src/lib.rt:154:43
-magnitude-requires-2 : tie.Need-magnitude-requires-2
-magnitude-requires-2 c κs = search needs
-
--- src/lib.rt:154:22
-eighth-requires : tie.Need-eighth-requires
-eighth-requires c κs = search needs
-
--- src/lib.rt:154:14
-left-requires : tie.Need-left-requires
-left-requires c κs = search needs
-
--- src/lib.rt:154:5
-below-requires : tie.Need-below-requires
-below-requires c κs = search needs
-
--- src/lib.rt:145:1
 returns-3 : tie.Need-returns-3
 returns-3 c =
     let j = c .before .before .before .before .before in
@@ -58,12 +30,4 @@ returns-3 c =
 pub arctangent-spec : {M : Type 1} → statement M
 arctangent-spec =
     tie.close
-    (tie.spec
-    returns
-    returns-2
-    magnitude-requires
-    magnitude-requires-2
-    eighth-requires
-    left-requires
-    below-requires
-    returns-3)
+    (tie.spec returns returns-2 (λ c κs. search needs) (λ c κs. search needs) (λ c κs. search needs) (λ c κs. search needs) (λ c κs. search needs) returns-3)

@@ -1,26 +1,14 @@
+-- `numbers::cosine_near` meets its contract. Assumes nothing.
 use lib.Ieee.{ofBits, ofInt, neg}
-use mathlib.Core.Path.{_≡_, refl, sym, ap, _∙_}
 use Rattle.laws.specs.WholeNumbers.{number}
 use Rattle.numbers.specs.Numbers.{cosineNear, cosines, factorial, alternating, downward}
 use borrow.Author.Needs.{needs}
 use Rattle.numbers.proofs.cosine_near.Statement.{statement}
 use Rattle.numbers.proofs.cosine_near.Tie as tie
-use Rattle.numbers.proofs.cosine_near.Reads as reads
-use Rattle.numbers.proofs.cosine_near.Lts as lts
-use Rattle.numbers.proofs.horner.Reads as horner-reads
 
--- src/lib.rt:102:25
-slice-aggregate-horner : tie.Need-slice-aggregate-horner
-slice-aggregate-horner c = search needs
-
--- src/lib.rt:102:15
-horner-requires : tie.Need-horner-requires
-horner-requires c κs = search needs
-
--- src/lib.rt:98:1
 returns : tie.Need-returns
 unfolding cosineNear cosines factorial alternating downward ofBits number ofInt neg
 returns c = rw (c .horner .ensures)
 
 pub cosine-near-spec : {M : Type 1} → statement M
-cosine-near-spec = tie.close (tie.spec slice-aggregate-horner horner-requires returns)
+cosine-near-spec = tie.close (tie.spec (λ c. search needs) (λ c κs. search needs) returns)

@@ -1,10 +1,8 @@
+-- `numbers::is_finite` meets its contract. Assumes nothing.
 use Rattle.numbers.proofs.Laws.{self-sub}
 use Rattle.numbers.proofs.is_finite.Statement.{statement}
 use Rattle.numbers.proofs.is_finite.Tie as tie
-use Rattle.numbers.proofs.is_finite.Reads as reads
-use Rattle.numbers.proofs.is_finite.Lts as lts
 
--- src/lib.rt:306:1
 returns : tie.Need-returns
 returns c = self-sub (c .args .x)
 
