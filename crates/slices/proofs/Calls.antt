@@ -1,12 +1,14 @@
 -- What a public call leaves behind, in the cases of its code. Assumes nothing.
 use mathlib.Core.Path.{_≡_, refl, sym, ap, _∙_}
-use mathlib.Core.Bool.{Bool, true, false, cond}
-use mathlib.Core.List.{List, map}
+use mathlib.Core.Bool.{Bool, true, false, cond, _&&_}
+use mathlib.Core.List.{List, [], _∷_, map}
 use Prim.Native.Nat.{ℕ, zero, suc}
 use native.Mathlib.Omega.{arith}
 use lib.Ieee.{Float}
+use lib.ListN.{length, replicate}
 use lib.Ieee.Scale.{finite}
 use Rattle.laws.specs.Checks.{all}
+use Rattle.laws.specs.Floats.{zero64}
 use Rattle.laws.specs.Loops.{cleared}
 use Rattle.slices.specs.Calls.{Left, left, leftClear, handed, settled}
 
@@ -35,3 +37,31 @@ module _ {Answer : Type 0} (accepted : Answer) (refused : ℕ → Answer) (new o
   -- the numbers worked out are handed out, or refused by 10
   pub call-handed : (b : Bool) (g during : ℕ) → 0 ≡ g → 0 ≡ during → b ≡ all (all finite) new → handed accepted refused b new outputs scratch ≡ settled accepted refused g during new outputs scratch
   call-handed b g during e f h = ap (λ (b : Bool). handed accepted refused b new outputs scratch) h ∙ (λ i. settled accepted refused (e i) (f i) new outputs scratch)
+
+-- ---- a call with one output, after whose work only 10 can refuse: `work` is worked out, and y, as long as what stood there, is what the code has of it
+
+and-true : (b : Bool) → b ≡ (b && true)
+and-true true = refl
+and-true false = refl
+
+cleared-like : (z s s' : List Float) → z ≡ cleared s' → length s' ≡ length s → z ≡ cleared s
+cleared-like z s s' e l = e ∙ ap (λ (k : ℕ). replicate k zero64) l
+
+module _ {Answer : Type 0} (accepted : Answer) (refused : ℕ → Answer) (work old s : List Float) (n g : ℕ) (e : n ≡ g) where
+  judged : (b : Bool) (y : List Float) → n ≡ 0 → y ≡ work → b ≡ all finite y →
+      handed accepted refused b (work ∷ []) (old ∷ []) s ≡ settled accepted refused g 0 (work ∷ []) (old ∷ []) s
+  judged b y h ey eb = call-handed accepted refused (work ∷ []) (old ∷ []) s b g 0 (sym h ∙ e) refl (eb ∙ ap (all finite) ey ∙ and-true (all finite work))
+
+  pub one-refused : (n ≡ 0 → ⊥) → left (refused n) (old ∷ []) s ≡ settled accepted refused g 0 (work ∷ []) (old ∷ []) s
+  one-refused h = call-refused accepted refused (work ∷ []) (old ∷ []) s n g 0 e h
+
+  pub one-accepted : (y z s' : List Float) (b : Bool) → n ≡ 0 → y ≡ work → z ≡ cleared s' → length s' ≡ length s → b ≡ all finite y → b ≡ true →
+      left accepted (y ∷ []) z ≡ settled accepted refused g 0 (work ∷ []) (old ∷ []) s
+  one-accepted y z s' b h ey ez l eb f =
+      (λ i. left accepted (ey i ∷ []) (cleared-like z s s' ez l i)) ∙ ap (λ (c : Bool). handed accepted refused c (work ∷ []) (old ∷ []) s) (sym f) ∙ judged b y h ey eb
+
+  pub one-unfit : (y y' z old' s' : List Float) (b : Bool) → n ≡ 0 → y ≡ work → y' ≡ cleared old' → length old' ≡ length old → z ≡ cleared s' → length s' ≡ length s →
+      b ≡ all finite y → b ≡ false → left (refused 10) (y' ∷ []) z ≡ settled accepted refused g 0 (work ∷ []) (old ∷ []) s
+  one-unfit y y' z old' s' b h ey ey' lo ez l eb f =
+      (λ i. left (refused 10) (cleared-like y' old old' ey' lo i ∷ []) (cleared-like z s s' ez l i))
+      ∙ ap (λ (c : Bool). handed accepted refused c (work ∷ []) (old ∷ []) s) (sym f) ∙ judged b y h ey eb
