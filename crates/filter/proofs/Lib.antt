@@ -3,3 +3,4 @@ pub mod Laws
 pub mod Bands
 pub mod Calls
 pub mod Seam
+pub mod Instances
