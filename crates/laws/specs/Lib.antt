@@ -12,6 +12,7 @@
 -- whole numbers up to 2^53 are exact; ceil and floor; squeezing             WholeNumbers     number, Is, is-le, is-lt, add-int, sub-int, half-int, ceil-le, Floored, between
 -- times 0 to 2^31, whole seconds as ℤ, rising lists, last and appended      Times            Time, second, secondTime, Rising, RisingSeconds, end, reaches, appended
 -- what a call tests of its lists, and what that says of each element        Checks           all, isTime, rising, risingSeconds; *-says
+-- sums from +0.0 in order, one term more, equal terms                     Sums             sumTo, sum-more, sum-same
 -- runs of a list of times, a list passed run by run, the seam               Runs             splits, runsOf, passed, endsRun, seam, front
 -- equal values have equal bits, and the other way                           SameBits         value-of-bits, bits-of-value
 pub mod Floats
@@ -26,5 +27,6 @@ pub mod Weight
 pub mod Checks
 pub mod Loops
 pub mod Tables
+pub mod Sums
 pub mod Runs
 pub mod SameBits

@@ -1,0 +1,34 @@
+-- Laws of the kernel for fifteen columns. Assumes nothing.
+use mathlib.Core.Path.{_≡_, refl, sym, ap, _∙_}
+use mathlib.Core.Bool.{Bool, true, false, cond, _&&_}
+use mathlib.Core.List.{List}
+use Prim.Native.Nat.{ℕ, _*_}
+use lib.Dec.{ltb, eqb}
+use lib.Ieee.{Float}
+use lib.ListN.{length}
+use borrow.Author.Tests.{eqb-true}
+use Rattle.least_squares.proofs.Laws.{never}
+use Rattle.laws.specs.Tables.{row}
+use Rattle.least_squares.specs.Elimination.{fine, stage, view}
+use Rattle.least_squares.specs.Kernel.{Estimated, shaped15}
+use Rattle.least_squares.specs.LeastSquares.{coefficientAt, equations, solvable, solved}
+
+kept : (t b : Bool) → cond t false b ≡ true → b ≡ true
+kept true b h = absurd (never h)
+kept false b h = h
+
+pub shaped-is : (r n : ℕ) → shaped15 r n ≡ true → r ≡ n * 15
+unfolding shaped15
+shaped-is r n h = eqb-true r (n * 15) (kept (ltb 100000 n) (eqb r (n * 15)) h)
+
+pub estimated : (rows y : List Float) (t : Bool) → t ≡ shaped15 (length rows) (length y) → t ≡ true → (n : List Float) → n ≡ equations rows y 15 →
+    (f : Bool) → f ≡ fine 15 n 15 → (s : List Float) → (f ≡ true → s ≡ stage 15 n 15) → (b : List Float) → b ≡ row (coefficientAt (view s) 15) 15 →
+    Estimated rows y (record { fine = f; beta = b })
+unfolding solvable solved
+estimated rows y t ht e n hn f hf s hs b hb = record {
+  said = hf ∙ simp (sym ht ∙ e, hn);
+  values = λ g. hb ∙ simp (hs g, hn);
+}
+
+pub refused : (rows y : List Float) (t : Bool) → t ≡ shaped15 (length rows) (length y) → t ≡ false → (b : List Float) → Estimated rows y (record { fine = false; beta = b })
+refused rows y t ht e b = record { said = simp (sym ht ∙ e); values = λ g. absurd (never g) }

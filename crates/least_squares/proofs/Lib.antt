@@ -1,0 +1,6 @@
+pub mod Laws
+pub mod FifteenColumns
+pub mod Shapes
+pub mod Pivot
+pub mod Calls
+pub mod Instances

@@ -1,0 +1,33 @@
+use Rattle.least_squares.proofs.Laws.{row-more, row-whole}
+use lib.ListN.{length, take, set, length-set}
+use native.Mathlib.Omega.{arith}
+use Prim.Native.Nat.{ℕ, suc, _+_, _*_, _-_, _≤_, _<_}
+use mathlib.Core.Path.{_≡_, refl, sym, ap, _∙_}
+use borrow.Author.Needs.{needs}
+use Rattle.laws.specs.Tables.{row}
+use Rattle.least_squares.specs.Elimination.{view}
+use Rattle.least_squares.specs.LeastSquares.{coefficientAt}
+use Rattle.least_squares.proofs.kernel.betas.Statement.{statement}
+use Rattle.least_squares.proofs.kernel.betas.Tie as tie
+
+abbrev Inv-loop : tie.InvT-loop
+Inv-loop a beta₀ i₀ beta i = (i ≤ 15) × (length beta ≡ 15) × (take i beta ≡ row (coefficientAt (view a) 15) i)
+
+abbrev μ-loop : tie.MeasureT-loop
+μ-loop a beta₀ i₀ beta i = 15 - i
+
+loop-holds : tie.Need-loop-holds Inv-loop μ-loop
+unfolding row
+loop-holds c = (omega arith, refl, refl)
+
+loop-again : tie.Need-loop-again Inv-loop μ-loop
+unfolding coefficientAt
+loop-again c = (omega arith, simp length-set (c .before .before .before .loop .inv .1), row-more (c .before .before .before .loop .beta) _ (c .before .before .before .loop .i) _ (c .before .before .before .loop .inv .2) (omega arith) refl)
+
+returns : tie.Need-returns Inv-loop μ-loop
+returns c = row-whole (c .before .loop .beta) _ (c .before .loop .i) 15 (c .before .loop .inv .2) (omega arith) (c .before .loop .inv .1)
+
+pub betas-spec : {M : Type 1} → statement M
+betas-spec =
+    tie.close
+    (tie.spec Inv-loop μ-loop loop-holds (λ c. search needs) (λ c. search needs) (λ c. search needs) (λ c. search needs) (λ c. search needs) (λ c. search needs) (λ c. search needs) (λ c. search needs) (λ c. search needs) (λ c. search needs) (λ c. search needs) (λ c. search needs) loop-again returns)

@@ -1,0 +1,51 @@
+use Rattle.least_squares.proofs.Laws.{holds-same, reduced-none, reduced-more, reduced-at, reduced-row, reduced-col}
+use mathlib.Core.Path.{_≡_, refl, sym, ap, _∙_}
+use Prim.Native.Nat.{ℕ, suc, _+_, _*_, _-_, _≤_, _<_}
+use native.Mathlib.Numerals.{add-one}
+use native.Mathlib.Omega.{arith}
+use lib.ListN.{length, getD}
+use lib.Ieee.{Float, nan}
+use borrow.Author.Needs.{needs}
+use Rattle.least_squares.proofs.Laws.{Holds, as-it-is, store, whole, by, ltb-step}
+use Rattle.least_squares.specs.Elimination.{Matrix, eliminated, flatten, largest, reduced, swapped, view}
+use Rattle.least_squares.proofs.kernel.reduce_row.Statement.{statement}
+use Rattle.least_squares.proofs.kernel.reduce_row.Tie as tie
+
+abbrev Inv-loop : tie.InvT-loop
+Inv-loop a₀ p c i f w k₀ a k =
+    (k ≤ w) × (w ≡ p + 1) × Holds a (reduced c i k (view a₀))
+
+abbrev μ-loop : tie.MeasureT-loop
+μ-loop a₀ p c i f w k₀ a k = w - k
+
+loop-holds : tie.Need-loop-holds Inv-loop μ-loop
+loop-holds c =
+    let s = c .before .before .args in
+    (omega arith, refl, holds-same _ _ _ (as-it-is (s .a .now) (c .before .before .pre .4)) (λ i j a b. reduced-none (s .c) (s .i) 0 (view (s .a .now)) i j))
+
+loop-again : tie.Need-loop-again Inv-loop μ-loop
+loop-again c =
+    let s = c .before .before .before .before .before .before .args in
+    let loop = c .before .before .before .loop in
+    let m = view (s .a .now) in
+    let h = loop .inv .2 in (
+      omega arith,
+      refl,
+      store (loop .a) (reduced (s .c) (s .i) (loop .k) m) (reduced (s .c) (s .i) (loop .k + 1) m) (s .i) (loop .k) _ (omega arith) (omega arith) h
+          (simp (
+            h .at (s .i) (loop .k) (omega arith) (omega arith) ∙ reduced-col (s .c) (s .i) (loop .k) m (s .i),
+            h .at (s .c) (loop .k) (omega arith) (omega arith) ∙ reduced-col (s .c) (s .i) (loop .k) m (s .c),
+          )
+          (reduced-at (s .c) (s .i) (loop .k) m))
+          (λ i' j a b n. reduced-more (s .c) (s .i) (loop .k) m i' j n),
+    )
+
+returns : tie.Need-returns Inv-loop μ-loop
+returns c =
+    let end : c .before .loop .k ≡ c .before .before .before .before .args .p + 1 = omega arith in
+    whole _ _ (rw end at (c .before .loop .inv .2))
+
+pub reduce-row-spec : {M : Type 1} → statement M
+reduce-row-spec =
+    tie.close
+    (tie.spec Inv-loop μ-loop (λ c. omega arith) (λ c. omega arith) (λ c. omega arith) (λ c. omega arith) (λ c. omega arith) (λ c. omega arith) (λ c. omega arith) (λ c. omega arith) (λ c. omega arith) loop-holds (λ c. omega arith) (λ c. omega arith) (λ c. omega arith) (λ c. omega arith) (λ c. omega arith) (λ c. omega arith) (λ c. omega arith) (λ c. omega arith) (λ c. omega arith) (λ c. omega arith) (λ c. omega arith) (λ c. omega arith) (λ c. omega arith) (λ c. omega arith) loop-again returns)

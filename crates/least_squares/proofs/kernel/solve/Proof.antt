@@ -1,0 +1,56 @@
+use mathlib.Core.Path.{_≡_, refl, sym, ap, _∙_}
+use mathlib.Core.Bool.{true, false}
+use Prim.Native.Nat.{ℕ, suc, _+_, _*_, _-_, _≤_, _<_}
+use native.Mathlib.Omega.{arith}
+use lib.ListN.{length}
+use borrow.Author.Needs.{needs}
+use Rattle.least_squares.proofs.Laws.{stage-more, singular-is, fine-more, fine-not, length-flatten, never}
+use Rattle.least_squares.specs.Elimination.{fine, singular, stage, view}
+use Rattle.least_squares.proofs.kernel.solve.Statement.{statement}
+use Rattle.least_squares.proofs.kernel.solve.Tie as tie
+
+abbrev Inv-loop : tie.InvT-loop
+Inv-loop a₀ p c₀ a c =
+    (c ≤ p) × (fine p a₀ c ≡ true) × (a ≡ stage p a₀ c) × (length a ≡ 240)
+
+abbrev μ-loop : tie.MeasureT-loop
+μ-loop a₀ p c₀ a c = p - c
+
+loop-holds : tie.Need-loop-holds Inv-loop μ-loop
+unfolding fine stage
+loop-holds c = (omega arith, refl, refl, c .pre .1)
+
+returns : tie.Need-returns Inv-loop μ-loop
+returns c =
+    let s = c .before .before .before .before .before .before .before .args in
+    let loop = c .before .before .before .before .before .before .loop in
+    let q = c .before .before .before .pivot in (
+      sym (fine-not (s .p) (s .a .now) (loop .c) (s .p) (omega arith)
+          (sym (singular-is (s .p) (s .a .now) (loop .c) (loop .a) (q .result) (loop .inv .2) (q .ensures .0) _ (c .before .too-small .ensures)) ∙ c .if1 .taken)),
+      λ e. absurd (never e),
+    )
+
+eliminate-requires : tie.Need-eliminate-requires Inv-loop μ-loop
+eliminate-requires c κs = (omega arith, omega arith, ap length (c .before .swap-rows .ensures) ∙ length-flatten _)
+
+loop-again : tie.Need-loop-again Inv-loop μ-loop
+loop-again c =
+    let s = c .before .before .before .before .before .before .before .before .before .before .before .args in
+    let loop = c .before .before .before .before .before .before .before .before .before .before .loop in
+    let q = c .before .before .before .before .before .before .before .pivot in (
+      omega arith,
+      fine-more (s .p) (s .a .now) (loop .c) (loop .inv .1)
+          (sym (singular-is (s .p) (s .a .now) (loop .c) (loop .a) (q .result) (loop .inv .2) (q .ensures .0) _ (c .before .before .before .before .before .too-small .ensures)) ∙ c .before .before .before .before .if1 .left),
+      stage-more (s .p) (s .a .now) (loop .c) (loop .a) (q .result) (loop .inv .2) (q .ensures .0) _ _ (c .before .before .swap-rows .ensures) (c .eliminate .ensures),
+      ap length (c .eliminate .ensures) ∙ length-flatten _,
+    )
+
+returns-2 : tie.Need-returns-2 Inv-loop μ-loop
+returns-2 c =
+    let end : c .before .loop .c ≡ c .before .before .args .p = omega arith in
+    (sym (rw end at (c .before .loop .inv .1)), λ e. rw end at (c .before .loop .inv .2))
+
+pub solve-spec : {M : Type 1} → statement M
+solve-spec =
+    tie.close
+    (tie.spec Inv-loop μ-loop loop-holds (λ c κs. search needs) (λ c. omega arith) (λ c. omega arith) (λ c. omega arith) (λ c. omega arith) (λ c κs. search needs) returns (λ c κs. search needs) eliminate-requires (λ c. omega arith) (λ c. omega arith) loop-again returns-2)

@@ -1,0 +1,35 @@
+use native.Mathlib.Omega.{arith}
+use borrow.Author.Needs.{scaled-fits}
+use borrow.Author.Tests.{lt-ltb, le-ltb}
+use lib.ListN.{length}
+use mathlib.Core.Path.{subst, sym}
+use Rattle.least_squares.proofs.Laws.{row-in}
+use borrow.Author.Needs.{needs}
+use Rattle.least_squares.specs.LeastSquares.{valueAt}
+use Rattle.least_squares.proofs.kernel.value.Statement.{statement}
+use Rattle.least_squares.proofs.kernel.value.Tie as tie
+
+mul-result : tie.Need-mul-result
+mul-result c = omega (arith, row-in (c .before .args .r) (length (c .before .args .y .now)) (c .before .args .p) (c .before .args .j) (c .before .pre .0) (c .if1 .taken))
+
+add-result : tie.Need-add-result
+add-result c = omega (arith, row-in (c .before .args .r) (length (c .before .args .y .now)) (c .before .args .p) (c .before .args .j) (c .before .pre .0) (c .if1 .taken))
+
+mul-result-2 : tie.Need-mul-result-2
+mul-result-2 c = omega (arith, row-in (c .before .args .r) (length (c .before .args .y .now)) (c .before .args .p) (c .before .args .j) (c .before .pre .0) (c .if1 .taken))
+
+shared-slice-read-result : tie.Need-shared-slice-read-result
+shared-slice-read-result c = omega (arith, row-in (c .before .before .args .r) (length (c .before .before .args .y .now)) (c .before .before .args .p) (c .before .before .args .j) (c .before .before .pre .0) (c .before .if1 .taken))
+
+returns : tie.Need-returns
+unfolding valueAt
+returns c = simp (lt-ltb _ _ (c .before .if1 .taken))
+
+returns-2 : tie.Need-returns-2
+unfolding valueAt
+returns-2 c = simp (le-ltb _ _ (c .before .if1 .left))
+
+pub value-spec : {M : Type 1} → statement M
+value-spec =
+    tie.close
+    (tie.spec mul-result add-result mul-result-2 shared-slice-read-result (λ c. search needs) (λ c. search needs) returns returns-2)

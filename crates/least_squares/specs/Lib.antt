@@ -1,0 +1,4 @@
+pub mod Elimination
+pub mod LeastSquares
+pub mod Kernel
+pub mod Calls
