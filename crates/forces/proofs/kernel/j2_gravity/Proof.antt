@@ -1,0 +1,14 @@
+use Rattle.laws.specs.WholeNumbers.{number}
+use lib.Ieee.{ofBits, ofInt, round, neg}
+use Rattle.forces.specs.Forces.{j2Of}
+use mathlib.Core.Path.{_≡_, refl, sym, ap, _∙_}
+use borrow.Author.Needs.{needs}
+use Rattle.forces.proofs.kernel.j2_gravity.Statement.{statement}
+use Rattle.forces.proofs.kernel.j2_gravity.Tie as tie
+
+returns : tie.Need-returns
+unfolding j2Of ofBits number ofInt round
+returns c = simp (c .before .before .before .before .root .ensures, c .before .before .before .before .before .dot .ensures)
+
+pub j2-gravity-spec : {M : Type 1} → statement M
+j2-gravity-spec = tie.close (tie.spec (λ c κs. search needs) (λ c κs. search needs) returns)

@@ -1,0 +1,14 @@
+use Rattle.laws.specs.WholeNumbers.{number}
+use lib.Ieee.{ofBits, ofInt, round, neg}
+use mathlib.Core.Path.{_≡_, refl, sym, ap, _∙_}
+use Rattle.sky.specs.Sky.{distance, distanceTerms}
+use borrow.Author.Needs.{needs}
+use Rattle.sky.proofs.kernel.distance.Statement.{statement}
+use Rattle.sky.proofs.kernel.distance.Tie as tie
+
+returns : tie.Need-returns
+unfolding distance distanceTerms ofBits number ofInt neg
+returns c = rw (c .cosine-terms .ensures)
+
+pub distance-spec : {M : Type 1} → statement M
+distance-spec = tie.close (tie.spec (λ c. search needs) (λ c κs. search needs) returns)

@@ -1,0 +1,13 @@
+use Rattle.laws.specs.WholeNumbers.{number}
+use lib.Ieee.{ofBits, ofInt, round, neg}
+use mathlib.Core.Path.{_≡_, refl, sym, ap, _∙_}
+use Rattle.sky.specs.Sky.{sidereal}
+use Rattle.sky.proofs.kernel.sidereal.Statement.{statement}
+use Rattle.sky.proofs.kernel.sidereal.Tie as tie
+
+returns : tie.Need-returns
+unfolding sidereal ofBits number ofInt round
+returns c = refl
+
+pub sidereal-spec : {M : Type 1} → statement M
+sidereal-spec = tie.close (tie.spec returns)

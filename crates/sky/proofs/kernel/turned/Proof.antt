@@ -1,0 +1,11 @@
+use mathlib.Core.Path.{_≡_, refl, sym, ap, _∙_}
+use Rattle.sky.specs.Sky.{turned}
+use Rattle.sky.proofs.kernel.turned.Statement.{statement}
+use Rattle.sky.proofs.kernel.turned.Tie as tie
+
+returns : tie.Need-returns
+unfolding turned
+returns c = refl
+
+pub turned-spec : {M : Type 1} → statement M
+turned-spec = tie.close (tie.spec returns)

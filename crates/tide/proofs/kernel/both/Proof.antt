@@ -1,0 +1,15 @@
+use Rattle.tide.specs.Legendre.{tri}
+use Rattle.tide.specs.Tide.{bothRaise}
+use mathlib.Core.Path.{_≡_, refl, sym, ap, _∙_}
+use borrow.Author.Needs.{needs}
+use Rattle.tide.proofs.kernel.both.Statement.{statement}
+use Rattle.tide.proofs.kernel.both.Tie as tie
+
+returns : tie.Need-returns
+unfolding bothRaise tri
+returns c = refl
+
+pub both-spec : {M : Type 1} → statement M
+both-spec =
+    tie.close
+    (tie.spec (λ c. search needs) (λ c. search needs) (λ c. search needs) (λ c. search needs) (λ c. search needs) (λ c. search needs) (λ c. search needs) (λ c. search needs) (λ c. search needs) (λ c. search needs) (λ c. search needs) (λ c. search needs) (λ c. search needs) (λ c. search needs) (λ c. search needs) (λ c. search needs) (λ c. search needs) (λ c. search needs) (λ c. search needs) (λ c. search needs) (λ c. search needs) (λ c. search needs) (λ c. search needs) (λ c. search needs) (λ c. search needs) (λ c. search needs) (λ c. search needs) (λ c. search needs) returns)

@@ -1,0 +1,22 @@
+use Rattle.laws.specs.WholeNumbers.{number}
+use lib.Ieee.{ofBits, ofInt, round, neg}
+use Rattle.tide.specs.Tide.{solidTide}
+use mathlib.Core.Path.{_≡_, refl, sym, ap, _∙_}
+use borrow.Author.Needs.{needs}
+use Rattle.tide.proofs.kernel.solid_tide.Statement.{statement}
+use Rattle.tide.proofs.kernel.solid_tide.Tie as tie
+
+returns : tie.Need-returns
+unfolding solidTide ofBits number ofInt
+returns c =
+    simp (
+      c .both2 .ensures,
+      c .before .both .ensures,
+      c .before .before .before .before .before .before .before .before .raised-by2 .ensures,
+      c .before .before .before .before .before .before .before .before .before .raised-by .ensures,
+    )
+
+pub solid-tide-spec : {M : Type 1} → statement M
+solid-tide-spec =
+    tie.close
+    (tie.spec (λ c κs. search needs) (λ c κs. search needs) (λ c κs. search needs) (λ c κs. search needs) returns)
