@@ -9,7 +9,8 @@ use Rattle.numbers.specs.Numbers.{sine, cosine, sineCosine}
 use Rattle.numbers.specs.declared.SineCosine.{SineCosine}
 use Rattle.vectors.specs.declared.Vector.{Vector}
 use Rattle.numbers.specs.Constants.{earthGM, earthRadius}
-use Rattle.tide.specs.Legendre.{pnm, der, tri, triangle}
+use Rattle.laws.specs.Tables.{tri, rows}
+use Rattle.tide.specs.Legendre.{pnm, der}
 use Rattle.tide.specs.Tide.{placeOf, ordersOf}
 use Rattle.tide.specs.declared.SolidTide.{SolidTide}
 use Rattle.tide.specs.declared.degree3.Tables.{Tables}
@@ -20,7 +21,7 @@ use Rattle.tide.specs.declared.degree3.Totals.{Totals}
 abbrev pub entry : List Float → ℕ → ℕ → Float
 entry table n m = getD table (tri n + m) nan
 
--- one64 order more: P̄ (C cos mλ + S sin mλ), its latitude derivative, and P̄ m (S cos mλ − C sin mλ)
+-- one order more: P̄ (C cos mλ + S sin mλ), its latitude derivative, and P̄ m (S cos mλ − C sin mλ)
 unfoldable pub addOrder : Tables → ℕ → ℕ → Sums → Sums
 addOrder f n m s =
     let x = getD (f .cos) m nan in
@@ -37,7 +38,7 @@ unfoldable pub orderSums : Tables → ℕ → ℕ → Sums
 orderSums f n zero = record { v = zero64; lat = zero64; lon = zero64 }
 orderSums f n (suc m) = addOrder f n m (orderSums f n m)
 
--- one64 degree more, with its factor (R/r)^n
+-- one degree more, with its factor (R/r)^n
 unfoldable pub addDegree : Tables → Float → ℕ → Totals → Totals
 addDegree f q n t =
     let s = orderSums f n (n + 1) in
@@ -55,8 +56,8 @@ degreeSums f q (suc n) = addDegree f q n (degreeSums f q n)
 
 unfoldable pub tablesOf : SolidTide → SineCosine → Float → Tables
 tablesOf field lat lon =
-    let p = triangle (pnm (lat .sine) (lat .cosine)) in
-    record { c = field .c; s = field .s; p = p; dp = triangle (der p); cos = ordersOf lon .cos; sin = ordersOf lon .sin }
+    let p = rows (pnm (lat .sine) (lat .cosine)) 4 in
+    record { c = field .c; s = field .s; p = p; dp = rows (der p) 4; cos = ordersOf lon .cos; sin = ordersOf lon .sin }
 
 -- north, east and up at a latitude and longitude, to Earth-fixed axes
 unfoldable pub fromLocal : SineCosine → SineCosine → Float → Float → Float → Vector

@@ -1,12 +1,13 @@
 -- Fully normalized associated Legendre functions and their latitude derivatives, by degree n and order m: the modified forward
 -- column recursion of Holmes and Featherstone (2002). Assumes nothing: definitions only.
-use Prim.Native.Nat.{ℕ, zero, suc, _+_, _*_, _-_, _/_}
+use Prim.Native.Nat.{ℕ, zero, suc, _+_, _*_, _-_}
 use mathlib.Core.Bool.{cond}
-use mathlib.Core.List.{List, [], _∷_}
+use mathlib.Core.List.{List}
 use lib.Dec.{eqb, leb, ltb}
 use lib.ListN.{getD}
 use lib.Ieee.{Float, nan, binary64, neg}
 use Rattle.root.specs.Root.{sqrt}
+use Rattle.laws.specs.Tables.{tri}
 use Rattle.laws.specs.Floats.{_⊕_, _⊖_, _⊗_, _⊘_, zero64, one64}
 use Rattle.laws.specs.WholeNumbers.{number}
 use Rattle.numbers.specs.Constants.{decimal}
@@ -51,14 +52,6 @@ col t m (suc (suc d)) = aOf (m + suc (suc d)) m ⊗ t ⊗ col t m (suc d) ⊖ bO
 unfoldable pub pnm : Float → Float → ℕ → ℕ → Float
 pnm t u n m = col t m (n - m) ⊗ back u m
 
--- ---- tables of degree 3, (n, m) at n (n + 1) / 2 + m
-
-unfoldable pub tri : ℕ → ℕ
-tri n = n * (n + 1) / 2
-
-abbrev pub triangle : (ℕ → ℕ → Float) → List Float
-triangle f = f 0 0 ∷ f 1 0 ∷ f 1 1 ∷ f 2 0 ∷ f 2 1 ∷ f 2 2 ∷ f 3 0 ∷ f 3 1 ∷ f 3 2 ∷ f 3 3 ∷ []
-
 -- ---- ∂P̄nm/∂φ = −½ (k_m √((n+m)(n−m+1)) P̄n,m−1 − √((n−m)(n+m+1)) P̄n,m+1), and √(n(n+1)/2) P̄n1 at m = 0
 
 -- k_m is √2 at m = 1, else 1
@@ -69,6 +62,7 @@ unfoldable pub upper : ℕ → ℕ → Float
 upper n m =
     cond (eqb m 0) (sqrt binary64 (number n ⊗ (number n ⊕ one64) ⊘ number 2)) (sqrt binary64 ((number n ⊖ number m) ⊗ (number n ⊕ number m ⊕ one64)))
 
+-- from a table of P̄
 unfoldable pub der : List Float → ℕ → ℕ → Float
 der p zero m = zero64
 der p (suc n) zero = upper (suc n) 0 ⊗ getD p (tri (suc n) + 1) nan

@@ -11,10 +11,11 @@ use Rattle.numbers.specs.Numbers.{sine, cosine, arcsine, arctangent, power}
 use Rattle.vectors.specs.Vector.{norm}
 use Rattle.vectors.specs.declared.Vector.{Vector}
 use Rattle.numbers.specs.Constants.{decimal, earthGM, earthRadius, sunGM, moonGM}
-use Rattle.tide.specs.Legendre.{pnm, tri, triangle}
-use Rattle.tide.specs.declared.Place.{Place}
-use Rattle.tide.specs.declared.Orders.{Orders}
-use Rattle.tide.specs.declared.Raised.{Raised}
+use Rattle.laws.specs.Tables.{tri, rows}
+use Rattle.tide.specs.Legendre.{pnm}
+use Rattle.tide.specs.declared.kernel.Place.{Place}
+use Rattle.tide.specs.declared.kernel.Orders.{Orders}
+use Rattle.tide.specs.declared.kernel.Raised.{Raised}
 use Rattle.tide.specs.declared.SolidTide.{SolidTide}
 
 -- distance, geocentric latitude and longitude of a position
@@ -50,12 +51,12 @@ fromTwo f n m = cond (ltb n 2) zero64 (f n m)
 unfoldable pub raisedBy : Vector → Float → Raised
 raisedBy body gm =
     let at = placeOf body in
-    record { weight = triangle (fromTwo (weight gm at)); cos = ordersOf (at .lon) .cos; sin = ordersOf (at .lon) .sin }
+    record { weight = rows (fromTwo (weight gm at)) 4; cos = ordersOf (at .lon) .cos; sin = ordersOf (at .lon) .sin }
 
 -- the coefficients, from weights and cosines or sines of the Sun and of the Moon
 unfoldable pub bothRaise : List Float → List Float → List Float → List Float → List Float
 bothRaise s x m y =
-    triangle (fromTwo (λ n k. zero64 ⊕ getD s (tri n + k) nan ⊗ getD x k nan ⊕ getD m (tri n + k) nan ⊗ getD y k nan))
+    rows (fromTwo (λ n k. zero64 ⊕ getD s (tri n + k) nan ⊗ getD x k nan ⊕ getD m (tri n + k) nan ⊗ getD y k nan)) 4
 
 unfoldable pub solidTide : Vector → Vector → SolidTide
 solidTide sun moon =

@@ -2,7 +2,7 @@
 ghost use mathlib.Core.Path.{_≡_};
 ghost use Prim.Native.Nat.{_+_, _≤_, _<_};
 ghost use Rattle.laws.specs.WholeNumbers.{number};
-ghost use Rattle.tide.specs.Legendre.{tri};
+ghost use Rattle.laws.specs.Tables.{tri};
 ghost use Rattle.tide.specs.Gravity.{addOrder, orderSums, addDegree, degreeSums, tablesOf, fromLocal, tideGravity};
 use numbers;
 use vectors;
@@ -124,9 +124,9 @@ fn tables_of(field: crate::SolidTide, lat: numbers::SineCosine, lon: f64) -> Tab
 {
     let c = field.c;
     let s = field.s;
-    let p = crate::legendre(lat.sine, lat.cosine);
-    let dp = crate::derived(p);
-    let o = crate::orders_of(lon);
+    let p = crate::kernel::legendre(lat.sine, lat.cosine);
+    let dp = crate::kernel::derived(p);
+    let o = crate::kernel::orders_of(lon);
     let cos = o.cos;
     let sin = o.sin;
     Tables {
@@ -159,7 +159,7 @@ fn from_local(
 pub fn gravity(field: crate::SolidTide, x: vectors::Vector) -> vectors::Vector
     ensures { λ r. ⌜ r ≡ tideGravity field x ⌝ }
 {
-    let at = crate::place_of(x);
+    let at = crate::kernel::place_of(x);
     let lat = numbers::sine_cosine(at.lat);
     let lon = numbers::sine_cosine(at.lon);
     let t = degree_sums(tables_of(field, lat, at.lon), R_E / at.r);

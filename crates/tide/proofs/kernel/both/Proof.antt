@@ -1,4 +1,4 @@
-use Rattle.tide.specs.Legendre.{tri}
+use Rattle.laws.specs.Tables.{tri, row, rows}
 use Rattle.tide.specs.Tide.{bothRaise}
 use mathlib.Core.Path.{_≡_, refl, sym, ap, _∙_}
 use borrow.Author.Needs.{needs}
@@ -6,7 +6,7 @@ use Rattle.tide.proofs.kernel.both.Statement.{statement}
 use Rattle.tide.proofs.kernel.both.Tie as tie
 
 returns : tie.Need-returns
-unfolding bothRaise tri
+unfolding rows row bothRaise tri
 returns c = refl
 
 pub both-spec : {M : Type 1} → statement M

@@ -1,7 +1,7 @@
 use Rattle.laws.specs.WholeNumbers.{number}
 use Rattle.numbers.specs.Numbers.{sineCosine}
 use lib.Ieee.{ofBits, ofInt, round, neg}
-use Rattle.tide.specs.Legendre.{tri}
+use Rattle.laws.specs.Tables.{tri, row, rows}
 use Rattle.tide.specs.Tide.{raisedBy, weight, ratio, loveNumbers}
 use mathlib.Core.Path.{_≡_, refl, sym, ap, _∙_}
 use borrow.Author.Needs.{needs}
@@ -9,7 +9,7 @@ use Rattle.tide.proofs.kernel.raised_by.Statement.{statement}
 use Rattle.tide.proofs.kernel.raised_by.Tie as tie
 
 returns : tie.Need-returns
-unfolding raisedBy weight ratio loveNumbers tri sineCosine ofBits number ofInt round
+unfolding rows row raisedBy weight ratio loveNumbers tri sineCosine ofBits number ofInt round
 returns c =
     simp (
       c .before .before .power2 .ensures,
