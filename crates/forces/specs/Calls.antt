@@ -1,12 +1,13 @@
 -- What the public calls answer. Assumes nothing: definitions only.
 use Prim.Native.Nat.{ℕ}
-use mathlib.Core.Bool.{Bool, true, false, cond, _&&_}
-use mathlib.Core.List.{List, [], _∷_}
+use mathlib.Core.Bool.{Bool, cond, _&&_}
+use mathlib.Core.List.{List}
 use lib.ListN.{replicate}
-use lib.Ieee.{Float, le}
+use lib.Ieee.{Float}
 use lib.Ieee.Scale.{finite}
 use Rattle.laws.specs.Floats.{zero64}
-use Rattle.laws.specs.WholeNumbers.{number}
+use Rattle.laws.specs.Checks.{all, isTime}
+use Rattle.slices.specs.declared.Outcome.the-variants.{Accepted, Refused}
 use Rattle.vectors.specs.declared.Vector.{Vector}
 use Rattle.sky.specs.Sky.{sunMoon}
 use Rattle.tide.specs.Tide.{solidTide}
@@ -19,16 +20,8 @@ use Rattle.forces.specs.declared.Answer.the-variants as of-force
 use Rattle.forces.specs.declared.Places.{Places}
 use Rattle.forces.specs.declared.Places.the-variants as of-sky
 
--- a time from 0 to 2 ^ 31
-unfoldable pub inTime : Float → Bool
-inTime t = le zero64 t && le t (number 2147483648)
-
 unfoldable pub finiteVector : Vector → Bool
 finiteVector v = finite (v .x) && (finite (v .y) && finite (v .z))
-
-unfoldable pub allFinite : List Float → Bool
-allFinite [] = true
-allFinite (x ∷ xs) = finite x && allFinite xs
 
 -- ---- refusals 4 and 10: by whether the arguments are fine, and whether the value is finite
 
@@ -41,16 +34,16 @@ places fine value =
 
 -- refused: the number, and +0.0 in each place
 unfoldable pub refusedTide : ℕ → TideAnswer
-refusedTide number = record { refused = number; tide = record { c = replicate 10 zero64; s = replicate 10 zero64 } }
+refusedTide number = record { outcome = Refused number; tide = record { c = replicate 10 zero64; s = replicate 10 zero64 } }
 
 unfoldable pub tideAnswer : Bool → SolidTide → TideAnswer
 tideAnswer fine value =
-    cond fine (cond (allFinite (value .c) && allFinite (value .s)) (record { refused = 0; tide = value }) (refusedTide 10)) (refusedTide 4)
+    cond fine (cond (all finite (value .c) && all finite (value .s)) (record { outcome = Accepted; tide = value }) (refusedTide 10)) (refusedTide 4)
 
 -- ---- the calls
 
 unfoldable pub sunMoonCall : Float → Places
-sunMoonCall t = places (inTime t) (sunMoon t)
+sunMoonCall t = places (isTime t) (sunMoon t)
 
 unfoldable pub thirdBodyCall : Vector → Vector → Float → Answer
 thirdBodyCall x body gm = answer (finiteVector x && (finiteVector body && finite gm)) (thirdBody x body gm)
@@ -59,13 +52,13 @@ unfoldable pub solidTideCall : Vector → Vector → TideAnswer
 solidTideCall sun moon = tideAnswer (finiteVector sun && finiteVector moon) (solidTide sun moon)
 
 unfoldable pub tidesCall : Float → Vector → Answer
-tidesCall t x = answer (inTime t && finiteVector x) (tidesOf t x)
+tidesCall t x = answer (isTime t && finiteVector x) (tidesOf t x)
 
 unfoldable pub fictitiousCall : Vector → Vector → Answer
 fictitiousCall x v = answer (finiteVector x && finiteVector v) (fictitiousOf x v)
 
 unfoldable pub empiricalCall : Vector → Vector → Float → List Float → Answer
-empiricalCall x v u e = answer ((finiteVector x && finiteVector v) && (finite u && allFinite e)) (empiricalOf x v u e)
+empiricalCall x v u e = answer ((finiteVector x && finiteVector v) && (finite u && all finite e)) (empiricalOf x v u e)
 
 unfoldable pub j2Call : Vector → Answer
 j2Call x = answer (finiteVector x) (j2Of x)

@@ -13,7 +13,7 @@ use Rattle.numbers.specs.Constants.{decimal, earthGM, earthRadius, sunGM, moonG
 use Rattle.sky.specs.Sky.{sunMoon}
 use Rattle.tide.specs.Tide.{solidTide}
 use Rattle.tide.specs.Gravity.{tideGravity}
-use Rattle.forces.specs.declared.kernel.Bodies.{Bodies}
+use Rattle.forces.specs.declared.kernel.Moment.{Moment}
 use Rattle.forces.specs.declared.kernel.Axes.{Axes}
 
 -- a body's pull on a satellite at x, less its pull on the Earth
@@ -23,17 +23,18 @@ thirdBody x body gm =
     minus (times d (gm ⊘ power (norm d) 3 one64)) (times body (gm ⊘ power (norm body) 3 one64))
 
 -- what the tides take from the time alone
-unfoldable pub bodiesAt : Float → Bodies
-bodiesAt t =
-    let b = sunMoon t in
-    record { sun = b .sun; moon = b .moon; tide = solidTide (b .sun) (b .moon) }
-
-unfoldable pub pullOf : Bodies → Vector → Vector
-pullOf b x = plus (tideGravity (b .tide) x) (plus (thirdBody x (b .sun) sunGM) (thirdBody x (b .moon) moonGM))
+unfoldable pub momentOf : Float → Moment
+momentOf t =
+    let bodies = sunMoon t in
+    record { sun = bodies .sun; moon = bodies .moon; tide = solidTide (bodies .sun) (bodies .moon) }
 
 -- solid tide, Sun and Moon
+unfoldable pub tidesAt : Moment → Vector → Vector
+tidesAt moment x =
+    plus (tideGravity (moment .tide) x) (plus (thirdBody x (moment .sun) sunGM) (thirdBody x (moment .moon) moonGM))
+
 unfoldable pub tidesOf : Float → Vector → Vector
-tidesOf t x = pullOf (bodiesAt t) x
+tidesOf t x = tidesAt (momentOf t) x
 
 -- −2ω×v − ω×(ω×x), with ω along z
 unfoldable pub fictitiousOf : Vector → Vector → Vector

@@ -1,13 +1,13 @@
 use Rattle.laws.specs.WholeNumbers.{number}
 use lib.Ieee.{ofBits, ofInt, round, neg}
-use Rattle.forces.specs.Forces.{pullOf}
+use Rattle.forces.specs.Forces.{tidesAt}
 use mathlib.Core.Path.{_≡_, refl, sym, ap, _∙_}
 use borrow.Author.Needs.{needs}
-use Rattle.forces.proofs.kernel.pull.Statement.{statement}
-use Rattle.forces.proofs.kernel.pull.Tie as tie
+use Rattle.forces.proofs.kernel.tides_at.Statement.{statement}
+use Rattle.forces.proofs.kernel.tides_at.Tie as tie
 
 returns : tie.Need-returns
-unfolding pullOf ofBits number ofInt
+unfolding tidesAt ofBits number ofInt
 returns c =
     simp (
       c .add2 .ensures,
@@ -17,7 +17,7 @@ returns c =
       c .before .before .before .before .gravity .ensures,
     )
 
-pub pull-spec : {M : Type 1} → statement M
-pull-spec =
+pub tides-at-spec : {M : Type 1} → statement M
+tides-at-spec =
     tie.close
     (tie.spec (λ c κs. search needs) (λ c κs. search needs) (λ c κs. search needs) (λ c κs. search needs) (λ c κs. search needs) returns)
