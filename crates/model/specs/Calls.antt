@@ -1,0 +1,131 @@
+-- What the calls of this crate answer and leave behind. Assumes nothing.
+use Prim.Native.Nat.{ℕ, zero, suc, _+_, _*_, _/_, _≤_}
+use mathlib.Core.Bool.{Bool, true, false, cond, _&&_}
+use mathlib.Core.Path.{_≡_}
+use mathlib.Core.List.{List, [], _∷_, _++_}
+use lib.Dec.{T, leb, eqb}
+use lib.ListN.{length, drop}
+use lib.Ieee.{Float, le}
+use lib.Ieee.Scale.{finite}
+use Rattle.laws.specs.Floats.{zero64, one64}
+use Rattle.laws.specs.Checks.{all, isTime, rising}
+use Rattle.laws.specs.Tables.{tri}
+use Rattle.finality.specs.Brackets.{covers}
+use Rattle.slices.specs.Calls.{firstFailed, Left, handed, settled}
+use Rattle.slices.specs.declared.Outcome.{Outcome}
+use Rattle.slices.specs.declared.Outcome.the-variants.{Accepted, Refused}
+use Rattle.model.specs.Field.{cosines, sines, size}
+use Rattle.model.specs.Model.{bracket, weight, kindAt, fieldAt}
+use Rattle.model.specs.declared.Cover.{Cover}
+use Rattle.model.specs.declared.Cover.the-variants.{Covered, Uncovered, Refused as NotTold}
+
+-- ---- the kernel `weight`: at every covered t the weight of its bracket lies between 0 and 1, both included
+
+pub record Weighed (times : List Float) (t : Float) (j : ℕ) (r : Float) : Type 0 where
+  pub is : r ≡ weight times t j
+  pub within : T (rising times) → T (all isTime times) → T (covers times t) → j ≡ bracket times t → T (le zero64 r) × T (le r one64)
+
+-- ---- the kernel `at`
+
+-- the lengths are those of degree N, there are two times or more and a field for each, and `out` has room
+unfoldable pub atFits : ℕ → ℕ → ℕ → ℕ → ℕ → Bool
+atFits N field times added out =
+    leb N 180 && eqb field (size N) && leb 2 times && leb times (added / size N) && leb (2 * tri (N + 1)) out
+
+-- the guard's answer, and what holds where it is true
+pub record AtRoom (N field times added out : ℕ) (r : Bool) : Type 0 where
+  pub says : r ≡ atFits N field times added out
+  pub degree : r ≡ true → N ≤ 180
+  pub static : r ≡ true → field ≡ size N
+  pub count : r ≡ true → 2 ≤ times
+  pub fields : r ≡ true → times * size N ≤ added
+  pub room : r ≡ true → 2 * tri (N + 1) ≤ out
+
+-- what is left in `out`: the field at t, and what stood behind it; all as it was where the lengths do not fit
+unfoldable pub atLeft : ℕ → List Float → List Float → List Float → Float → List Float → List Float
+atLeft N field times added t out =
+    cond (atFits N (length field) (length times) (length added) (length out)) (fieldAt N field times added t ++ drop (2 * tri (N + 1)) out) out
+
+-- ---- refusals 1 to 5
+
+unfoldable pub degreeFine : ℕ → Bool
+degreeFine N = leb 2 N && leb N 180
+
+unfoldable pub countFine : ℕ → Bool
+countFine n = leb 2 n && leb n 32
+
+-- a test's answer, and what holds where it is true
+pub record DegreeTold (N : ℕ) (r : Bool) : Type 0 where
+  pub says : r ≡ degreeFine N
+  pub high : r ≡ true → N ≤ 180
+
+pub record CountTold (n : ℕ) (r : Bool) : Type 0 where
+  pub says : r ≡ countFine n
+  pub high : r ≡ true → n ≤ 32
+
+unfoldable pub timesFine : List Float → Float → Bool
+timesFine times t = all isTime times && isTime t
+
+unfoldable pub coverRefusal : List Float → Float → ℕ
+coverRefusal times t = firstFailed ((countFine (length times), 2) ∷ (timesFine times t, 4) ∷ (rising times, 5) ∷ [])
+
+-- lengths: the field, the outputs, and at least so much scratch
+unfoldable pub shapeFine : ℕ → ℕ → ℕ → ℕ → ℕ → ℕ → Bool
+shapeFine N field c s scratch least = eqb field (size N) && eqb c (tri (N + 1)) && eqb s (tri (N + 1)) && leb least scratch
+
+abbrev pub modelScratch : ℕ → ℕ → ℕ
+modelScratch N fields = 2 * (fields * tri (N + 1)) + 8 * tri (N + 1) + 150000
+
+-- the added fields are as many as their times
+unfoldable pub addedFine : ℕ → ℕ → ℕ → Bool
+addedFine N fields added = eqb added (fields * size N)
+
+unfoldable pub valuesFine : List Float → List Float → Bool
+valuesFine field added = all finite field && all finite added
+
+unfoldable pub atRefusal : ℕ → List Float → List Float → List Float → Float → ℕ → ℕ → ℕ → ℕ
+atRefusal N field times added t c s scratch =
+    firstFailed (
+    (degreeFine N, 1)
+    ∷ (countFine (length times), 2)
+    ∷ (shapeFine N (length field) c s scratch (modelScratch N (length times)), 3)
+    ∷ (addedFine N (length times) (length added), 3)
+    ∷ (valuesFine field added, 4)
+    ∷ (timesFine times t, 4)
+    ∷ (rising times, 5)
+    ∷ []
+    )
+
+-- ---- the calls
+
+-- 6 at an uncovered time
+abbrev pub uncovered : List Float → Float → ℕ
+uncovered times t = cond (covers times t) 0 6
+
+-- two lists to be handed out
+abbrev pub handedTwo : List Float → List Float → Left Outcome
+handedTwo c s = handed Accepted Refused (all (all finite) (c ∷ s ∷ [])) (c ∷ s ∷ []) (c ∷ s ∷ []) []
+
+-- what `at` does once nothing is refused by 1 to 5, scratch apart
+abbrev pub atWork : ℕ → List Float → List Float → List Float → Float → List Float → List Float → Left Outcome
+atWork N field times added t c s =
+    settled Accepted Refused 0 (uncovered times t)
+    (kindAt N cosines field times added t ∷ kindAt N (sines N) field times added t ∷ []) (c ∷ s ∷ []) []
+
+-- `at`, with the two outputs c and s
+abbrev pub atCall : ℕ → List Float → List Float → List Float → Float → List Float → List Float → List Float → Left Outcome
+atCall N field times added t c s scratch =
+    settled Accepted Refused (atRefusal N field times added t (length c) (length s) (length scratch)) (uncovered times t)
+    (kindAt N cosines field times added t ∷ kindAt N (sines N) field times added t ∷ []) (c ∷ s ∷ []) scratch
+
+-- `covers`
+abbrev pub told : Bool → Cover
+told true = Covered
+told false = Uncovered
+
+abbrev pub coverAnswer : ℕ → Bool → Cover
+coverAnswer zero b = told b
+coverAnswer (suc n) b = NotTold (suc n)
+
+abbrev pub coverCall : List Float → Float → Cover
+coverCall times t = coverAnswer (coverRefusal times t) (covers times t)

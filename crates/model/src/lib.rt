@@ -1,0 +1,263 @@
+// The time-variable gravity model (module 3 of document 01): the static field with each added field, blended linearly in time.
+pub mod kernel;
+
+ghost use mathlib.Core.Path.{_≡_};
+ghost use mathlib.Core.List.{[], _∷_};
+ghost use Prim.Native.Nat.{ℕ, _+_, _*_, _-_, _≤_, _<_};
+ghost use lib.ListN.{length};
+ghost use Rattle.laws.specs.Tables.{tri};
+ghost use Rattle.slices.specs.Calls.{left};
+ghost use Rattle.model.specs.Field.{sines as sinesFrom, size};
+ghost use Rattle.model.specs.Model.{kindAt};
+ghost use Rattle.model.specs.Calls.{DegreeTold, CountTold, timesFine, coverRefusal, coverCall, shapeFine, modelScratch, addedFine, valuesFine, atRefusal, handedTwo, atWork, atCall};
+use numbers;
+use slices;
+
+pub enum Cover {
+    Covered,
+    Uncovered,
+    Refused(u8),
+}
+
+// ---- what is refused
+
+fn degree_fine(degree: usize) -> bool
+    ensures { λ r. ⌜ DegreeTold degree r ⌝ }
+{
+    if 2 <= degree { degree <= 180 } else { false }
+}
+
+fn count_fine(fields: usize) -> bool
+    ensures { λ r. ⌜ CountTold fields r ⌝ }
+{
+    if 2 <= fields { fields <= 32 } else { false }
+}
+
+fn times_fine(times: &[f64], t: f64) -> bool
+    ensures { λ r. ⌜ r ≡ timesFine (now (times .entry)) t ⌝ }
+{
+    if slices::all_times(times) {
+        slices::is_time(t)
+    } else {
+        false
+    }
+}
+
+fn values_fine(field: &[f64], added: &[f64]) -> bool
+    ensures { λ r. ⌜ r ≡ valuesFine (now (field .entry)) (now (added .entry)) ⌝ }
+{
+    if slices::all_finite(field) {
+        slices::all_finite(added)
+    } else {
+        false
+    }
+}
+
+fn shape_fine(
+    degree: usize,
+    field: usize,
+    cosines: usize,
+    sines: usize,
+    scratch: usize,
+    least: usize,
+) -> bool
+    requires { ⌜ degree ≤ 180 ⌝ }
+    ensures { λ r. ⌜ r ≡ shapeFine degree field cosines sines scratch least ⌝ }
+{
+    let l = kernel::places(degree);
+    if field != 2 + 2 * l {
+        return false;
+    }
+    if cosines != l {
+        return false;
+    }
+    if sines != l {
+        return false;
+    }
+    least <= scratch
+}
+
+fn model_scratch(degree: usize, fields: usize) -> usize
+    requires { ⌜ (degree ≤ 180) × (fields ≤ 32) ⌝ }
+    ensures { λ r. ⌜ r ≡ modelScratch degree fields ⌝ }
+{
+    let l = kernel::places(degree);
+    2 * (fields * l) + 8 * l + 150000
+}
+
+fn added_fine(degree: usize, fields: usize, added: usize) -> bool
+    requires { ⌜ (degree ≤ 180) × (fields ≤ 32) ⌝ }
+    ensures { λ r. ⌜ r ≡ addedFine degree fields added ⌝ }
+{
+    let l = kernel::places(degree);
+    added == fields * (2 + 2 * l)
+}
+
+fn cover_refusal(times: &[f64], t: f64) -> u8
+    ensures { λ r. ⌜ r ≡ coverRefusal (now (times .entry)) t ⌝ }
+{
+    if !count_fine(times.len()) {
+        return 2;
+    }
+    if !times_fine(times, t) {
+        return 4;
+    }
+    if !slices::rising(times) {
+        return 5;
+    }
+    0
+}
+
+fn at_refusal(
+    degree: usize,
+    field: &[f64],
+    times: &[f64],
+    added: &[f64],
+    t: f64,
+    cosines: usize,
+    sines: usize,
+    scratch: usize,
+) -> u8
+    ensures { λ r. ⌜ r ≡ atRefusal degree (now (field .entry)) (now (times .entry)) (now (added .entry)) t cosines sines scratch ⌝ }
+{
+    if !degree_fine(degree) {
+        return 1;
+    }
+    let fields = times.len();
+    if !count_fine(fields) {
+        return 2;
+    }
+    let least = model_scratch(degree, fields);
+    if !shape_fine(degree, field.len(), cosines, sines, scratch, least) {
+        return 3;
+    }
+    if !added_fine(degree, fields, added.len()) {
+        return 3;
+    }
+    if !values_fine(field, added) {
+        return 4;
+    }
+    if !times_fine(times, t) {
+        return 4;
+    }
+    if !slices::rising(times) {
+        return 5;
+    }
+    0
+}
+
+// ---- the work
+
+// The coefficients at t of one kind, which begins at `start` in each field.
+fn kind_at(
+    degree: usize,
+    start: usize,
+    field: &[f64],
+    times: &[f64],
+    added: &[f64],
+    t: f64,
+    out: &mut [f64],
+)
+    requires { ⌜ (degree ≤ 180) × (2 ≤ start) × (start ≤ sinesFrom degree) × (length (now field) ≡ size degree) × (2 ≤ length (now times)) × (length (now added) ≡ length (now times) * size degree) × (length (now out) ≡ tri (degree + 1)) ⌝ }
+    ensures { λ _. ⌜ now (out .exit) ≡ kindAt degree start (now (field .entry)) (now (times .entry)) (now (added .entry)) t ⌝ }
+{
+    let j = kernel::bracket(times, t);
+    let w = kernel::weight(times, t, j);
+    kernel::blend_kind(degree, start, field, added, w, j, out);
+}
+
+// Handed out where finite, else refused 10 and cleared.
+fn hand_out(cosines: &mut [f64], sines: &mut [f64]) -> slices::Outcome
+    ensures { λ r. ⌜ left r (now (cosines .exit) ∷ now (sines .exit) ∷ []) [] ≡ handedTwo (now (cosines .entry)) (now (sines .entry)) ⌝ }
+{
+    if values_fine(&cosines[..], &sines[..]) {
+        return slices::Outcome::Accepted;
+    }
+    slices::clear(cosines);
+    slices::clear(sines);
+    slices::Outcome::Refused(10)
+}
+
+fn both_at(
+    degree: usize,
+    field: &[f64],
+    times: &[f64],
+    added: &[f64],
+    t: f64,
+    cosines: &mut [f64],
+    sines: &mut [f64],
+) -> slices::Outcome
+    requires { ⌜ (degree ≤ 180) × (length (now field) ≡ size degree) × (2 ≤ length (now times)) × (length (now added) ≡ length (now times) * size degree) × (length (now cosines) ≡ tri (degree + 1)) × (length (now sines) ≡ tri (degree + 1)) ⌝ }
+    ensures { λ r. ⌜ left r (now (cosines .exit) ∷ now (sines .exit) ∷ []) [] ≡ handedTwo (kindAt degree 2 (now (field .entry)) (now (times .entry)) (now (added .entry)) t) (kindAt degree (sinesFrom degree) (now (field .entry)) (now (times .entry)) (now (added .entry)) t) ⌝ }
+{
+    kind_at(degree, 2, field, times, added, t, cosines);
+    let start = 2 + kernel::places(degree);
+    kind_at(degree, start, field, times, added, t, sines);
+    hand_out(cosines, sines)
+}
+
+fn work(
+    degree: usize,
+    field: &[f64],
+    times: &[f64],
+    added: &[f64],
+    t: f64,
+    cosines: &mut [f64],
+    sines: &mut [f64],
+) -> slices::Outcome
+    requires { ⌜ (degree ≤ 180) × (length (now field) ≡ size degree) × (2 ≤ length (now times)) × (length (now added) ≡ length (now times) * size degree) × (length (now cosines) ≡ tri (degree + 1)) × (length (now sines) ≡ tri (degree + 1)) ⌝ }
+    ensures { λ r. ⌜ left r (now (cosines .exit) ∷ now (sines .exit) ∷ []) [] ≡ atWork degree (now (field .entry)) (now (times .entry)) (now (added .entry)) t (now (cosines .entry)) (now (sines .entry)) ⌝ }
+{
+    if kernel::covers(times, t) {
+        return both_at(degree, field, times, added, t, cosines, sines);
+    }
+    slices::clear(cosines);
+    slices::clear(sines);
+    slices::Outcome::Refused(6)
+}
+
+// ---- the calls
+
+// Whether the model covers t: first field time ≤ t < last.
+pub fn covers(times: &[f64], t: f64) -> Cover
+    ensures { λ r. ⌜ r ≡ coverCall (now (times .entry)) t ⌝ }
+{
+    let n = cover_refusal(times, t);
+    if n != 0 {
+        return Cover::Refused(n);
+    }
+    if kernel::covers(times, t) {
+        return Cover::Covered;
+    }
+    Cover::Uncovered
+}
+
+// The field at t: the static field with the added fields on both sides of t, blended.
+pub fn at(
+    degree: usize,
+    field: &[f64],
+    times: &[f64],
+    added: &[f64],
+    t: f64,
+    cosines: &mut [f64],
+    sines: &mut [f64],
+    scratch: &mut [f64],
+) -> slices::Outcome
+    ensures { λ r. ⌜ left r (now (cosines .exit) ∷ now (sines .exit) ∷ []) (now (scratch .exit)) ≡ atCall degree (now (field .entry)) (now (times .entry)) (now (added .entry)) t (now (cosines .entry)) (now (sines .entry)) (now (scratch .entry)) ⌝ }
+{
+    let n = at_refusal(
+        degree,
+        field,
+        times,
+        added,
+        t,
+        cosines.len(),
+        sines.len(),
+        scratch.len(),
+    );
+    if n != 0 {
+        return slices::Outcome::Refused(n);
+    }
+    slices::clear(scratch);
+    work(degree, field, times, added, t, cosines, sines)
+}
