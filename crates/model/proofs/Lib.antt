@@ -4,3 +4,5 @@ pub mod Within
 pub mod Append
 pub mod Blend
 pub mod Checks
+pub mod Stages
+pub mod Instances
