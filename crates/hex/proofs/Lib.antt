@@ -1,0 +1,3 @@
+-- What the proofs use, and what the definitions mean.
+mod Laws
+pub mod Meaning

@@ -1,0 +1,253 @@
+-- What the definitions mean: printing and reading undo each other, for words and for counts, and a lower-case digit is none. Assumes nothing.
+use mathlib.Core.Path.{_≡_, refl, sym, ap, _∙_}
+use mathlib.Core.Logic.{_⊎_, inl, inr, ⊎-elim}
+use mathlib.Core.Bool.{Bool, true, false, cond, not, _&&_}
+use mathlib.Core.List.{List, [], _∷_, _++_, append-assoc, append-nil}
+use Prim.Native.Nat.{ℕ, zero, suc, _+_, _-_, _*_, _/_, _%_, _^_, _<_, _≤_}
+use native.Mathlib.Nat.{mod-lt, div-add-mod', div-lt-iff-lt-mul, pow-zero, pow-suc, mul-comm, mul-add-div-right, mul-add-mod-self-right, div-eq-of-lt, mod-eq-of-lt, add-zero, add-suc, suc-add, zero-add, lt-of-lt-of-le}
+use native.Mathlib.Numerals.{add-one}
+use native.Mathlib.Omega.{arith}
+use borrow.Author.Tests.{ltb-true, ltb-false, lt-ltb, le-ltb, le-leb, eq-eqb, eqb-true, ne-eqb}
+use lib.Dec.{leb, ltb, eqb}
+use lib.Arith.{digits-div, digits-mod}
+use lib.ListN.{length, take, drop, getD, length-append, length-drop}
+use lib.Seq.{take-at, drop-at, length-take-le}
+use Rattle.laws.specs.Checks.{all}
+use Rattle.hex.specs.declared.Parsed.{Parsed}
+use Rattle.hex.specs.declared.Parsed.the-variants.{Value, Malformed}
+use Rattle.hex.specs.Digits.{digitOf, glyphOf, isDigit, valueFrom, valueOf, digitsOf, valued, wordAt, part, written, unpadded, counted, placesIn, placesOf, decimalOf}
+use Rattle.hex.proofs.Laws.{digits-length, sixteen, true-left, true-right, places-small}
+
+-- ---- one digit
+
+split-by : (a b : ℕ) (t : Bool) → ltb a b ≡ t → (a < b) ⊎ (b ≤ a)
+split-by a b true e = inl (ltb-true a b e)
+split-by a b false e = inr (ltb-false a b e)
+
+split : (a b : ℕ) → (a < b) ⊎ (b ≤ a)
+split a b = split-by a b (ltb a b) refl
+
+low-digit : (d : ℕ) → d < 10 → digitOf (48 + d) ≡ d
+unfolding digitOf
+low-digit d h =
+    let a : 48 ≤ 48 + d = omega arith in
+    let b : 48 + d < 58 = omega arith in
+    let e : 48 + d - 48 ≡ d = omega arith in
+    rw (le-ltb (48 + d) 48 a, lt-ltb (48 + d) 58 b) e
+
+high-digit : (d : ℕ) → 10 ≤ d → d < 16 → digitOf (55 + d) ≡ d
+unfolding digitOf
+high-digit d h k =
+    let a : 48 ≤ 55 + d = omega arith in
+    let b : 58 ≤ 55 + d = omega arith in
+    let c : 65 ≤ 55 + d = omega arith in
+    let f : 55 + d < 71 = omega arith in
+    let e : 55 + d - 55 ≡ d = omega arith in
+    rw (le-ltb (55 + d) 48 a, le-ltb (55 + d) 58 b, le-ltb (55 + d) 65 c, lt-ltb (55 + d) 71 f) e
+
+glyph-low : (d : ℕ) → d < 10 → glyphOf d ≡ 48 + d
+unfolding glyphOf
+glyph-low d h = rw (lt-ltb d 10 h)
+
+glyph-high : (d : ℕ) → 10 ≤ d → glyphOf d ≡ 55 + d
+unfolding glyphOf
+glyph-high d h = rw (le-ltb d 10 h)
+
+pub digit-of-glyph : (d : ℕ) → d < 16 → digitOf (glyphOf d) ≡ d
+digit-of-glyph d k = ⊎-elim
+    (λ (h : d < 10). rw (glyph-low d h) (low-digit d h))
+    (λ (h : 10 ≤ d). rw (glyph-high d h) (high-digit d h k))
+    (split d 10)
+
+digit-49 : (b : ℕ) → 48 ≤ b → b < 58 → digitOf b ≡ b - 48
+unfolding digitOf
+digit-49 b h k = rw (le-ltb b 48 h, lt-ltb b 58 k)
+
+digit-65 : (b : ℕ) → 65 ≤ b → b < 71 → digitOf b ≡ b - 55
+unfolding digitOf
+digit-65 b h k =
+    let a : 48 ≤ b = omega arith in
+    let c : 58 ≤ b = omega arith in
+    rw (le-ltb b 48 a, le-ltb b 58 c, le-ltb b 65 h, lt-ltb b 71 k)
+
+none-below : (b : ℕ) → b < 48 → digitOf b ≡ 16
+unfolding digitOf
+none-below b h = rw (lt-ltb b 48 h)
+
+none-between : (b : ℕ) → 58 ≤ b → b < 65 → digitOf b ≡ 16
+unfolding digitOf
+none-between b h k = let a : 48 ≤ b = omega arith in rw (le-ltb b 48 a, le-ltb b 58 h, lt-ltb b 65 k)
+
+-- a byte above F, so each lower-case letter, is no digit
+pub none-above : (b : ℕ) → 71 ≤ b → digitOf b ≡ 16
+unfolding digitOf
+none-above b h =
+    let a : 48 ≤ b = omega arith in
+    let c : 58 ≤ b = omega arith in
+    let d : 65 ≤ b = omega arith in
+    rw (le-ltb b 48 a, le-ltb b 58 c, le-ltb b 65 d, le-ltb b 71 h)
+
+pub glyph-of-digit : (b : ℕ) → digitOf b < 16 → glyphOf (digitOf b) ≡ b
+glyph-of-digit b h = ⊎-elim
+    (λ (l : b < 48). absurd (let e : digitOf b ≡ 16 = none-below b l in omega arith))
+    (λ (l : 48 ≤ b). ⊎-elim
+    (λ (m : b < 58). let e : digitOf b ≡ b - 48 = digit-49 b l m in glyph-low (digitOf b) (omega arith) ∙ omega arith)
+    (λ (m : 58 ≤ b). ⊎-elim
+    (λ (n : b < 65). absurd (let e : digitOf b ≡ 16 = none-between b m n in omega arith))
+    (λ (n : 65 ≤ b). ⊎-elim
+    (λ (o : b < 71). let e : digitOf b ≡ b - 55 = digit-65 b n o in glyph-high (digitOf b) (omega arith) ∙ omega arith)
+    (λ (o : 71 ≤ b). absurd (let e : digitOf b ≡ 16 = none-above b o in omega arith))
+    (split b 71))
+    (split b 65))
+    (split b 58))
+    (split b 48)
+
+-- ---- many
+
+all-append : (f : ℕ → Bool) (xs ys : List ℕ) → all f xs ≡ true → all f ys ≡ true → all f (xs ++ ys) ≡ true
+all-append f [] ys a b = b
+all-append f (x ∷ xs) ys a b = rw (true-left (f x) (all f xs) a, all-append f xs ys (true-right (f x) (all f xs) a) b)
+
+value-append : (base before : ℕ) (xs ys : List ℕ) → valueFrom base before (xs ++ ys) ≡ valueFrom base (valueFrom base before xs) ys
+unfolding valueFrom
+value-append base before [] ys = refl
+value-append base before (x ∷ xs) ys = value-append base (before * base + digitOf x) xs ys
+
+module _ (base : ℕ) (two : 1 < base) (most : base ≤ 16) where
+  below-base : (n : ℕ) → n % base < base
+  below-base n = mod-lt n (omega arith)
+
+  last-digit : (n : ℕ) → digitOf (glyphOf (n % base)) ≡ n % base
+  last-digit n = digit-of-glyph (n % base) (let h : n % base < base = below-base n in omega arith)
+
+  -- printed digits are digits
+  pub digits-are : (k n : ℕ) → all (isDigit base) (digitsOf base k n) ≡ true
+  unfolding digitsOf isDigit
+  digits-are zero n = refl
+  digits-are (suc k) n =
+      all-append (isDigit base) (digitsOf base k (n / base)) (glyphOf (n % base) ∷ []) (digits-are k (n / base)) (rw (last-digit n, lt-ltb (n % base) base (below-base n)))
+
+  -- and spell the number that was printed
+  pub value-of-digits : (k n : ℕ) → n < base ^ k → valueOf base (digitsOf base k n) ≡ n
+  unfolding digitsOf valueFrom
+  value-of-digits zero n h = let g : n < 1 = rw pow-zero at h in omega arith
+  value-of-digits (suc k) n h =
+      let g : n < base ^ k * base = rw pow-suc at h in
+      let q : n / base < base ^ k = div-lt-iff-lt-mul {k = base} (omega arith) .1 g in
+      value-append base 0 (digitsOf base k (n / base)) (glyphOf (n % base) ∷ []) ∙ rw (value-of-digits k (n / base) q, last-digit n) (div-add-mod' n base)
+
+  -- read digits are what printing the number gives
+  pub digits-of-value : (k before : ℕ) (bs : List ℕ) → all (isDigit base) bs ≡ true → digitsOf base (k + length bs) (valueFrom base before bs) ≡ digitsOf base k before ++ bs
+  unfolding digitsOf valueFrom isDigit
+  digits-of-value k before [] a = rw (add-zero k) (sym (append-nil (digitsOf base k before)))
+  digits-of-value k before (b ∷ bs) a =
+      let d : digitOf b < base = ltb-true (digitOf b) base (true-left (ltb (digitOf b) base) (all (isDigit base) bs) a) in
+      let r : all (isDigit base) bs ≡ true = true-right (ltb (digitOf b) base) (all (isDigit base) bs) a in
+      let s : k + suc (length bs) ≡ suc k + length bs = add-suc k (length bs) ∙ sym (suc-add k (length bs)) in
+      let g : glyphOf (digitOf b) ≡ b = glyph-of-digit b (omega arith) in
+      rw s
+      (digits-of-value (suc k) (before * base + digitOf b) bs r
+      ∙ rw (digits-div before d, digits-mod before d, g) (append-assoc (digitsOf base k before) (b ∷ []) bs))
+
+-- ---- a word
+
+sixteen-digits : (n : ℕ) → n < 18446744073709551616 → valueOf 16 (digitsOf 16 16 n) ≡ n
+sixteen-digits n h = value-of-digits 16 (omega arith) (omega arith) 16 n h
+
+word-of : (text : List ℕ) (at n : ℕ) → part text at 16 ≡ digitsOf 16 16 n → n < 18446744073709551616 → wordAt text at ≡ Value n
+unfolding wordAt
+word-of text at n e h =
+    rw (e, digits-length 16 16 n, digits-are 16 (omega arith) (omega arith) 16 n, sixteen-digits n h)
+
+-- what was printed between others is read
+pub printed-word-reads : (before after : List ℕ) (n : ℕ) → n < 18446744073709551616 → wordAt (before ++ (digitsOf 16 16 n ++ after)) (length before) ≡ Value n
+printed-word-reads before after n h =
+    word-of (before ++ (digitsOf 16 16 n ++ after)) (length before) n
+    (rw (drop-at before (digitsOf 16 16 n ++ after) (length before) refl) (take-at (digitsOf 16 16 n) after 16 (digits-length 16 16 n))) h
+
+-- what is read is what printing it gives
+read-if : (t : Bool) (v n : ℕ) → valued t v ≡ Value n → (t ≡ true) × (v ≡ n)
+read-if true v n e = (refl, cc)
+read-if false v n e = absurd (let z : _≡_ {A = ℕ} 0 1 = cc in omega arith)
+
+pub read-word-prints : (text : List ℕ) (at n : ℕ) → wordAt text at ≡ Value n → part text at 16 ≡ digitsOf 16 16 n
+unfolding wordAt digitsOf
+read-word-prints text at n e =
+    let p = part text at 16 in
+    let r = read-if (eqb (length p) 16 && all (isDigit 16) p) (valueOf 16 p) n e in
+    let l : length p ≡ 16 = eqb-true (length p) 16 (true-left (eqb (length p) 16) (all (isDigit 16) p) (r .0)) in
+    let a : all (isDigit 16) p ≡ true = true-right (eqb (length p) 16) (all (isDigit 16) p) (r .0) in
+    let d : digitsOf 16 (0 + length p) (valueOf 16 p) ≡ p = digits-of-value 16 (omega arith) (omega arith) 0 0 p a in
+    sym (rw (zero-add, l, r .1) at d)
+
+-- 16 digits are never refused
+pub digits-are-read : (text : List ℕ) (at : ℕ) → length (part text at 16) ≡ 16 → all (isDigit 16) (part text at 16) ≡ true → wordAt text at ≡ Value (valueOf 16 (part text at 16))
+unfolding wordAt
+digits-are-read text at l a = rw (l, a)
+
+-- ---- a count
+
+small-places : (n : ℕ) → n < 10 → n < 10 ^ 1
+small-places n h = h
+
+places-hold : (k n : ℕ) → n < 10 ^ suc k → n < 10 ^ placesIn k n
+unfolding placesIn
+places-hold zero n h = h
+places-hold (suc k) n h = ⊎-elim
+    (λ (l : n < 10). rw (lt-ltb n 10 l) (small-places n l))
+    (λ (l : 10 ≤ n).
+    let q : n / 10 < 10 ^ suc k = div-lt-iff-lt-mul {k = 10} (omega arith) .1 (rw (pow-suc 10 (suc k)) at h) in
+    rw (le-ltb n 10 l, pow-suc 10 (placesIn k (n / 10))) (div-lt-iff-lt-mul {k = 10} (omega arith) .0 (places-hold k (n / 10) q)))
+    (split n 10)
+
+places-some : (k n : ℕ) → 0 < placesIn k n
+unfolding placesIn
+places-some zero n = omega arith
+places-some (suc k) n = ⊎-elim
+    (λ (h : n < 10). rw (lt-ltb n 10 h) (omega arith))
+    (λ (h : 10 ≤ n). rw (le-ltb n 10 h) (omega arith))
+    (split n 10)
+
+head-append : (xs ys : List ℕ) → 0 < length xs → getD (xs ++ ys) 0 0 ≡ getD xs 0 0
+head-append [] ys h = absurd (omega arith)
+head-append (x ∷ xs) ys h = refl
+
+one-digit : (n : ℕ) → 0 < n → n < 10 → getD (digitsOf 10 1 n) 0 0 ≡ 48 → ⊥
+unfolding digitsOf
+one-digit n p h e = let m : n % 10 ≡ n = mod-eq-of-lt h in let g : glyphOf (n % 10) ≡ 48 + n % 10 = glyph-low (n % 10) (omega arith) in omega arith
+
+-- the first digit of a positive number is no zero
+leading : (k n : ℕ) → 0 < n → n < 10 ^ suc k → getD (digitsOf 10 (placesIn k n) n) 0 0 ≡ 48 → ⊥
+unfolding placesIn digitsOf
+leading zero n p h = one-digit n p h
+leading (suc k) n p h = ⊎-elim
+    (λ (l : n < 10). rw (lt-ltb n 10 l) (one-digit n p l))
+    (λ (l : 10 ≤ n).
+    let q : n / 10 < 10 ^ suc k = div-lt-iff-lt-mul {k = 10} (omega arith) .1 (rw (pow-suc 10 (suc k)) at h) in
+    let s : 0 < length (digitsOf 10 (placesIn k (n / 10)) (n / 10)) = rw (digits-length 10 (placesIn k (n / 10)) (n / 10)) (places-some k (n / 10)) in
+    rw (le-ltb n 10 l, head-append (digitsOf 10 (placesIn k (n / 10)) (n / 10)) (glyphOf (n % 10) ∷ []) s) (leading k (n / 10) (omega arith) q))
+    (split n 10)
+
+unpadded-if : (xs : List ℕ) → 0 < length xs → (getD xs 0 0 ≡ 48 → ⊥) → unpadded xs ≡ true
+unfolding unpadded
+unpadded-if [] h k = absurd (omega arith)
+unpadded-if (x ∷ []) h k = refl
+unpadded-if (x ∷ y ∷ xs) h k = rw (ne-eqb x 48 k)
+
+unpadded-single : (xs : List ℕ) → length xs ≡ 1 → unpadded xs ≡ true
+unfolding unpadded
+unpadded-single [] h = absurd (omega arith)
+unpadded-single (x ∷ []) h = refl
+unpadded-single (x ∷ y ∷ xs) h = absurd (omega arith)
+
+decimal-unpadded : (n : ℕ) → n < 10 ^ 20 → unpadded (decimalOf n) ≡ true
+decimal-unpadded zero h = unpadded-single (decimalOf 0) (digits-length 10 (placesOf 0) 0 ∙ places-small 19 0 (omega arith))
+decimal-unpadded (suc n) h = unpadded-if (decimalOf (suc n)) (rw (digits-length 10 (placesOf (suc n)) (suc n)) (places-some 19 (suc n))) (leading 19 (suc n) (omega arith) h)
+
+-- what was printed is read
+pub printed-count-reads : (n : ℕ) → n < 18446744073709551616 → counted (decimalOf n) ≡ Value n
+unfolding counted
+printed-count-reads n h =
+    let g : n < 10 ^ 20 = omega arith in
+    let v : valueOf 10 (decimalOf n) ≡ n = value-of-digits 10 (omega arith) (omega arith) (placesOf n) n (places-hold 19 n g) in
+    rw (decimal-unpadded n g, digits-are 10 (omega arith) (omega arith) (placesOf n) n, v, lt-ltb n 18446744073709551616 h)
