@@ -1,0 +1,149 @@
+// What the replaying programs share. A replay reads standard input and writes standard output as lines of 17 bytes: 16
+// uppercase hexadecimal digits, most significant first, and a line feed. A line is one u64: a count or a number as
+// itself, a key in two's complement, a double by its bits. A NaN is printed as 7FF8000000000000, and each pattern of a
+// NaN is read as one. The expected output is the oracle's answers in the same form (oracle/README.md). Where the input
+// ends, or a line is malformed, there is no more to read.
+ghost use mathlib.Core.Path.{_≡_};
+ghost use Prim.Native.Nat.{_<_, _≤_};
+ghost use lib.ListN.{length, drop};
+ghost use mir.Syntax.{w64};
+ghost use mir.Val.{toZ, ofZ};
+
+pub enum Item {
+    Value(u64),
+    End,
+}
+
+// The word of the next line.
+pub fn next() -> Item {
+    let mut line = [0u8; 17];
+    let n = io::read_full(0, &mut line);
+    if n < 17 {
+        return Item::End;
+    }
+    word_of(&line)
+}
+
+// The word of a line, which ends in a line feed.
+fn word_of(line: &[u8]) -> Item {
+    if line.len() != 17 {
+        return Item::End;
+    }
+    if line[16] != 10 {
+        return Item::End;
+    }
+    match hex::word(line, 0) {
+        hex::Parsed::Value(v) => Item::Value(v),
+        hex::Parsed::Malformed => Item::End,
+    }
+}
+
+// The next word, 0 where there is none.
+pub fn number() -> u64 {
+    match next() {
+        Item::Value(v) => v,
+        Item::End => 0,
+    }
+}
+
+// The next double, +0.0 where there is none.
+pub fn float() -> f64 {
+    hex::float(number())
+}
+
+// The next words as doubles in the first count places; what stands after them is kept.
+pub fn fill(out: &mut [f64], count: usize)
+    ensures { λ _. ⌜ drop count (now (out .exit)) ≡ drop count (now (out .entry)) ⌝ }
+{
+    let mut i = 0;
+    while i < count {
+        if i >= out.len() {
+            return;
+        }
+        out[i] = float();
+        i += 1;
+    }
+}
+
+// A word read as two's complement.
+pub fn signed(bits: u64) -> i64
+    ensures { λ r. ⌜ r ≡ toZ w64 bits ⌝ }
+{
+    if bits < 9223372036854775808 {
+        bits as i64
+    } else {
+        -1 - (18446744073709551615 - bits) as i64
+    }
+}
+
+// A key as a word, in two's complement.
+pub fn unsigned(key: i64) -> u64
+    ensures { λ r. ⌜ r ≡ ofZ w64 key ⌝ }
+{
+    if key < 0 {
+        18446744073709551615 - (-1 - key) as u64
+    } else {
+        key as u64
+    }
+}
+
+// The next words as keys, as fill.
+pub fn fill_keys(out: &mut [i64], count: usize)
+    ensures { λ _. ⌜ drop count (now (out .exit)) ≡ drop count (now (out .entry)) ⌝ }
+{
+    let mut i = 0;
+    while i < count {
+        if i >= out.len() {
+            return;
+        }
+        out[i] = signed(number());
+        i += 1;
+    }
+}
+
+// The next words as bytes, 255 for all above, as fill.
+pub fn fill_bytes(out: &mut [u8], count: usize)
+    ensures { λ _. ⌜ drop count (now (out .exit)) ≡ drop count (now (out .entry)) ⌝ }
+{
+    let mut i = 0;
+    while i < count {
+        if i >= out.len() {
+            return;
+        }
+        out[i] = byte();
+        i += 1;
+    }
+}
+
+// The next word as a byte, 255 for all above.
+pub fn byte() -> u8 {
+    let v = number();
+    if v < 256 { v as u8 } else { 255 }
+}
+
+// Writes a word as a line.
+pub fn say(value: u64) {
+    let mut line = [10u8; 17];
+    hex::put_word(value, &mut line, 0);
+    io::write_all(1, &line);
+}
+
+pub fn say_float(x: f64) {
+    say(hex::pattern(x));
+}
+
+pub fn say_all(values: &[f64]) {
+    let mut i = 0;
+    while i < values.len() {
+        say_float(values[i]);
+        i += 1;
+    }
+}
+
+pub fn say_keys(keys: &[i64]) {
+    let mut i = 0;
+    while i < keys.len() {
+        say(unsigned(keys[i]));
+        i += 1;
+    }
+}
