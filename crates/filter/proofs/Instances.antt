@@ -9,7 +9,7 @@ use Rattle.laws.specs.Floats.{bits, zero64}
 use Rattle.laws.specs.Runs.{splits, runsOf}
 use Rattle.laws.specs.Lists.{All}
 use Rattle.laws.specs.WholeNumbers.{number}
-use Rattle.numbers.specs.Numbers.{sine, cosine, sineAt, cosineAt, sineNear, cosineNear, near, rounded, quarter, rest as left, horner, hornerFrom, factorial, sines, cosines}
+use Rattle.numbers.specs.Numbers.{sine, cosine, sineAt, cosineAt, sineNear, cosineNear, near, rounded, quarter, rest as left, horner, hornerFrom, factorial, alternating, sines, cosines}
 use Rattle.filter.specs.Sections.{quality, section, butterworth}
 use Rattle.filter.specs.Filter.{rest, sampleOf, memoryOf, throughOne, through, padBefore, padAfter, padded, filtfilt, passBy, band, pass, bandPass}
 use Rattle.filter.specs.declared.Biquad.{Biquad}
@@ -46,7 +46,7 @@ zeros-through [] q n = refl
 zeros-through (s ∷ ss) q n = ap (through ss) (one-quiet s (q .0) n) ∙ zeros-through ss (q .1) n
 
 band-quiet : All Quiet band
-unfolding band butterworth section quality sampleOf number sine cosine sineAt cosineAt sineNear cosineNear near rounded quarter left horner hornerFrom factorial sines cosines ofBits ofInt round add sub mul div neg lt le
+unfolding band butterworth section quality sampleOf number sine cosine sineAt cosineAt sineNear cosineNear near rounded quarter left horner hornerFrom factorial alternating sines cosines ofBits ofInt round add sub mul div neg lt le
 band-quiet = (refl, (refl, (refl, (refl, tt))))
 
 padded-zeros : padded 64 (replicate 65 zero64) ≡ replicate 193 zero64
