@@ -1,10 +1,11 @@
 -- Where the Sun and the Moon are: the low-precision series of Montenbruck and Gill (2000, §3.3.2), turned to Earth-fixed axes by Greenwich mean sidereal time. Assumes nothing.
+use Prim.Native.Nat.{ℕ}
 use mathlib.Core.List.{List, [], _∷_}
 use lib.ListN.{getD}
 use lib.Ieee.{Float, nan, neg}
 use Rattle.laws.specs.Floats.{_⊕_, _⊖_, _⊗_, _⊘_, zero64}
 use Rattle.laws.specs.WholeNumbers.{number}
-use Rattle.numbers.specs.Numbers.{plus, minus, sine, cosine, sineCosine}
+use Rattle.numbers.specs.Numbers.{sine, cosine, sineCosine}
 use Rattle.numbers.specs.declared.SineCosine.{SineCosine}
 use Rattle.vectors.specs.declared.Vector.{Vector}
 use Rattle.numbers.specs.Constants.{decimal, degree, arcsecond}
@@ -26,6 +27,13 @@ arguments T = record {
   f = (decimal 9327283 5 ⊕ decimal 48320201873 5 ⊗ T) ⊗ degree;
   d = (decimal 29785027 5 ⊕ decimal 44526711135 5 ⊗ T) ⊗ degree;
 }
+
+-- the whole numbers of the tables, with their signs
+abbrev plus : ℕ → Float
+plus n = number n
+
+abbrev minus : ℕ → Float
+minus n = neg (number n)
 
 -- a term: its amplitude, and the multiples of l, l′, F and D in its angle
 abbrev pub term : Float → Float → Float → Float → Float → List Float
