@@ -1,4 +1,4 @@
--- Vectors of three numbers over binary64. Assumes nothing.
+-- Vectors of three numbers over binary64, each operation rounded once, in the order of the source (t1.rs). Assumes nothing.
 use lib.Ieee.{Float, binary64}
 use Rattle.laws.specs.Floats.{_⊕_, _⊖_, _⊗_}
 use Rattle.root.specs.Root.{sqrt}
