@@ -1,0 +1,48 @@
+-- Sums, one more, and of equal numbers. Assumes nothing.
+use Rattle.laws.specs.Floats.{_⊕_, _⊖_, _⊗_}
+use Rattle.laws.specs.WholeNumbers.{number}
+use Rattle.series.specs.Arrays.{total}
+use Rattle.series.specs.Field.{totals}
+use Rattle.series.specs.declared.Totals.{Totals}
+use Rattle.series.specs.Sums.{Degree, RowSums, even, odd, Evaluation, degrees, AllSums, power, allV, allR, allLat, allLon}
+use Prim.Native.Nat.{ℕ, zero, suc, _+_, _≤_, _<_}
+use mathlib.Core.Path.{_≡_, refl, sym, ap, ap₂, _∙_, subst}
+use native.Mathlib.Omega.{arith}
+use native.Mathlib.Numerals.{add-one}
+use lib.Ieee.{Float}
+
+-- one order more
+pub sums-more : {r : Degree} {m : ℕ} {v lat lon : Float} → RowSums r m v lat lon → RowSums r (m + 1) (v ⊕ r .p m ⊗ even r m) (lat ⊕ r .d m ⊗ even r m) (lon ⊕ r .p m ⊗ r .k m ⊗ odd r m)
+unfolding total
+sums-more s = record { sv = rw add-one (cc); slat = rw add-one (cc); slon = rw add-one (cc) }
+
+-- one degree more
+pub all-more : {f : Evaluation} {q qn v r lat lon sv slat slon w : Float} {n : ℕ} → AllSums f q n v r lat lon qn → RowSums (degrees f n) (n + 1) sv slat slon → w ≡ number (n + 1) → AllSums f q (n + 1) (v ⊕ qn ⊗ sv) (r ⊖ w ⊗ qn ⊗ sv) (lat ⊕ qn ⊗ slat) (lon ⊕ qn ⊗ slon) (qn ⊗ q)
+unfolding allV allR allLat allLon total power
+all-more {n = n} a s ew = record {
+  av = rw add-one (cc);
+  ar = rw add-one (cc);
+  alat = rw add-one (cc);
+  alon = rw add-one (cc);
+  aq = rw add-one (cc);
+}
+
+pub total-cong : {g h : ℕ → Float} (j : ℕ) → ((i : ℕ) → i < j → g i ≡ h i) → total g j ≡ total h j
+unfolding total
+total-cong zero e = refl
+total-cong (suc j) e = ap₂ (λ (x y : Float). x ⊕ y) (total-cong j (λ i l. e i (omega arith))) (e j (omega arith))
+
+-- the sums are determined by what they read
+-- (c and s are the same)
+pub sums-as : {c s x y k p d x' y' k' p' d' : ℕ → Float} {j : ℕ} {v lat lon : Float} → ((i : ℕ) → i < j → x i ≡ x' i) → ((i : ℕ) → i < j → y i ≡ y' i) → ((i : ℕ) → i < j → k i ≡ k' i) → ((i : ℕ) → i < j → p i ≡ p' i) → ((i : ℕ) → i < j → d i ≡ d' i) → RowSums (record { c = c; s = s; x = x; y = y; k = k; p = p; d = d }) j v lat lon → RowSums (record { c = c; s = s; x = x'; y = y'; k = k'; p = p'; d = d' }) j v lat lon
+sums-as {c} {s} {x} {y} {k} {p} {d} {x'} {y'} {k'} {p'} {d'} {j} ex ey ek ep ed r = record {
+  sv = r .sv ∙ total-cong j (λ i l. λ h. ep i l h ⊗ (c i ⊗ ex i l h ⊕ s i ⊗ ey i l h));
+  slat = r .slat ∙ total-cong j (λ i l. λ h. ed i l h ⊗ (c i ⊗ ex i l h ⊕ s i ⊗ ey i l h));
+  slon = r .slon ∙ total-cong j (λ i l. λ h. ep i l h ⊗ ek i l h ⊗ (s i ⊗ ex i l h ⊖ c i ⊗ ey i l h));
+}
+
+pub sums-at : {f : Evaluation} {q v r lat lon qn : Float} {j : ℕ} (i : ℕ) → AllSums f q j v r lat lon qn → j ≡ i → AllSums f q i v r lat lon qn
+sums-at {f} {q} {v} {r} {lat} {lon} {qn} i s e = subst (λ (x : ℕ). AllSums f q x v r lat lon qn) e s
+
+pub total-of : (f : Evaluation) (q : Float) (j : ℕ) {v r lat lon qn : Float} → AllSums f q j v r lat lon qn → _≡_ {A = Totals} (record { v = v; r = r; lat = lat; lon = lon }) (totals (degrees f) q j)
+total-of f q j s = λ i. record { v = s .av i; r = s .ar i; lat = s .alat i; lon = s .alon i }

@@ -1,0 +1,9 @@
+mod Index
+mod Rows
+mod Recur
+mod Pres
+mod Added
+mod Filling
+mod Kernel
+mod Series
+pub mod Published

@@ -1,0 +1,24 @@
+use Rattle.series.specs.Legendre.{aOf}
+use Prim.Native.Nat.{ℕ, zero, suc, _+_, _-_, _*_, _≤_, _<_}
+use mathlib.Core.Path.{_≡_, refl, sym, ap, ap₂, _∙_, subst}
+use mathlib.Core.List.{List}
+use native.Mathlib.Omega.{arith}
+use native.Mathlib.Numerals.{add-one}
+use borrow.Author.Needs.{needs}
+use borrow.Author.Tests.{le-leb, lt-leb, eq-eqb, ne-eqb}
+use lib.ListN.{length, getD, set, length-set}
+use lib.Ieee.{Float, nan}
+use Rattle.series.proofs.a_of.Statement.{statement}
+use Rattle.series.proofs.a_of.Tie as tie
+
+returns : tie.Need-returns
+unfolding aOf
+returns c = rw (eq-eqb _ _ (c .if1 .taken))
+
+returns-2 : tie.Need-returns-2
+unfolding aOf
+returns-2 c = rw (ne-eqb _ _ (c .before .before .before .if1 .left)) (cc)
+
+pub a-of-spec : {M : Type 1} → statement M
+a-of-spec =
+    tie.close (tie.spec returns (λ c κs. search needs) (λ c κs. search needs) (λ c κs. search needs) returns-2)

@@ -1,0 +1,6 @@
+pub mod Legendre
+pub mod Arrays
+pub mod Rows
+pub mod Sums
+pub mod Field
+pub mod Prepared
