@@ -1,7 +1,8 @@
 -- Laws of the definitions of `specs/Filter.antt`, stated as the loops and calls of `src/work.rt` give them. Assumes nothing.
 use mathlib.Core.Path.{_≡_, refl, sym, ap, _∙_}
 use mathlib.Core.List.{List, [], _∷_, _++_, append-assoc, append-nil, reverse}
-use mathlib.Core.Bool.{Bool, true, false}
+use mathlib.Core.Bool.{Bool, true, false, cond}
+use lib.Dec.{ltb}
 use mathlib.Core.Logic.{_⊎_, inl, inr}
 use Prim.Native.Nat.{ℕ, suc, _+_, _-_, _<_, _≤_, min}
 use native.Mathlib.Numerals.{one-add}
@@ -17,6 +18,7 @@ use Rattle.laws.specs.Runs.{splits, grown, runsOf, passRuns, passed}
 use Rattle.slices.specs.Slices.{copied}
 use Rattle.slices.proofs.Laws.{copied-all, getD-reverse, take-reverse}
 use Rattle.filter.specs.Sections.{sectionsOf}
+use Rattle.filter.specs.Calls.{longRuns}
 use Rattle.filter.specs.Filter.{rest, sampleOf, memoryOf, stepOf, throughOne, through, reflected, padBefore, padAfter, padded, bothWays, filtfilt, passBy}
 use Rattle.filter.specs.declared.Biquad.{Biquad}
 use Rattle.filter.specs.declared.BiquadMemory.{BiquadMemory}
@@ -266,3 +268,23 @@ passed-now pass ts x out out₀ goal start h l lo lo₀ inv =
 
 pub put-length : (a k : ℕ) (xs ys x₀ : List Float) → length ys ≡ length (midOf a k xs) → length xs ≡ length x₀ → length (putMid a k xs ys) ≡ length x₀
 put-length a k xs ys x₀ h l = same-len-mid a k xs ys h ∙ l
+
+-- ---- counting runs
+
+pub runs-turn : (ts : List Float) (start e runs goal : ℕ) → start < length ts → e ≡ start + getD (runsOf (drop start ts)) 0 0 →
+    runs + length (runsOf (drop start ts)) ≡ goal → runs + 1 + length (runsOf (drop e ts)) ≡ goal
+runs-turn ts start e runs goal h ee inv = omega (arith, ap length (runs-from ts start e h ee), inv)
+
+pub long-turn : (ts : List Float) (start e long one goal : ℕ) → start < length ts → e ≡ start + getD (runsOf (drop start ts)) 0 0 → one ≡ cond (ltb 64 (e - start)) 1 0 →
+    long + longRuns (runsOf (drop start ts)) ≡ goal → long + one + longRuns (runsOf (drop e ts)) ≡ goal
+long-turn ts start e long one goal h ee eo inv =
+    let k : ℕ = getD (runsOf (drop start ts)) 0 0 in
+    let ke : e - start ≡ k = omega arith in
+    let o : one ≡ cond (ltb 64 k) 1 0 = eo ∙ ap (λ (n : ℕ). cond (ltb 64 n) 1 0) ke in
+    omega (arith, ap longRuns (runs-from ts start e h ee), o, inv)
+
+pub runs-none : (ts : List Float) (start runs goal : ℕ) → length ts ≤ start → runs + length (runsOf (drop start ts)) ≡ goal → runs ≡ goal
+runs-none ts start runs goal h inv = omega (arith, ap (λ (l : List Float). length (runsOf l)) (drop-of-length-le ts h), inv)
+
+pub long-none : (ts : List Float) (start long goal : ℕ) → length ts ≤ start → long + longRuns (runsOf (drop start ts)) ≡ goal → long ≡ goal
+long-none ts start long goal h inv = omega (arith, ap (λ (l : List Float). longRuns (runsOf l)) (drop-of-length-le ts h), inv)

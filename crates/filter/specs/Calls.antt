@@ -2,8 +2,8 @@
 -- `places` for the numbers handed out, `room` for the scratch. Assumes nothing.
 use mathlib.Core.Bool.{Bool, true, false, cond, _&&_}
 use mathlib.Core.List.{List, [], _∷_}
-use Prim.Native.Nat.{ℕ, zero, suc, _*_, _/_, _%_}
-use lib.Dec.{leb, eqb}
+use Prim.Native.Nat.{ℕ, zero, suc, _+_, _*_, _/_, _%_}
+use lib.Dec.{leb, ltb, eqb}
 use lib.ListN.{length, replicate}
 use lib.Ieee.{Float}
 use lib.Ieee.Scale.{finite}
@@ -76,3 +76,8 @@ bandFits times values places room = eqb times values && (eqb places values && le
 -- what a kernel leaves in its output
 unfoldable pub bandPassed : List Float → List Float → List Float → ℕ → List Float
 bandPassed ts x o room = cond (bandFits (length ts) (length x) (length o) room) (bandPass ts x) o
+
+-- how many runs of these lengths are longer than 64 samples
+abbrev pub longRuns : List ℕ → ℕ
+longRuns [] = 0
+longRuns (k ∷ ks) = cond (ltb 64 k) 1 0 + longRuns ks
