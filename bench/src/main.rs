@@ -1,0 +1,23 @@
+// Ours beside the Rust source in one program: equal bits are checked first, then both are timed.
+#![allow(dead_code)]
+mod elementary;
+mod generate;
+mod source;
+mod submission;
+mod timing;
+mod whole;
+
+// made by run: a `mod` for each src/NAME.rs that has `pub fn works(bench: &mut Bench)`, and WORKS
+include!("works.rs");
+
+fn main() {
+    let mut bench = timing::Bench::new();
+    println!("{:<28} {:>12} {:>12} {:>7}  {}", "work", "Rust", "ours", "ratio", "bits");
+    for work in WORKS {
+        work(&mut bench);
+    }
+    if bench.unequal > 0 {
+        println!("{} works with unequal bits", bench.unequal);
+        std::process::exit(1);
+    }
+}

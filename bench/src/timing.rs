@@ -1,0 +1,67 @@
+// Times of two ways to do one work. The thread's CPU time is taken, the best of seven batches: other work shares the machine.
+use std::hint::black_box;
+
+#[repr(C)]
+struct TimeSpec {
+    seconds: i64,
+    nanoseconds: i64,
+}
+
+unsafe extern "C" {
+    fn clock_gettime(clock: i32, time: *mut TimeSpec) -> i32;
+}
+
+const THREAD_CPU: i32 = 3;
+
+fn cpu() -> f64 {
+    let mut t = TimeSpec { seconds: 0, nanoseconds: 0 };
+    unsafe { clock_gettime(THREAD_CPU, &mut t) };
+    t.seconds as f64 + 1e-9 * t.nanoseconds as f64
+}
+
+fn batch(count: usize, work: &mut dyn FnMut()) -> f64 {
+    let start = cpu();
+    for _ in 0..count {
+        work();
+    }
+    (cpu() - start) / count as f64
+}
+
+pub struct Bench {
+    pub unequal: usize,
+}
+
+pub fn same(a: f64, b: f64) -> bool {
+    a.to_bits() == b.to_bits() || a.is_nan() && b.is_nan()
+}
+
+fn readable(seconds: f64) -> String {
+    if seconds < 1e-6 {
+        format!("{:.2} ns", seconds * 1e9)
+    } else if seconds < 1e-3 {
+        format!("{:.3} us", seconds * 1e6)
+    } else if seconds < 1.0 {
+        format!("{:.3} ms", seconds * 1e3)
+    } else {
+        format!("{:.3} s", seconds)
+    }
+}
+
+impl Bench {
+    pub fn new() -> Bench {
+        Bench { unequal: 0 }
+    }
+
+    /// One work: `rust` and `ours` each give the numbers that they hand out; `count` calls make a batch, and a call does `each` works.
+    pub fn compare(&mut self, name: &str, count: usize, each: usize, rust: &mut dyn FnMut() -> Vec<f64>, ours: &mut dyn FnMut() -> Vec<f64>) {
+        let (a, b) = (rust(), ours());
+        let equal = a.len() == b.len() && a.iter().zip(&b).all(|(x, y)| same(*x, *y));
+        self.unequal += !equal as usize;
+        let (mut first, mut second) = (f64::INFINITY, f64::INFINITY);
+        for _ in 0..7 {
+            first = first.min(batch(count, &mut || { black_box(rust()); }) / each as f64);
+            second = second.min(batch(count, &mut || { black_box(ours()); }) / each as f64);
+        }
+        println!("{:<28} {:>12} {:>12} {:>7.2}  {}", name, readable(first), readable(second), second / first, if equal { format!("{} equal", a.len()) } else { "UNEQUAL".into() });
+    }
+}
