@@ -1,4 +1,5 @@
 -- The forces of module 2, m/s², Earth-fixed. Assumes nothing: definitions only.
+use Prim.Native.Nat.{ℕ}
 use mathlib.Core.List.{List}
 use lib.ListN.{getD}
 use lib.Ieee.{Float, nan, binary64, neg}
@@ -11,10 +12,27 @@ use Rattle.vectors.specs.Vector.{plus, minus, times, inner, norm, cross}
 use Rattle.vectors.specs.declared.Vector.{Vector}
 use Rattle.numbers.specs.Constants.{decimal, earthGM, earthRadius, sunGM, moonGM, rotation, flattening}
 use Rattle.sky.specs.Sky.{sunMoon}
-use Rattle.tide.specs.Tide.{solidTide}
-use Rattle.tide.specs.Gravity.{tideGravity}
+use Rattle.series.specs.Field.{partialsWith, partialsOf}
+use Rattle.series.specs.declared.Partials.{Partials}
+use Rattle.tide.specs.Tide.{placeOf, solidTide}
+use Rattle.tide.specs.declared.kernel.Place.{Place}
+use Rattle.tide.specs.Gravity.{fromLocal, tideGravity}
 use Rattle.forces.specs.declared.kernel.Moment.{Moment}
 use Rattle.forces.specs.declared.kernel.Axes.{Axes}
+
+-- the gradient of a potential at a place, from its partial derivatives: north, east and up, turned to Earth-fixed axes
+unfoldable pub gradient : Place → Partials → Vector
+gradient at p =
+    let lat = sineCosine (at .lat) in
+    fromLocal lat (sineCosine (at .lon)) (p .dlat ⊘ at .r) (p .dlon ⊘ (at .r ⊗ lat .cosine)) (p .dr)
+
+-- the gravity at x of the published series to degree N of the coefficients c, s
+unfoldable pub gravityOf : ℕ → Float → Float → List Float → List Float → Vector → Vector
+gravityOf N gm radius c s x = let at = placeOf x in gradient at (partialsOf N gm radius c s (at .r) (at .lat) (at .lon))
+
+-- the same from tables as given: a, b, and a work slice with C and S at its front
+unfoldable pub gravityWith : ℕ → Float → Float → List Float → List Float → List Float → Vector → Vector
+gravityWith N gm radius a b work x = let at = placeOf x in gradient at (partialsWith N gm radius a b work (at .r) (at .lat) (at .lon))
 
 -- a body's pull on a satellite at x, less its pull on the Earth
 unfoldable pub thirdBody : Vector → Vector → Float → Vector

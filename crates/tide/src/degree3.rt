@@ -140,7 +140,7 @@ fn tables_of(field: crate::SolidTide, lat: numbers::SineCosine, lon: f64) -> Tab
 }
 
 // North, east and up at a latitude and longitude, to Earth-fixed axes.
-fn from_local(
+pub fn from_local(
     lat: numbers::SineCosine,
     lon: numbers::SineCosine,
     n: f64,
