@@ -1,16 +1,16 @@
 -- Laws of digits, as the loops and tests give their premises. Assumes nothing.
 use mathlib.Core.Path.{_≡_, refl, sym, ap, _∙_}
-use mathlib.Core.Bool.{Bool, true, false, cond, not, _&&_, false≢true, Bool·beq}
+use mathlib.Core.Bool.{Bool, true, false, not, _&&_, false≢true, Bool·beq}
 use mathlib.Core.List.{List, [], _∷_, _++_, append-assoc, append-nil}
 use Prim.Native.Nat.{ℕ, zero, suc, _+_, _-_, _*_, _/_, _%_, _^_, _<_, _≤_}
-use native.Mathlib.Nat.{lt-of-lt-of-le, add-mul, one-mul, mul-assoc, pow-zero, pow-succ', le-refl, le-trans, mul-le-mul-left, mul-le-mul-right, mul-one, mod-lt, div-mul-le-self, div-lt-iff-lt-mul}
+use native.Mathlib.Nat.{lt-of-lt-of-le, add-mul, one-mul, mul-assoc, pow-zero, pow-succ', le-refl, le-trans, mul-le-mul-left, mul-le-mul-right, mul-one, div-mul-le-self, div-lt-iff-lt-mul}
 use native.Mathlib.Numerals.{add-one}
 use native.Mathlib.Omega.{arith}
 use borrow.Rule.Slice.PartMut.{midOf, postOf, putMid, post-is, mid-len}
 use borrow.Author.Tests.{ltb-true, lt-ltb, le-ltb, le-leb, lt-leb, eq-eqb, ne-eqb}
 use lib.Ieee.{Float, nan, inf, fin, binary64, up, down, isNan, ofBits, nanBits, toBits, eq, ne}
 use lib.Ieee.Bits.{nanBits-above, nanBits-is}
-use lib.Dec.{T, leb, ltb, eqb}
+use lib.Dec.{T, ltb, eqb}
 use lib.ListN.{length, take, drop, getD, set, length-set, length-append, length-drop, drop-of-length-le}
 use lib.Seq.{take-all, length-take-le, drop-cons, getD-set-same, drop-set-lt}
 use Rattle.laws.specs.Checks.{all}

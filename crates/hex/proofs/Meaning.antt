@@ -1,22 +1,20 @@
 -- What the definitions mean: printing and reading undo each other, for words and for counts, and a lower-case digit is none. Assumes nothing.
 use mathlib.Core.Path.{_≡_, refl, sym, ap, _∙_}
 use mathlib.Core.Logic.{_⊎_, inl, inr, ⊎-elim}
-use mathlib.Core.Bool.{Bool, true, false, cond, not, _&&_}
+use mathlib.Core.Bool.{Bool, true, false, not, _&&_}
 use mathlib.Core.List.{List, [], _∷_, _++_, append-assoc, append-nil}
 use Prim.Native.Nat.{ℕ, zero, suc, _+_, _-_, _*_, _/_, _%_, _^_, _<_, _≤_}
-use native.Mathlib.Nat.{mod-lt, div-add-mod', div-lt-iff-lt-mul, pow-zero, pow-suc, mul-comm, mul-add-div-right, mul-add-mod-self-right, div-eq-of-lt, mod-eq-of-lt, add-zero, add-suc, suc-add, zero-add, lt-of-lt-of-le}
-use native.Mathlib.Numerals.{add-one}
+use native.Mathlib.Nat.{le-refl, le-trans, mul-one, one-mul, mul-assoc, mul-le-mul-right, one-le-pow, pow-succ', pow-le-pow-right, le-div-iff-mul-le, mod-lt, div-add-mod', div-lt-iff-lt-mul, pow-zero, pow-suc, mod-eq-of-lt, add-zero, add-suc, suc-add, zero-add}
 use native.Mathlib.Omega.{arith}
-use borrow.Author.Tests.{ltb-true, ltb-false, lt-ltb, le-ltb, le-leb, eq-eqb, eqb-true, ne-eqb}
-use lib.Dec.{leb, ltb, eqb}
+use borrow.Author.Tests.{ltb-true, ltb-false, lt-ltb, le-ltb, le-leb, eqb-true, eqb-false, not-true, ne-eqb}
+use lib.Dec.{ltb, eqb}
 use lib.Arith.{digits-div, digits-mod}
-use lib.ListN.{length, take, drop, getD, length-append, length-drop}
+use lib.ListN.{length, take, drop, getD}
 use lib.Seq.{take-at, drop-at, length-take-le}
 use Rattle.laws.specs.Checks.{all}
-use Rattle.hex.specs.declared.Parsed.{Parsed}
-use Rattle.hex.specs.declared.Parsed.the-variants.{Value, Malformed}
+use Rattle.hex.specs.declared.Parsed.the-variants.{Value}
 use Rattle.hex.specs.Digits.{digitOf, glyphOf, isDigit, valueFrom, valueOf, digitsOf, valued, wordAt, part, written, unpadded, counted, placesIn, placesOf, decimalOf}
-use Rattle.hex.proofs.Laws.{digits-length, sixteen, true-left, true-right, places-small}
+use Rattle.hex.proofs.Laws.{digits-length, true-left, true-right, places-small, bounded}
 
 -- ---- one digit
 
@@ -165,6 +163,17 @@ printed-word-reads before after n h =
     word-of (before ++ (digitsOf 16 16 n ++ after)) (length before) n
     (rw (drop-at before (digitsOf 16 16 n ++ after) (length before) refl) (take-at (digitsOf 16 16 n) after 16 (digits-length 16 16 n))) h
 
+-- what was written into a text is read there
+pub written-word-reads : (text : List ℕ) (at n : ℕ) → 16 ≤ length text - at → n < 18446744073709551616 → wordAt (written text at (digitsOf 16 16 n)) at ≡ Value n
+unfolding written
+written-word-reads text at n h k =
+    let d : length (digitsOf 16 16 n) ≡ 16 = digits-length 16 16 n in
+    let f : length (digitsOf 16 16 n) ≤ length text - at = omega arith in
+    let l : length (take at text) ≡ at = length-take-le at text (omega arith) in
+    let r : wordAt (take at text ++ (digitsOf 16 16 n ++ drop (at + length (digitsOf 16 16 n)) text)) (length (take at text)) ≡ Value n =
+    printed-word-reads (take at text) (drop (at + length (digitsOf 16 16 n)) text) n k in
+    rw (le-leb (length (digitsOf 16 16 n)) (length text - at) f) (rw l at r)
+
 -- what is read is what printing it gives
 read-if : (t : Bool) (v n : ℕ) → valued t v ≡ Value n → (t ≡ true) × (v ≡ n)
 read-if true v n e = (refl, cc)
@@ -251,3 +260,76 @@ printed-count-reads n h =
     let g : n < 10 ^ 20 = omega arith in
     let v : valueOf 10 (decimalOf n) ≡ n = value-of-digits 10 (omega arith) (omega arith) (placesOf n) n (places-hold 19 n g) in
     rw (decimal-unpadded n g, digits-are 10 (omega arith) (omega arith) (placesOf n) n, v, lt-ltb n 18446744073709551616 h)
+
+-- ---- and what is read is what printing gives
+
+value-lower : (base before : ℕ) (bs : List ℕ) → before * base ^ length bs ≤ valueFrom base before bs
+unfolding valueFrom
+value-lower base before [] = rw (pow-zero, mul-one) (le-refl before)
+value-lower base before (b ∷ bs) =
+    let g : (before * base + digitOf b) * base ^ length bs ≤ valueFrom base (before * base + digitOf b) bs = value-lower base (before * base + digitOf b) bs in
+    let h : before * base ≤ before * base + digitOf b = omega arith in
+    let m : before * base * base ^ length bs ≤ (before * base + digitOf b) * base ^ length bs = mul-le-mul-right (base ^ length bs) h in
+    rw (pow-succ' base (length bs), ← mul-assoc) (le-trans m g)
+
+places-between : (k p n : ℕ) → 10 ^ p ≤ n → n < 10 ^ suc p → p ≤ k → placesIn k n ≡ suc p
+unfolding placesIn
+places-between k zero n l u h = places-small k n u
+places-between zero (suc q) n l u h = absurd (omega arith)
+places-between (suc j) (suc q) n l u h =
+    let l' : 10 ^ q * 10 ≤ n = rw pow-suc at l in
+    let o : 1 ≤ 10 ^ q = one-le-pow q 10 (omega arith) in
+    let t : 10 ≤ n = omega arith in
+    let d : 10 ^ q ≤ n / 10 = le-div-iff-mul-le {k = 10} (omega arith) .1 l' in
+    let e : n / 10 < 10 ^ suc q = div-lt-iff-lt-mul {k = 10} (omega arith) .1 (rw (pow-suc 10 (suc q)) at u) in
+    rw (le-ltb n 10 t) (ap suc (places-between j q (n / 10) d e (omega arith)))
+
+digits-printed : (bs : List ℕ) (n : ℕ) → all (isDigit 10) bs ≡ true → valueOf 10 bs ≡ n → placesOf n ≡ length bs → bs ≡ decimalOf n
+unfolding digitsOf
+digits-printed bs n a v p =
+    let d : digitsOf 10 (0 + length bs) (valueOf 10 bs) ≡ bs = digits-of-value 10 (omega arith) (omega arith) 0 0 bs a in
+    rw p (sym (rw (zero-add, v) at d))
+
+first-counts : (b : ℕ) → digitOf b < 10 → (b ≡ 48 → ⊥) → 0 < digitOf b
+first-counts b h k = ⊎-elim
+    (λ (l : digitOf b < 1). absurd (k (sym (glyph-of-digit b (omega arith)) ∙ glyph-low (digitOf b) h ∙ omega arith)))
+    (λ (l : 1 ≤ digitOf b). l)
+    (split (digitOf b) 1)
+
+few : (p n : ℕ) → 10 ^ p ≤ n → n < 18446744073709551616 → p ≤ 19
+few p n l h = ⊎-elim
+    (λ (g : p < 20). omega arith)
+    (λ (g : 20 ≤ p). absurd (let m : 10 ^ 20 ≤ 10 ^ p = pow-le-pow-right (omega arith) g in let t : 10 ^ 20 ≤ n = le-trans m l in omega arith))
+    (split p 20)
+
+long-places : (b c : ℕ) (bs : List ℕ) (n : ℕ) → all (isDigit 10) (b ∷ c ∷ bs) ≡ true → (b ≡ 48 → ⊥) → valueOf 10 (b ∷ c ∷ bs) ≡ n → n < 18446744073709551616 →
+    placesOf n ≡ length (b ∷ c ∷ bs)
+unfolding valueFrom isDigit
+long-places b c bs n a k v h =
+    let d : digitOf b < 10 = ltb-true (digitOf b) 10 (true-left (ltb (digitOf b) 10) (all (isDigit 10) (c ∷ bs)) a) in
+    let o : 0 < digitOf b = first-counts b d k in
+    let w : (0 * 10 + digitOf b) * 10 ^ length (c ∷ bs) ≤ valueOf 10 (b ∷ c ∷ bs) = value-lower 10 (0 * 10 + digitOf b) (c ∷ bs) in
+    let g : 1 ≤ 0 * 10 + digitOf b = omega arith in
+    let m : 1 * 10 ^ length (c ∷ bs) ≤ (0 * 10 + digitOf b) * 10 ^ length (c ∷ bs) = mul-le-mul-right (10 ^ length (c ∷ bs)) g in
+    let l : 10 ^ length (c ∷ bs) ≤ n = rw (one-mul, v) at (le-trans m w) in
+    let u : n < (0 + 1) * 10 ^ length (b ∷ c ∷ bs) = rw v at (bounded 10 0 (b ∷ c ∷ bs) a) in
+    places-between 19 (length (c ∷ bs)) n l (rw (zero-add, one-mul) at u) (few (length (c ∷ bs)) n l h)
+
+pub read-count-prints : (bs : List ℕ) (n : ℕ) → counted bs ≡ Value n → bs ≡ decimalOf n
+unfolding counted unpadded isDigit valueFrom
+read-count-prints [] n e = absurd (let z : _≡_ {A = ℕ} 0 1 = cc in omega arith)
+read-count-prints (b ∷ []) n e =
+    let r = read-if (true && all (isDigit 10) (b ∷ []) && ltb (valueOf 10 (b ∷ [])) 18446744073709551616) (valueOf 10 (b ∷ [])) n e in
+    let a : all (isDigit 10) (b ∷ []) ≡ true = true-left (all (isDigit 10) (b ∷ [])) (ltb (valueOf 10 (b ∷ [])) 18446744073709551616) (r .0) in
+    let d : digitOf b < 10 = ltb-true (digitOf b) 10 (true-left (ltb (digitOf b) 10) true a) in
+    let v : 0 * 10 + digitOf b ≡ n = r .1 in
+    digits-printed (b ∷ []) n a (r .1) (places-small 19 n (omega arith))
+read-count-prints (b ∷ c ∷ bs) n e =
+    let xs = b ∷ c ∷ bs in
+    let r = read-if (not (eqb b 48) && all (isDigit 10) xs && ltb (valueOf 10 xs) 18446744073709551616) (valueOf 10 xs) n e in
+    let t : (not (eqb b 48) && all (isDigit 10) xs) ≡ true = true-left (not (eqb b 48) && all (isDigit 10) xs) (ltb (valueOf 10 xs) 18446744073709551616) (r .0) in
+    let q : ltb (valueOf 10 xs) 18446744073709551616 ≡ true = true-right (not (eqb b 48) && all (isDigit 10) xs) (ltb (valueOf 10 xs) 18446744073709551616) (r .0) in
+    let a : all (isDigit 10) xs ≡ true = true-right (not (eqb b 48)) (all (isDigit 10) xs) t in
+    let f : eqb b 48 ≡ false = not-true (eqb b 48) (true-left (not (eqb b 48)) (all (isDigit 10) xs) t) in
+    let s : valueOf 10 xs < 18446744073709551616 = ltb-true (valueOf 10 xs) 18446744073709551616 q in
+    digits-printed xs n a (r .1) (long-places b c bs n a (eqb-false b 48 f) (r .1) (rw (r .1) at s))

@@ -1,16 +1,25 @@
 -- Document 01, "Checked instances": the rows with a star, as one list. A module's rows join it as the module does. Assumes nothing.
-use Prim.Native.Nat.{ℕ}
+use Prim.Native.Nat.{ℕ, _+_}
 use mathlib.Core.Path.{_≡_}
-use mathlib.Core.Bool.{Bool, true}
+use mathlib.Core.Bool.{Bool, true, not}
 use mathlib.Core.Option.{some}
 use mathlib.Core.List.{List, [], _∷_, _++_}
 use lib.Dec.{T, eqb}
 use lib.IntN.{pos}
 use lib.Ieee.{Float, binary64, neg, toBits}
-use Rattle.laws.specs.Floats.{bits, zero64, one64}
+use lib.ListN.{length, replicate}
+use Rattle.laws.specs.Floats.{bits, zero64, one64, two64}
 use Rattle.laws.specs.WholeNumbers.{number}
+use Rattle.laws.specs.Tables.{tri}
+use Rattle.laws.specs.Runs.{runsOf}
 use Rattle.root.specs.Root.{sqrt}
 use Rattle.numbers.specs.Numbers.{sine, cosine, arctangent, power}
+use Rattle.slices.specs.Calls.{left}
+use Rattle.slices.specs.declared.Outcome.the-variants.{Accepted, Refused}
+use Rattle.model.specs.Model.{bracket, weight}
+use Rattle.filter.specs.Filter.{pass}
+use Rattle.least_squares.specs.Calls.{leastSquaresCall}
+use Rattle.finality.specs.Brackets.{covers}
 use Rattle.finality.specs.Kernels.{stagesOf}
 use Rattle.finality.specs.Sheet.{Submission, horizon}
 use Rattle.finality.specs.Toy.{toy}
@@ -49,9 +58,41 @@ angles =
     ∷ gives (arctangent zero64 (neg one64)) 0x4009_21fb_5444_2d18
     ∷ []
 
--- 2 to the 10th: 1,024
+-- 2 to the 10th: 1,024; index (2, 1) is 4, (180, 180) is 16,470
 abbrev pub powers : List Instance
-powers = gives (power (number 2) 10 one64) 0x4090_0000_0000_0000 ∷ []
+powers =
+    gives (power (number 2) 10 one64) 0x4090_0000_0000_0000
+    ∷ counts (tri 2 + 1) 4
+    ∷ counts (tri 180 + 180) 16470
+    ∷ []
+
+abbrev pub fieldTimes : List Float
+fieldTimes = number 0 ∷ number 10800 ∷ number 21600 ∷ []
+
+-- fields at 0, 10800, 21600: t = 10800 takes the second, weight 0; t = 5400 weight 0.5; 21600 uncovered
+abbrev pub brackets : List Instance
+brackets =
+    counts (bracket fieldTimes (number 10800)) 1
+    ∷ gives (weight fieldTimes (number 10800) 1) 0
+    ∷ gives (weight fieldTimes (number 5400) 0) 0x3fe0_0000_0000_0000
+    ∷ says (not (covers fieldTimes (number 21600)))
+    ∷ []
+
+-- step 3.0 joins, the next double above splits; 64 samples zeros; 65 zeros give zeros
+abbrev pub filtered : List Instance
+filtered =
+    states (runsOf (zero64 ∷ bits 0x4008000000000000 ∷ []) ≡ 2 ∷ [])
+    ∷ states (runsOf (zero64 ∷ bits 0x4008000000000001 ∷ []) ≡ 1 ∷ 1 ∷ [])
+    ∷ states ((x : List Float) → length x ≡ 64 → pass x ≡ replicate 64 zero64)
+    ∷ states (pass (replicate 65 zero64) ≡ replicate 65 zero64)
+    ∷ []
+
+-- least squares of rows 1, 1 on 2, 4: 3, with the residuals −1 and 1; a zero column: refused 9
+abbrev pub solutions : List Instance
+solutions =
+    states (leastSquaresCall (one64 ∷ one64 ∷ []) (two64 ∷ bits 0x4010000000000000 ∷ []) 1 (zero64 ∷ []) (zero64 ∷ zero64 ∷ []) ≡ left Accepted ((bits 0x4008000000000000 ∷ []) ∷ (bits 0xbff0000000000000 ∷ one64 ∷ []) ∷ []) [])
+    ∷ states (leastSquaresCall (zero64 ∷ zero64 ∷ []) (two64 ∷ bits 0x4010000000000000 ∷ []) 1 (one64 ∷ []) (one64 ∷ one64 ∷ []) ≡ left (Refused 9) ((zero64 ∷ []) ∷ (zero64 ∷ zero64 ∷ []) ∷ []) [])
+    ∷ []
 
 -- nodes 10000 and 15000, and every other list ends at second k, as a time t; of the toy's stages, since a horizon looks at times alone
 abbrev pub ending : ℕ → Float → Submission (stagesOf toy)
@@ -74,4 +115,4 @@ horizons =
     ∷ []
 
 abbrev pub instances : List Instance
-instances = roots ++ (angles ++ (powers ++ horizons))
+instances = roots ++ (angles ++ (powers ++ (brackets ++ (filtered ++ (solutions ++ horizons)))))
