@@ -1,1 +1,2 @@
 pub mod Rescaled
+pub mod Calls

@@ -81,3 +81,6 @@ fits-says N a b w h =
 -- the diagonal is no longer than a table
 pub heads-in : (N : ℕ) → N + 1 ≤ size N
 heads-in N = omega (arith, tri-next N)
+
+pub rows-to : (f : ℕ → ℕ → Float) (out : List Float) (i j : ℕ) → i ≡ j → take (tri i) out ≡ rows f i → take (tri j) out ≡ rows f j
+rows-to f out i j e h = ap (λ (k : ℕ). take (tri k) out) (sym e) ∙ h ∙ ap (rows f) e

@@ -102,7 +102,7 @@ room-in N l a b work t u lon f e =
       record { c = omega (arith, part-length work 0 l (omega arith)); s = omega (arith, part-length work l (2 * l) (omega arith)) },
     )
 
-fits-true : (N a b w : ℕ) → Fits N a b w → fitsIn N a b w ≡ true
+pub fits-true : (N a b w : ℕ) → Fits N a b w → fitsIn N a b w ≡ true
 fits-true N a b w f = rw (le-leb N 180 (f .degree), eq-eqb a (size N) (f .a), eq-eqb b (size N) (f .b), le-leb (8 * size N) w (f .work))
 
 module _ (N : ℕ) (gm radius : Float) (a b work : List Float) (r lat lon : Float) where

@@ -5,5 +5,6 @@ mod Pres
 mod Added
 mod Filling
 mod Kernel
+mod Whole
 mod Series
 pub mod Published

@@ -1,6 +1,7 @@
 -- The tables that `tabulate` fills and a prepared work slice are the true ones: the kernel's value is the published series. Assumes nothing.
 use Prim.Native.Nat.{ℕ, zero, suc, _+_, _-_, _*_, _≤_, _<_}
 use mathlib.Core.Path.{_≡_, refl, sym, ap, ap₂, _∙_, subst}
+use mathlib.Core.Bool.{true}
 use mathlib.Core.List.{List, _++_, append-assoc}
 use native.Mathlib.Omega.{arith}
 use borrow.Author.Tests.{le-leb}
@@ -8,15 +9,18 @@ use lib.ListN.{length, take, drop, length-append, length-drop}
 use lib.Seq.{take-at, drop-at, drop-drop, length-take-le}
 use lib.Ieee.{Float}
 use Rattle.laws.specs.Floats.{_⊘_}
-use Rattle.laws.specs.Tables.{tri, row, rows, rows-at, row-at, rows-length, row-length}
+use Rattle.laws.specs.Tables.{tri, row, rows, rows-at, row-at, row-same, rows-length, row-length}
 use Rattle.numbers.specs.Numbers.{sine, cosine}
-use Rattle.series.specs.Legendre.{aOf, bOf, lowerOf, upperOf, diagonal}
-use Rattle.series.specs.Rows.{Tables, tablesOf}
-use Rattle.series.specs.Field.{finished, size, part, Fits, partialsWith, partialsOf}
+use Rattle.series.specs.Legendre.{aOf, bOf, lowerOf, upperOf, diagonal, legendre, derived}
+use Rattle.series.specs.Arrays.{from}
+use Rattle.series.specs.Rows.{Tables, tablesOf, legendreBy, derivedBy}
+use Rattle.series.specs.Sums.{evaluation, degrees}
+use Rattle.series.specs.Field.{totals, finished, size, part, lentTables, tablesIn, Fits, partialsBy, partialsWith, partialsOf}
 use Rattle.series.specs.Prepared.{prepared}
-use Rattle.series.proofs.Series.{TrueTables, series}
+use Rattle.series.specs.Tables.{derivedFrom, derivedWith, bothFit, legendreWith, derivativeWith}
+use Rattle.series.proofs.Series.{TrueTables, p-true, d-true, series, factors}
 use Rattle.series.proofs.Filling.{heads-in}
-use Rattle.series.proofs.Kernel.{evaluated}
+use Rattle.series.proofs.Kernel.{evaluated, fits-true}
 
 -- a work slice whose tables are those of degree N
 pub record IsPrepared (N : ℕ) (work : List Float) : Type 0 where
@@ -34,15 +38,35 @@ true-tables N = record {
   heads = λ m h. row-at diagonal (N + 1) m (omega arith);
 }
 
--- with the true tables the kernel's value is the published series of the work slice's C and S
+-- lent tables that `Legendre::new` filled give the published series
+pub lent-published : (N : ℕ) (gm radius : Float) (c s : List Float) (r lat lon : Float) → partialsBy N gm radius (rows aOf (N + 1)) (rows bOf (N + 1)) c s r lat lon ≡ partialsOf N gm radius c s r lat lon
+unfolding partialsBy partialsOf
+lent-published N gm radius c s r lat lon = ap (finished gm r) (series N (lentTables N (rows aOf (N + 1)) (rows bOf (N + 1))) (sine lat) (cosine lat) (true-tables N) lon c s (radius ⊘ r))
+
+-- the same of the Legendre functions and their derivatives
+pub lent-legendre : (N : ℕ) (t u : Float) (n m : ℕ) → m ≤ n → n ≤ N → legendreBy (lentTables N (rows aOf (N + 1)) (rows bOf (N + 1))) t u n m ≡ legendre t u n m
+lent-legendre N t u n m l h = p-true N (lentTables N (rows aOf (N + 1)) (rows bOf (N + 1))) t (true-tables N) u n m l h
+
+pub lent-derived : (N : ℕ) (t u : Float) (n m : ℕ) → m ≤ n → n ≤ N → derivedBy (lentTables N (rows aOf (N + 1)) (rows bOf (N + 1))) t u n m ≡ derived (legendre t u) n m
+lent-derived N t u n m l h = d-true N (lentTables N (rows aOf (N + 1)) (rows bOf (N + 1))) t u (true-tables N) n m l h
+
+-- a prepared work slice adds the true tables to the lent ones
+pub tables-are : (N : ℕ) (a b work : List Float) → IsPrepared N work → tablesIn N a b work ≡ lentTables N a b
+tables-are N a b work p = λ i. tablesOf a b (p .lower i) (p .upper i) (p .heads i)
+
+pub prepared-partials : (N : ℕ) (gm radius : Float) (a b work : List Float) (r lat lon : Float) → N ≤ 180 → length a ≡ size N → length b ≡ size N → IsPrepared N work →
+    partialsWith N gm radius a b work r lat lon ≡ partialsBy N gm radius a b (part work 0 (size N)) (part work (size N) (2 * size N)) r lat lon
+unfolding partialsBy
+prepared-partials N gm radius a b work r lat lon h la lb p =
+    sym (evaluated N gm radius a b work r lat lon (record { degree = h; a = la; b = lb; work = p .room }))
+    ∙ ap (λ (T : Tables). finished gm r (totals (degrees (evaluation T (sine lat) (cosine lat) lon (part work 0 (size N)) (part work (size N) (2 * size N)))) (radius ⊘ r) (N + 1))) (tables-are N a b work p)
+
+-- with the tables of `Legendre::new` and a prepared work slice, the kernel's value is the published series of the slice's C and S
 pub published-partials : (N : ℕ) (gm radius : Float) (work : List Float) (r lat lon : Float) → N ≤ 180 → IsPrepared N work →
     partialsWith N gm radius (rows aOf (N + 1)) (rows bOf (N + 1)) work r lat lon ≡ partialsOf N gm radius (part work 0 (size N)) (part work (size N) (2 * size N)) r lat lon
-unfolding partialsOf
 published-partials N gm radius work r lat lon h p =
-    sym (evaluated N gm radius (rows aOf (N + 1)) (rows bOf (N + 1)) work r lat lon (record { degree = h; a = rows-length aOf (N + 1); b = rows-length bOf (N + 1); work = p .room }))
-    ∙ ap (finished gm r)
-    (series N (tablesOf (rows aOf (N + 1)) (rows bOf (N + 1)) (part work (2 * size N) (3 * size N)) (part work (3 * size N) (4 * size N)) (part work (4 * size N) (4 * size N + (N + 1)))) (sine lat) (cosine lat)
-    (subst (TrueTables N) (sym (λ i. tablesOf (rows aOf (N + 1)) (rows bOf (N + 1)) (p .lower i) (p .upper i) (p .heads i))) (true-tables N)) lon (part work 0 (size N)) (part work (size N) (2 * size N)) (radius ⊘ r))
+    prepared-partials N gm radius (rows aOf (N + 1)) (rows bOf (N + 1)) work r lat lon h (rows-length aOf (N + 1)) (rows-length bOf (N + 1)) p
+    ∙ lent-published N gm radius (part work 0 (size N)) (part work (size N) (2 * size N)) r lat lon
 
 -- ---- what `prepare` leaves is prepared
 
@@ -115,3 +139,29 @@ prepared-stays N w w' l q p = record {
   upper = sym (part-later w w' (2 * size N) (3 * size N) (4 * size N) (omega arith) q) ∙ p .upper;
   heads = sym (part-later w w' (2 * size N) (4 * size N) (4 * size N + (N + 1)) (omega arith) q) ∙ p .heads;
 }
+
+-- whole tables by a prepared work slice
+pub prepared-legendre : (N : ℕ) (a b work : List Float) (lat : Float) (p dp : List Float) → Fits N (length a) (length b) (length work) → Fits N (length p) (length dp) (length work) → IsPrepared N work →
+    (legendreWith N a b work lat p dp ≡ rows (legendreBy (lentTables N a b) (sine lat) (cosine lat)) (N + 1)) × (derivativeWith N a b work lat p dp ≡ rows (derivedBy (lentTables N a b) (sine lat) (cosine lat)) (N + 1))
+unfolding legendreWith derivativeWith
+prepared-legendre N a b work lat p dp f g h =
+    let e : bothFit N a b work p dp ≡ true = rw (fits-true N (length a) (length b) (length work) f, fits-true N (length p) (length dp) (length work) g) in (
+      rw e (ap (λ (T : Tables). rows (legendreBy T (sine lat) (cosine lat)) (N + 1)) (tables-are N a b work h)),
+      rw e (ap (λ (T : Tables). rows (derivedBy T (sine lat) (cosine lat)) (N + 1)) (tables-are N a b work h)),
+    )
+
+-- two tables that hold the same are equal as lists
+pub rows-same : (f g : ℕ → ℕ → Float) (k : ℕ) → ((n m : ℕ) → m ≤ n → n < k → f n m ≡ g n m) → rows f k ≡ rows g k
+unfolding rows
+rows-same f g zero h = refl
+rows-same f g (suc k) h = ap₂ (λ (x y : List Float). x ++ y) (rows-same f g k (λ n m l j. h n m l (omega arith))) (row-same (f k) (g k) (suc k) (λ m l. h k m (omega arith) (omega arith)))
+
+pub prepared-derived : (N : ℕ) (p work dp : List Float) → Fits N (length p) (length dp) (length work) → IsPrepared N work →
+    derivedWith N p work dp ≡ rows (derived (λ n. from p (tri n))) (N + 1)
+unfolding derivedWith
+prepared-derived N p work dp f h =
+    rw (fits-true N (length p) (length dp) (length work) f) (
+    (λ i. rows (derivedFrom (h .lower i) (h .upper i) p) (N + 1))
+    ∙ rows-same (derivedFrom (rows lowerOf (N + 1)) (rows upperOf (N + 1)) p) (derived (λ n. from p (tri n))) (N + 1)
+    (λ n m l k. factors n (from p (tri n)) (λ i a j. rows-at lowerOf (N + 1) n i k j) (λ i j. rows-at upperOf (N + 1) n i k (omega arith)) m l)
+    )

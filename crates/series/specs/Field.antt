@@ -8,8 +8,9 @@ use lib.Dec.{eqb, leb}
 use lib.ListN.{length, take, drop}
 use lib.Ieee.{Float}
 use Rattle.laws.specs.Floats.{_⊗_, _⊘_, zero64}
-use Rattle.laws.specs.Tables.{tri}
+use Rattle.laws.specs.Tables.{tri, row, rows}
 use Rattle.numbers.specs.Numbers.{sine, cosine}
+use Rattle.series.specs.Legendre.{lowerOf, upperOf, diagonal}
 use Rattle.series.specs.Rows.{Tables, tablesOf}
 use Rattle.series.specs.Sums.{Degree, Evaluation, evaluation, degrees, published, allV, allR, allLat, allLon}
 use Rattle.series.specs.declared.Totals.{Totals}
@@ -28,7 +29,18 @@ finished gm r z =
 unfoldable pub partialsOf : ℕ → Float → Float → List Float → List Float → Float → Float → Float → Partials
 partialsOf N gm radius c s r lat lon = finished gm r (totals (published (sine lat) (cosine lat) lon c s) (radius ⊘ r) (N + 1))
 
--- ---- from tables as given
+-- ---- from lent tables
+
+-- lent tables a, b of the recursion, beside the true ones of the derivative and the diagonal
+abbrev pub lentTables : ℕ → List Float → List Float → Tables
+lentTables N a b = tablesOf a b (rows lowerOf (N + 1)) (rows upperOf (N + 1)) (row diagonal (N + 1))
+
+-- the partials from lent tables; those that `Legendre::new` fills give the published series (proofs/Published)
+unfoldable pub partialsBy : ℕ → Float → Float → List Float → List Float → List Float → List Float → Float → Float → Float → Partials
+partialsBy N gm radius a b c s r lat lon =
+    finished gm r (totals (degrees (evaluation (lentTables N a b) (sine lat) (cosine lat) lon c s)) (radius ⊘ r) (N + 1))
+
+-- ---- from a work slice
 
 -- L, the length of a table of degree N
 abbrev pub size : ℕ → ℕ

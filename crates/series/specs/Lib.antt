@@ -4,3 +4,4 @@ pub mod Rows
 pub mod Sums
 pub mod Field
 pub mod Prepared
+pub mod Tables

@@ -10,10 +10,11 @@ ghost use Rattle.laws.specs.WholeNumbers.{number};
 ghost use Rattle.laws.specs.Tables.{tri, row, rows};
 ghost use Rattle.series.specs.Legendre.{aOf, bOf, lowerOf, upperOf, ratio, diagonal, unscale, derivedRow};
 ghost use Rattle.series.specs.Arrays.{at, from, Begins, Has};
-ghost use Rattle.series.specs.Rows.{nextRow, tablesOf, Holds, Room};
+ghost use Rattle.series.specs.Rows.{nextRow, tablesOf, legendreBy, derivedBy, Holds, Room};
 ghost use Rattle.series.specs.Sums.{RowSums, degreeOf, cosines, sines, evaluation, degrees, FieldRoom, AllSums};
 ghost use Rattle.series.specs.Field.{totals as totalsOf, size, Fits, fitsIn, finished, evaluationIn, partialsWith};
 ghost use Rattle.series.specs.Prepared.{factorOf, tabulated, prepared};
+ghost use Rattle.series.specs.Tables.{derivedFrom, derivedWith, legendreWith, derivativeWith};
 
 const SCALE: f64 = 1e-280;
 
@@ -625,5 +626,229 @@ pub fn evaluate(
         dr: 0.0,
         dlat: 0.0,
         dlon: 0.0,
+    }
+}
+
+// The first numbers of an array as row n of a table, at k.
+fn store_row(n: usize, k: usize, x: &[f64; 184], out: &mut [f64])
+    requires { ⌜ (n ≤ 180) × (k + (n + 1) ≤ length (now out)) × (length (now x) ≡ 184) ⌝ }
+    ensures { λ _. ⌜ take (k + (n + 1)) (now (out .exit)) ≡ take k (now (out .entry)) ++ row (at (now (x .entry))) (n + 1) ⌝ }
+{
+    let mut m = 0;
+    while m <= n {
+        out[k + m] = x[m];
+        m += 1;
+    }
+}
+
+// And back.
+fn load_row(n: usize, k: usize, p: &[f64], x: &mut [f64; 184])
+    requires { ⌜ (n ≤ 180) × (k + n < length (now p)) × (length (now x) ≡ 184) ⌝ }
+    ensures { λ _. ⌜ Has (n + 1) (from (now (p .entry)) k) (now (x .exit)) ⌝ }
+{
+    let mut m = 0;
+    while m <= n {
+        x[m] = p[k + m];
+        m += 1;
+    }
+}
+
+// Row n of the derivative of the table p.
+fn derive_one(
+    n: usize,
+    k: usize,
+    lower: &[f64],
+    upper: &[f64],
+    p: &[f64],
+    x: &mut [f64; 184],
+    d: &mut [f64; 184],
+    dp: &mut [f64],
+)
+    requires { ⌜ (n ≤ 180) × (k + n < length (now lower)) × (k + n < length (now upper)) × (k + n < length (now p)) × (length (now x) ≡ 184) × (length (now d) ≡ 184) × (k + (n + 1) ≤ length (now dp)) ⌝ }
+    ensures { λ _. ⌜ (take (k + (n + 1)) (now (dp .exit)) ≡ take k (now (dp .entry)) ++ row (derivedRow n (from (now (lower .entry)) k) (from (now (upper .entry)) k) (from (now (p .entry)) k)) (n + 1)) × (length (now (x .exit)) ≡ 184) × (length (now (d .exit)) ≡ 184) ⌝ }
+{
+    load_row(n, k, p, x);
+    derived_row(n, k, lower, upper, x, d);
+    store_row(n, k, d, dp);
+}
+
+fn derive_rows(
+    degree: usize,
+    lower: &[f64],
+    upper: &[f64],
+    p: &[f64],
+    x: &mut [f64; 184],
+    d: &mut [f64; 184],
+    dp: &mut [f64],
+)
+    requires { ⌜ (degree ≤ 180) × (length (now lower) ≡ size degree) × (length (now upper) ≡ size degree) × (length (now p) ≡ size degree) × (length (now x) ≡ 184) × (length (now d) ≡ 184) × (length (now dp) ≡ size degree) ⌝ }
+    ensures { λ _. ⌜ now (dp .exit) ≡ rows (derivedFrom (now (lower .entry)) (now (upper .entry)) (now (p .entry))) (degree + 1) ⌝ }
+{
+    let mut n = 0;
+    while n <= degree {
+        let k = tri_of(n);
+        derive_one(n, k, lower, upper, p, x, d, dp);
+        n += 1;
+    }
+}
+
+fn derive_in(degree: usize, p: &[f64], work: &[f64], dp: &mut [f64])
+    requires { ⌜ Fits degree (length (now p)) (length (now dp)) (length (now work)) ⌝ }
+    ensures { λ _. ⌜ now (dp .exit) ≡ derivedWith degree (now (p .entry)) (now (work .entry)) (now (dp .entry)) ⌝ }
+{
+    let l = tri_of(degree + 1);
+    let l2 = 2 * l;
+    let l3 = 3 * l;
+    let l4 = 4 * l;
+    let mut x = [0.0; 184];
+    let mut d = [0.0; 184];
+    derive_rows(degree, &work[l2..l3], &work[l3..l4], p, &mut x, &mut d, dp);
+}
+
+// The derivative of a table by the factors of a prepared work slice.
+pub fn derive(degree: usize, p: &[f64], work: &[f64], dp: &mut [f64])
+    ensures { λ _. ⌜ now (dp .exit) ≡ derivedWith degree (now (p .entry)) (now (work .entry)) (now (dp .entry)) ⌝ }
+{
+    if fits(degree, p.len(), dp.len(), work.len()) {
+        derive_in(degree, p, work, dp);
+    }
+}
+
+// Row n of the Legendre table and of its derivative. (u is named by the contract alone.)
+fn compute_one(
+    n: usize,
+    t: f64,
+    u: f64,
+    a: &[f64],
+    b: &[f64],
+    lower: &[f64],
+    upper: &[f64],
+    heads: &[f64],
+    r: &[f64; 184],
+    q1: &[f64; 184],
+    q2: &mut [f64; 184],
+    x: &mut [f64; 184],
+    d: &mut [f64; 184],
+    p: &mut [f64],
+    dp: &mut [f64],
+)
+    requires { ⌜ (n ≤ 180) × Room n (tablesOf (now a) (now b) (now lower) (now upper) (now heads)) × Has (n + 1) (unscale u) (now r) × Holds (tablesOf (now a) (now b) (now lower) (now upper) (now heads)) t (suc n) (now q1) × Holds (tablesOf (now a) (now b) (now lower) (now upper) (now heads)) t n (now q2) × (length (now x) ≡ 184) × (length (now d) ≡ 184) × (tri n + (n + 1) ≤ length (now p)) × (tri n + (n + 1) ≤ length (now dp)) ⌝ }
+    ensures { λ _. ⌜ Holds (tablesOf (now (a .entry)) (now (b .entry)) (now (lower .entry)) (now (upper .entry)) (now (heads .entry))) t (suc (suc n)) (now (q2 .exit)) × (length (now (x .exit)) ≡ 184) × (length (now (d .exit)) ≡ 184) × (take (tri n + (n + 1)) (now (p .exit)) ≡ take (tri n) (now (p .entry)) ++ row (legendreBy (tablesOf (now (a .entry)) (now (b .entry)) (now (lower .entry)) (now (upper .entry)) (now (heads .entry))) t u n) (n + 1)) × (take (tri n + (n + 1)) (now (dp .exit)) ≡ take (tri n) (now (dp .entry)) ++ row (derivedBy (tablesOf (now (a .entry)) (now (b .entry)) (now (lower .entry)) (now (upper .entry)) (now (heads .entry))) t u n) (n + 1)) ⌝ }
+{
+    let k = tri_of(n);
+    legendre_row(n, k, t, heads[n], a, b, r, q1, q2, x);
+    derived_row(n, k, lower, upper, x, d);
+    store_row(n, k, x, p);
+    store_row(n, k, d, dp);
+}
+
+// All rows, two a turn.
+fn compute_rows(
+    degree: usize,
+    t: f64,
+    u: f64,
+    a: &[f64],
+    b: &[f64],
+    lower: &[f64],
+    upper: &[f64],
+    heads: &[f64],
+    r: &[f64; 184],
+    qa: &mut [f64; 184],
+    qb: &mut [f64; 184],
+    x: &mut [f64; 184],
+    d: &mut [f64; 184],
+    p: &mut [f64],
+    dp: &mut [f64],
+)
+    requires { ⌜ (degree ≤ 180) × Room degree (tablesOf (now a) (now b) (now lower) (now upper) (now heads)) × Has (degree + 1) (unscale u) (now r) × Holds (tablesOf (now a) (now b) (now lower) (now upper) (now heads)) t 0 (now qa) × Holds (tablesOf (now a) (now b) (now lower) (now upper) (now heads)) t 1 (now qb) × (length (now x) ≡ 184) × (length (now d) ≡ 184) × (length (now p) ≡ size degree) × (length (now dp) ≡ size degree) ⌝ }
+    ensures { λ _. ⌜ (now (p .exit) ≡ rows (legendreBy (tablesOf (now (a .entry)) (now (b .entry)) (now (lower .entry)) (now (upper .entry)) (now (heads .entry))) t u) (degree + 1)) × (now (dp .exit) ≡ rows (derivedBy (tablesOf (now (a .entry)) (now (b .entry)) (now (lower .entry)) (now (upper .entry)) (now (heads .entry))) t u) (degree + 1)) ⌝ }
+{
+    let mut n = 0;
+    while n < degree {
+        compute_one(n, t, u, a, b, lower, upper, heads, r, qb, qa, x, d, p, dp);
+        compute_one(
+            n + 1,
+            t,
+            u,
+            a,
+            b,
+            lower,
+            upper,
+            heads,
+            r,
+            qa,
+            qb,
+            x,
+            d,
+            p,
+            dp,
+        );
+        n += 2;
+    }
+    if n == degree {
+        compute_one(n, t, u, a, b, lower, upper, heads, r, qb, qa, x, d, p, dp);
+    }
+}
+
+fn compute_in(
+    degree: usize,
+    a: &[f64],
+    b: &[f64],
+    work: &[f64],
+    lat: f64,
+    p: &mut [f64],
+    dp: &mut [f64],
+)
+    requires { ⌜ Fits degree (length (now a)) (length (now b)) (length (now work)) × Fits degree (length (now p)) (length (now dp)) (length (now work)) ⌝ }
+    ensures { λ _. ⌜ (now (p .exit) ≡ legendreWith degree (now (a .entry)) (now (b .entry)) (now (work .entry)) lat (now (p .entry)) (now (dp .entry))) × (now (dp .exit) ≡ derivativeWith degree (now (a .entry)) (now (b .entry)) (now (work .entry)) lat (now (p .entry)) (now (dp .entry))) ⌝ }
+{
+    let l = tri_of(degree + 1);
+    let l2 = 2 * l;
+    let l3 = 3 * l;
+    let l4 = 4 * l;
+    let end = l4 + (degree + 1);
+    let w = numbers::sine_cosine(lat);
+    let mut r = [0.0; 184];
+    let mut qa = [0.0; 184];
+    let mut qb = [0.0; 184];
+    let mut x = [0.0; 184];
+    let mut d = [0.0; 184];
+    unscale_row(degree, w.cosine, &mut r);
+    compute_rows(
+        degree,
+        w.sine,
+        w.cosine,
+        a,
+        b,
+        &work[l2..l3],
+        &work[l3..l4],
+        &work[l4..end],
+        &r,
+        &mut qa,
+        &mut qb,
+        &mut x,
+        &mut d,
+        p,
+        dp,
+    );
+}
+
+// The Legendre table at a latitude and its derivative, by a prepared work slice and the recursion's tables.
+pub fn compute(
+    degree: usize,
+    a: &[f64],
+    b: &[f64],
+    work: &[f64],
+    lat: f64,
+    p: &mut [f64],
+    dp: &mut [f64],
+)
+    ensures { λ _. ⌜ (now (p .exit) ≡ legendreWith degree (now (a .entry)) (now (b .entry)) (now (work .entry)) lat (now (p .entry)) (now (dp .entry))) × (now (dp .exit) ≡ derivativeWith degree (now (a .entry)) (now (b .entry)) (now (work .entry)) lat (now (p .entry)) (now (dp .entry))) ⌝ }
+{
+    if slices::both(
+        fits(degree, a.len(), b.len(), work.len()),
+        fits(degree, p.len(), dp.len(), work.len()),
+    ) {
+        compute_in(degree, a, b, work, lat, p, dp);
     }
 }

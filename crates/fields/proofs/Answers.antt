@@ -1,0 +1,100 @@
+-- What the calls hand out and leave behind. Assumes nothing.
+use Prim.Native.Nat.{ℕ, zero, suc, _+_, _*_, _≤_, _<_}
+use mathlib.Core.Path.{_≡_, refl, sym, ap, ap₂, _∙_}
+use mathlib.Core.Bool.{Bool, true, false, cond, _&&_}
+use mathlib.Core.List.{List, [], _∷_}
+use native.Mathlib.Omega.{arith}
+use borrow.Author.Tests.{le-leb, eq-eqb}
+use lib.ListN.{length, replicate}
+use lib.Ieee.{Float}
+use lib.Ieee.Scale.{finite}
+use Rattle.laws.specs.Floats.{zero64}
+use Rattle.laws.specs.Checks.{all}
+use Rattle.laws.specs.Loops.{cleared}
+use Rattle.laws.specs.Tables.{tri, rows, rows-length}
+use Rattle.slices.specs.Calls.{Left, left, handed, settled}
+use Rattle.slices.specs.declared.Outcome.{Outcome}
+use Rattle.slices.specs.declared.Outcome.the-variants.{Accepted, Refused}
+use Rattle.slices.proofs.Calls.{call-refused}
+use Rattle.series.specs.Legendre.{aOf, bOf}
+use Rattle.series.specs.Field.{size, Fits}
+use Rattle.series.specs.Prepared.{factorOf, tabulated}
+use Rattle.series.specs.declared.Factor.{Factor}
+use Rattle.series.specs.declared.Factor.the-variants.{RecursionA, RecursionB}
+use Rattle.fields.specs.Calls.{handedTwo, handedOne, twoTables, refusalOf, newCall}
+use Rattle.fields.proofs.Refusals.{passed, two-say}
+
+-- ---- handed out
+
+and-last : (b : Bool) → (b && true) ≡ b
+and-last true = refl
+and-last false = refl
+
+two-finite : (x y : List Float) → (all finite x && all finite y) ≡ all (all finite) (x ∷ y ∷ [])
+two-finite x y = ap (λ (b : Bool). all finite x && b) (sym (and-last (all finite y)))
+
+pub two-fine : (x y : List Float) (a b c : Bool) → a ≡ all finite x → b ≡ all finite y → c ≡ a && b → c ≡ true → left Accepted (x ∷ y ∷ []) [] ≡ handedTwo x y
+two-fine x y a b c ea eb ec h =
+    ap (λ (i : Bool). handed Accepted Refused i (x ∷ y ∷ []) (x ∷ y ∷ []) []) (sym h ∙ ec ∙ ap₂ (λ (i j : Bool). i && j) ea eb ∙ two-finite x y)
+
+pub two-not : (x y x' y' : List Float) (a b c : Bool) → a ≡ all finite x → b ≡ all finite y → c ≡ a && b → c ≡ false → x' ≡ cleared x → y' ≡ cleared y →
+    left (Refused 10) (x' ∷ y' ∷ []) [] ≡ handedTwo x y
+two-not x y x' y' a b c ea eb ec h ex ey =
+    ap₂ (λ (i j : List Float). left (Refused 10) (i ∷ j ∷ []) []) ex ey
+    ∙ ap (λ (i : Bool). handed Accepted Refused i (x ∷ y ∷ []) (x ∷ y ∷ []) []) (sym h ∙ ec ∙ ap₂ (λ (i j : Bool). i && j) ea eb ∙ two-finite x y)
+
+pub one-fine : (x : List Float) (c : Bool) → c ≡ all finite x → c ≡ true → left Accepted (x ∷ []) [] ≡ handedOne x
+one-fine x c e h = ap (λ (i : Bool). handed Accepted Refused i (x ∷ []) (x ∷ []) []) (sym h ∙ e ∙ sym (and-last (all finite x)))
+
+pub one-not : (x x' : List Float) (c : Bool) → c ≡ all finite x → c ≡ false → x' ≡ cleared x → left (Refused 10) (x' ∷ []) [] ≡ handedOne x
+one-not x x' c e h ex =
+    ap (λ (i : List Float). left (Refused 10) (i ∷ []) []) ex
+    ∙ ap (λ (i : Bool). handed Accepted Refused i (x ∷ []) (x ∷ []) []) (sym h ∙ e ∙ sym (and-last (all finite x)))
+
+-- ---- left behind: the outputs hold X and Y, as long as they were, and the scratch is cleared
+
+same-cleared : (x y : List Float) → length x ≡ length y → cleared x ≡ cleared y
+same-cleared x y e = ap (λ (n : ℕ). replicate n zero64) e
+
+with-two : (b : Bool) (X Y x y w : List Float) → length X ≡ length x → length Y ≡ length y →
+    left (handed Accepted Refused b (X ∷ Y ∷ []) (X ∷ Y ∷ []) [] .answer) (handed Accepted Refused b (X ∷ Y ∷ []) (X ∷ Y ∷ []) [] .outputs) (cleared w)
+    ≡ handed Accepted Refused b (X ∷ Y ∷ []) (x ∷ y ∷ []) w
+with-two true X Y x y w e f = refl
+with-two false X Y x y w e f = ap₂ (λ (i j : List Float). left (Refused 10) (i ∷ j ∷ []) (cleared w)) (same-cleared X x e) (same-cleared Y y f)
+
+with-one : (b : Bool) (X x w : List Float) → length X ≡ length x →
+    left (handed Accepted Refused b (X ∷ []) (X ∷ []) [] .answer) (handed Accepted Refused b (X ∷ []) (X ∷ []) [] .outputs) (cleared w)
+    ≡ handed Accepted Refused b (X ∷ []) (x ∷ []) w
+with-one true X x w e = refl
+with-one false X x w e = ap (λ (i : List Float). left (Refused 10) (i ∷ []) (cleared w)) (same-cleared X x e)
+
+pub two-left : (X Y x y w x' y' w' : List Float) (r : Outcome) (g : ℕ) → 0 ≡ g → length X ≡ length x → length Y ≡ length y → w' ≡ cleared w → left r (x' ∷ y' ∷ []) [] ≡ handedTwo X Y →
+    left r (x' ∷ y' ∷ []) w' ≡ settled Accepted Refused g 0 (X ∷ Y ∷ []) (x ∷ y ∷ []) w
+two-left X Y x y w x' y' w' r g eg lx ly ew e =
+    (λ i. left (e i .answer) (e i .outputs) (ew i))
+    ∙ with-two (all (all finite) (X ∷ Y ∷ [])) X Y x y w lx ly ∙ ap (λ (k : ℕ). settled Accepted Refused k 0 (X ∷ Y ∷ []) (x ∷ y ∷ []) w) eg
+
+pub one-left : (X x w x' w' : List Float) (r : Outcome) (g : ℕ) → 0 ≡ g → length X ≡ length x → w' ≡ cleared w → left r (x' ∷ []) [] ≡ handedOne X →
+    left r (x' ∷ []) w' ≡ settled Accepted Refused g 0 (X ∷ []) (x ∷ []) w
+one-left X x w x' w' r g eg lx ew e =
+    (λ i. left (e i .answer) (e i .outputs) (ew i))
+    ∙ with-one (all (all finite) (X ∷ [])) X x w lx ∙ ap (λ (k : ℕ). settled Accepted Refused k 0 (X ∷ []) (x ∷ []) w) eg
+
+-- ---- `legendre_new`
+
+tabulated-rows : (f : Factor) (N : ℕ) (out : List Float) → N ≤ 180 → length out ≡ size N → tabulated f N out ≡ rows (factorOf f) (N + 1)
+unfolding tabulated
+tabulated-rows f N out h e = rw (le-leb N 180 h, eq-eqb (length out) (size N) e)
+
+module _ (N : ℕ) (a b w : List Float) (n : ℕ) (e : n ≡ refusalOf N (twoTables (size N) (length a) (length b) (length w)) true) where
+  pub new-refused : (n ≡ 0 → ⊥) → left (Refused n) (a ∷ b ∷ []) w ≡ newCall N a b w
+  new-refused h = call-refused Accepted Refused (rows aOf (N + 1) ∷ rows bOf (N + 1) ∷ []) (a ∷ b ∷ []) w n _ 0 e h
+
+  pub new-answered : (X Y a' b' w' : List Float) (r : Outcome) → n ≡ 0 → X ≡ tabulated RecursionA N a → Y ≡ tabulated RecursionB N b → w' ≡ cleared w → left r (a' ∷ b' ∷ []) [] ≡ handedTwo X Y →
+      left r (a' ∷ b' ∷ []) w' ≡ newCall N a b w
+  new-answered X Y a' b' w' r h ea eb ew er =
+      let p = passed N n (twoTables (size N) (length a) (length b) (length w)) true e h in
+      let f = two-say N (length a) (length b) (length w) (p .high) (p .shaped) in
+      let qa = ea ∙ tabulated-rows RecursionA N a (p .high) (f .a) in
+      let qb = eb ∙ tabulated-rows RecursionB N b (p .high) (f .b) in
+      two-left (rows aOf (N + 1)) (rows bOf (N + 1)) a b w a' b' w' r _ (sym h ∙ e) (rows-length aOf (N + 1) ∙ sym (f .a)) (rows-length bOf (N + 1) ∙ sym (f .b)) ew (er ∙ ap₂ handedTwo qa qb)

@@ -1,0 +1,2 @@
+mod Refusals
+mod Answers
