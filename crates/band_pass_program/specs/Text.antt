@@ -1,0 +1,99 @@
+-- The band-pass program (document 01, "The band-pass program"): what its input says, and what it prints. Bytes are ASCII. Assumes nothing.
+use mathlib.Core.Path.{_≡_}
+use mathlib.Core.Bool.{Bool, true, false, cond, _&&_}
+use mathlib.Core.List.{List, [], _∷_, _++_}
+use Prim.Native.Nat.{ℕ, zero, suc, _+_, _*_, _/_}
+use lib.Dec.{leb, ltb, eqb}
+use lib.ListN.{length, take, getD}
+use lib.Ieee.{Float, binary64, ofBits, toBits}
+use lib.Ieee.Scale.{finite}
+use Rattle.laws.specs.Checks.{all, isTime, rising}
+use Rattle.laws.specs.Runs.{runsOf}
+use Rattle.hex.specs.Digits.{wordAt, digitsOf, decimalOf}
+use Rattle.hex.specs.declared.Parsed.{Parsed}
+use Rattle.hex.specs.declared.Parsed.the-variants.{Value, Malformed}
+use Rattle.slices.specs.Calls.{firstFailed}
+use Rattle.filter.specs.Filter.{bandPass}
+use Rattle.filter.specs.Calls.{longRuns}
+
+-- ---- input
+
+abbrev pub isWord : Parsed → Bool
+isWord (Value n) = true
+isWord Malformed = false
+
+abbrev pub bitsOf : Parsed → ℕ
+bitsOf (Value n) = n
+bitsOf Malformed = 0
+
+-- a line from `at` on: the digits of two words, and a line feed
+unfoldable pub isLine : List ℕ → ℕ → Bool
+isLine text at = isWord (wordAt text at) && (isWord (wordAt text (at + 16)) && eqb (getD text (at + 32) 0) 10)
+
+-- the refusal of the text from `at` on, where k more lines may come; 0 where all of it is lines
+unfoldable pub refusalFrom : ℕ → List ℕ → ℕ → ℕ
+refusalFrom zero text at = cond (ltb at (length text)) 2 0
+refusalFrom (suc k) text at = cond (ltb at (length text)) (cond (isLine text at) (refusalFrom k text (at + 33)) 11) 0
+
+abbrev pub textRefusal : List ℕ → ℕ
+textRefusal text = refusalFrom 4096 text 0
+
+-- the double whose bits stand at `at`
+unfoldable pub floatAt : List ℕ → ℕ → Float
+floatAt text at = ofBits binary64 (bitsOf (wordAt text at))
+
+-- those of n lines, from `at` on
+unfoldable pub column : List ℕ → ℕ → ℕ → List Float
+column text at zero = []
+column text at (suc n) = floatAt text at ∷ column text (at + 33) n
+
+-- ---- output
+
+abbrev pub lineFeed : List ℕ
+lineFeed = 10 ∷ []
+
+-- "refused N"
+unfoldable pub refusedText : ℕ → List ℕ
+refusedText n = (114 ∷ 101 ∷ 102 ∷ 117 ∷ 115 ∷ 101 ∷ 100 ∷ 32 ∷ []) ++ (decimalOf n ++ lineFeed)
+
+unfoldable pub lineText : Float → Float → List ℕ
+lineText t v = digitsOf 16 16 (toBits binary64 t) ++ (digitsOf 16 16 (toBits binary64 v) ++ lineFeed)
+
+unfoldable pub linesText : List Float → List Float → List ℕ
+linesText [] vs = []
+linesText (t ∷ ts) [] = []
+linesText (t ∷ ts) (v ∷ vs) = lineText t v ++ linesText ts vs
+
+-- "runs R passed P"
+unfoldable pub summaryText : ℕ → ℕ → List ℕ
+summaryText runs passed =
+    (114 ∷ 117 ∷ 110 ∷ 115 ∷ 32 ∷ []) ++ (decimalOf runs ++ ((32 ∷ 112 ∷ 97 ∷ 115 ∷ 115 ∷ 101 ∷ 100 ∷ 32 ∷ []) ++ (decimalOf passed ++ lineFeed)))
+
+-- ---- the whole
+
+-- the lowest refusal about the numbers, and 0 for none
+unfoldable pub numbersRefusal : List Float → List Float → ℕ
+numbersRefusal ts x = firstFailed ((all isTime ts, 4) ∷ (all finite x, 4) ∷ (rising ts, 5) ∷ (all finite (bandPass ts x), 10) ∷ [])
+
+-- what is printed of passed samples
+abbrev pub passedText : List Float → List Float → List ℕ
+passedText ts y = linesText ts y ++ summaryText (length (runsOf ts)) (longRuns (runsOf ts))
+
+-- a refusal prints its one line only
+abbrev pub unlessRefused : ℕ → List ℕ → List ℕ
+unlessRefused zero text = text
+unlessRefused (suc n) text = refusedText (suc n)
+
+unfoldable pub numbersText : List Float → List Float → List ℕ
+numbersText ts x = unlessRefused (numbersRefusal ts x) (passedText ts (bandPass ts x))
+
+-- what the program prints for a text
+unfoldable pub answer : List ℕ → List ℕ
+answer text = unlessRefused (textRefusal text) (numbersText (column text 0 (length text / 33)) (column text 16 (length text / 33)))
+
+-- ---- how the code prints
+
+-- bytes go behind what stands before `at`; `end` is where they end
+pub record Printed (bytes before : List ℕ) (at : ℕ) (after : List ℕ) (end : ℕ) : Type 0 where
+  pub ends : end ≡ at + length bytes
+  pub text : take end after ≡ take at before ++ bytes
