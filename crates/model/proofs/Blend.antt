@@ -13,7 +13,8 @@ use borrow.Rule.Slice.PartMut.{putMid, postOf}
 use lib.Ieee.{Float, nan}
 use Rattle.laws.specs.Floats.{_⊕_, _⊖_, _⊗_, one64}
 use Rattle.laws.specs.Tables.{tri, row, rows, row-turn, row-same, rows-length, rows-at}
-use Rattle.model.specs.Field.{gm, radius, cosines, sines, size, factor, rescaled}
+use Rattle.fields.specs.Rescaled.{factorOf, factorWith, rescaledAt}
+use Rattle.model.specs.Field.{gm, radius, cosines, sines, size}
 use Rattle.model.specs.Calls.{atFits, atLeft, AtRoom}
 use Rattle.model.specs.Model.{bracket, weight, combined, blended, blendOf, addedField, kindAt, fieldAt}
 
@@ -50,14 +51,18 @@ low-done start k w field p out n m h e inv f a b =
     ap (λ (i : ℕ). take (k + i) out) (sym f) ∙ inv ∙ ap (λ (i : ℕ). p ++ row (lowAt start k w field) i) f
     ∙ ap (λ (l : List Float). p ++ l) (row-same (lowAt start k w field) (blended start w field a b n) (n + 1) (λ i l. rw (lt-ltb n 2 h, e)))
 
+factor-is : (g r : Float) (field : List Float) (n : ℕ) → 2 ≤ length field → n ≤ 180 → factorWith g r field n ≡ factorOf g r field n
+unfolding factorWith
+factor-is g r field n h k = rw (le-leb 2 (length field) h, le-leb n 180 k)
+
 pub high-done : (start k : ℕ) (w : Float) (field a b p out : List Float) (fa fb : Float) (n m : ℕ) → 2 ≤ n → k ≡ tri n →
-    fa ≡ factor (gm field) (radius field) a n → fb ≡ factor (gm field) (radius field) b n →
+    2 ≤ length a → 2 ≤ length b → n ≤ 180 → fa ≡ factorWith (gm field) (radius field) a n → fb ≡ factorWith (gm field) (radius field) b n →
     take (k + m) out ≡ p ++ row (highAt start k w field a b fa fb) m → m ≡ n + 1 →
     take (k + (n + 1)) out ≡ p ++ row (blended start w field a b n) (n + 1)
-unfolding blended combined rescaled highAt
-high-done start k w field a b p out fa fb n m h e ea eb inv f =
+unfolding blended combined rescaledAt highAt
+high-done start k w field a b p out fa fb n m h e la lb top ea eb inv f =
     ap (λ (i : ℕ). take (k + i) out) (sym f) ∙ inv ∙ ap (λ (i : ℕ). p ++ row (highAt start k w field a b fa fb) i) f
-    ∙ ap (λ (l : List Float). p ++ l) (row-same (highAt start k w field a b fa fb) (blended start w field a b n) (n + 1) (λ i l. rw (le-ltb n 2 h, e, ea, eb)))
+    ∙ ap (λ (l : List Float). p ++ l) (row-same (highAt start k w field a b fa fb) (blended start w field a b n) (n + 1) (λ i l. rw (le-ltb n 2 h, e, ea ∙ factor-is (gm field) (radius field) a n la top, eb ∙ factor-is (gm field) (radius field) b n lb top)))
 
 -- ---- fields end to end
 

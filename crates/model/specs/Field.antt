@@ -1,11 +1,9 @@
--- Gravity fields as lists of numbers (document 01, module 1; the source's `Coefficients`). Assumes nothing.
+-- Gravity fields as lists of numbers (document 01, module 1; the source's `Coefficients`); `factorOf` and `rescaledAt` of crate `fields` take them to another GM and radius. Assumes nothing.
 use Prim.Native.Nat.{ℕ, _+_, _*_}
 use mathlib.Core.List.{List}
 use lib.ListN.{getD}
 use lib.Ieee.{Float, nan}
-use Rattle.laws.specs.Floats.{_⊗_, _⊘_, one64}
 use Rattle.laws.specs.Tables.{tri}
-use Rattle.numbers.specs.Numbers.{power}
 
 -- A field of degree N is one list: GM, the radius, the cosine coefficients in index order, the sine coefficients.
 abbrev pub gm : List Float → Float
@@ -27,11 +25,3 @@ size N = 2 + 2 * tri (N + 1)
 -- the coefficient of degree n and order m, of the kind that begins at k
 abbrev pub coefficient : ℕ → List Float → ℕ → ℕ → Float
 coefficient k field n m = getD field (k + (tri n + m)) nan
-
--- (GM/GM′)·(R/R′)ⁿ, which takes a coefficient of degree n to GM′ and R′
-unfoldable pub factor : Float → Float → List Float → ℕ → Float
-factor gm′ radius′ field n = gm field ⊘ gm′ ⊗ power (radius field ⊘ radius′) n one64
-
--- the coefficient in another GM and radius
-unfoldable pub rescaled : ℕ → Float → Float → List Float → ℕ → ℕ → Float
-rescaled k gm′ radius′ field n m = coefficient k field n m ⊗ factor gm′ radius′ field n

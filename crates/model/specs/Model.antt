@@ -7,7 +7,8 @@ use lib.ListN.{take, drop, getD}
 use lib.Ieee.{Float, nan, le}
 use Rattle.laws.specs.Floats.{_⊕_, _⊖_, _⊗_, _⊘_, one64}
 use Rattle.laws.specs.Tables.{rows}
-use Rattle.model.specs.Field.{gm, radius, cosines, sines, size, coefficient, rescaled}
+use Rattle.fields.specs.Rescaled.{rescaledAt}
+use Rattle.model.specs.Field.{gm, radius, cosines, sines, size, coefficient}
 
 -- ---- the bracket of t and the weight
 
@@ -35,7 +36,7 @@ addedField N added j = take (size N) (drop (j * size N) added)
 -- the static field with an added one, in the static field's GM and radius: added from degree 2 on
 unfoldable pub combined : ℕ → List Float → List Float → ℕ → ℕ → Float
 combined k field added n m =
-    cond (ltb n 2) (coefficient k field n m) (coefficient k field n m ⊕ rescaled k (gm field) (radius field) added n m)
+    cond (ltb n 2) (coefficient k field n m) (coefficient k field n m ⊕ rescaledAt k (gm field) (radius field) added n m)
 
 -- (1 − w)·a + w·b, computed at every weight
 abbrev pub mix : Float → Float → Float → Float

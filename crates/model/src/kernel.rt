@@ -6,7 +6,7 @@ ghost use lib.ListN.{length, take, drop, getD};
 ghost use lib.Ieee.{nan};
 ghost use Rattle.laws.specs.Tables.{tri, row, rows};
 ghost use Rattle.finality.specs.Brackets.{covers as coversOf};
-ghost use Rattle.model.specs.Field.{factor as factorOf, cosines, sines, size as sizeOf};
+ghost use Rattle.model.specs.Field.{cosines, sines, size as sizeOf};
 ghost use Rattle.model.specs.Model.{bracket as bracketOf, blended, blendOf, fieldAt};
 ghost use Rattle.model.specs.Calls.{Weighed, AtRoom, atLeft};
 
@@ -55,14 +55,6 @@ pub fn weight(times: &[f64], t: f64, j: usize) -> f64
     (t - times[j]) / (times[next] - times[j])
 }
 
-// (GM/GM′)·(R/R′)ⁿ for the GM and the radius that a field begins with.
-fn factor(gm: f64, radius: f64, field: &[f64], n: usize) -> f64
-    requires { ⌜ (2 ≤ length (now field)) × (n ≤ 180) ⌝ }
-    ensures { λ r. ⌜ r ≡ factorOf gm radius (now (field .entry)) n ⌝ }
-{
-    field[0] / gm * numbers::power(field[1] / radius, n as u32, 1.0)
-}
-
 // Row n, below degree 2: the static field alone.
 fn low_row(n: usize, k: usize, start: usize, w: f64, field: &[f64], out: &mut [f64])
     requires { ⌜ (n < 2) × (k ≡ tri n) × (start + (k + (n + 1)) ≤ length (now field)) × (k + (n + 1) ≤ length (now out)) ⌝ }
@@ -92,8 +84,8 @@ fn high_row(
     requires { ⌜ (2 ≤ n) × (n ≤ 180) × (k ≡ tri n) × (2 ≤ start) × (start + (k + (n + 1)) ≤ length (now field)) × (start + (k + (n + 1)) ≤ length (now a)) × (start + (k + (n + 1)) ≤ length (now b)) × (k + (n + 1) ≤ length (now out)) ⌝ }
     ensures { λ _. ⌜ take (k + (n + 1)) (now (out .exit)) ≡ take k (now (out .entry)) ++ row (blended start w (now (field .entry)) (now (a .entry)) (now (b .entry)) n) (n + 1) ⌝ }
 {
-    let fa = factor(field[0], field[1], a, n);
-    let fb = factor(field[0], field[1], b, n);
+    let fa = fields::kernel::factor(field[0], field[1], a, n);
+    let fb = fields::kernel::factor(field[0], field[1], b, n);
     let end = n + 1;
     let mut m = 0;
     while m < end {

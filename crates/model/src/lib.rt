@@ -10,7 +10,7 @@ ghost use Rattle.slices.specs.Calls.{left};
 ghost use Rattle.model.specs.Field.{sines as sinesFrom, size};
 ghost use Rattle.model.specs.Model.{kindAt};
 ghost use Rattle.model.specs.Calls.{DegreeTold, CountTold, timesFine, coverRefusal, coverCall, shapeFine, modelScratch, addedFine, valuesFine, atRefusal, handedTwo, atWork, atCall};
-use numbers;
+use fields;
 use slices;
 
 pub enum Cover {
