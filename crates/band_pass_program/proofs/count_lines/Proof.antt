@@ -3,10 +3,7 @@ use mathlib.Core.Path.{refl}
 use Rattle.band_pass_program.proofs.Laws.{text-lines}
 use Rattle.band_pass_program.proofs.count_lines.Statement.{statement}
 use Rattle.band_pass_program.proofs.count_lines.Tie as tie
-use Rattle.band_pass_program.proofs.count_lines.Reads as reads
-use Rattle.band_pass_program.proofs.count_lines.Lts as lts
 
--- src/main.rt:185:1
 returns : tie.Need-returns
 returns c = (search needs, search (needs, text-lines))
 

@@ -2,14 +2,10 @@ use borrow.Author.Needs.{needs}
 use borrow.Author.Tests.{lt-ltb, le-ltb}
 use Rattle.filter.proofs.kernel.one_if_long.Statement.{statement}
 use Rattle.filter.proofs.kernel.one_if_long.Tie as tie
-use Rattle.filter.proofs.kernel.one_if_long.Reads as reads
-use Rattle.filter.proofs.kernel.one_if_long.Lts as lts
 
--- src/kernel.rt:34:1
 returns : tie.Need-returns
 returns c = (simp (lt-ltb _ _ (c .if1 .taken)), search needs)
 
--- src/kernel.rt:34:1
 returns-2 : tie.Need-returns-2
 returns-2 c = (simp (le-ltb _ _ (c .if1 .left)), search needs)
 

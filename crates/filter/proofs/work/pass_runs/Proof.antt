@@ -23,39 +23,6 @@ abbrev μ-loop : tie.MeasureT-loop
 loop-holds : tie.Need-loop-holds Inv-loop μ-loop
 loop-holds c = (refl, refl, search needs, refl)
 
-run-end-requires : tie.Need-run-end-requires Inv-loop μ-loop
-run-end-requires c κs = search needs
-
-mul-pass-run : tie.Need-mul-pass-run Inv-loop μ-loop
-mul-pass-run c = search needs
-
-sub-pass-run : tie.Need-sub-pass-run Inv-loop μ-loop
-sub-pass-run c = search needs
-
-part-pass-run-start : tie.Need-part-pass-run-start Inv-loop μ-loop
-part-pass-run-start c = search needs
-
-part-pass-run-end : tie.Need-part-pass-run-end Inv-loop μ-loop
-part-pass-run-end c = search needs
-
-mul-pass-run-2 : tie.Need-mul-pass-run-2 Inv-loop μ-loop
-mul-pass-run-2 c = search needs
-
-sub-pass-run-2 : tie.Need-sub-pass-run-2 Inv-loop μ-loop
-sub-pass-run-2 c = search needs
-
-part-pass-run-start-2 : tie.Need-part-pass-run-start-2 Inv-loop μ-loop
-part-pass-run-start-2 c = search needs
-
-part-pass-run-end-2 : tie.Need-part-pass-run-end-2 Inv-loop μ-loop
-part-pass-run-end-2 c = search needs
-
-pass-run-requires : tie.Need-pass-run-requires Inv-loop μ-loop
-pass-run-requires c κs = search needs
-
-loop-less : tie.Need-loop-less Inv-loop μ-loop
-loop-less c = search needs
-
 loop-again : tie.Need-loop-again Inv-loop μ-loop
 loop-again c =
     let l = c .before .before .before .before .before .before .before .before .before .before .loop in
@@ -69,34 +36,10 @@ loop-again c =
           (omega arith) (omega arith) (omega arith) (e .ensures .0) (omega arith) (r .kept .1 .1 .0) (r .ensures) (l .inv .3),
     )
 
-same-length : tie.Need-same-length Inv-loop μ-loop
-same-length c = search needs
-
-same-length-2 : tie.Need-same-length-2 Inv-loop μ-loop
-same-length-2 c = search needs
-
 returns : tie.Need-returns Inv-loop μ-loop
 returns c = search (needs, passed-now)
 
 pub pass-runs-spec : {M : Type 1} → statement M
 pass-runs-spec =
     tie.close
-    (tie.spec
-    Inv-loop
-    μ-loop
-    loop-holds
-    run-end-requires
-    mul-pass-run
-    sub-pass-run
-    part-pass-run-start
-    part-pass-run-end
-    mul-pass-run-2
-    sub-pass-run-2
-    part-pass-run-start-2
-    part-pass-run-end-2
-    pass-run-requires
-    loop-less
-    loop-again
-    same-length
-    same-length-2
-    returns)
+    (tie.spec Inv-loop μ-loop loop-holds (λ c κs. search needs) (λ c. search needs) (λ c. search needs) (λ c. search needs) (λ c. search needs) (λ c. search needs) (λ c. search needs) (λ c. search needs) (λ c. search needs) (λ c κs. search needs) (λ c. search needs) loop-again (λ c. search needs) (λ c. search needs) returns)
