@@ -1,0 +1,3 @@
+pub mod Places
+pub mod Front
+pub mod Laws

@@ -1,0 +1,45 @@
+use Rattle.integrate.proofs.Laws.{kept-instant, new-instant}
+use borrow.Author.Needs.{needs}
+use Rattle.integrate.proofs.kernel.refresh.Statement.{statement}
+use Rattle.integrate.proofs.kernel.refresh.Tie as tie
+
+same-bits-requires : tie.Need-same-bits-requires
+same-bits-requires c κs = search needs
+
+returns : tie.Need-returns
+returns c = let s = c .before .before .before .before .before .before .args in kept-instant (s .degree) (s .base) _ _ _ _ (s .known) (s .t) _ (c .before .same-bits .ensures) (c .if1 .taken)
+
+sub-at : tie.Need-sub-at
+sub-at c = search needs
+
+part-at-start : tie.Need-part-at-start
+part-at-start c = search needs
+
+part-at-end : tie.Need-part-at-end
+part-at-end c = search needs
+
+at-requires : tie.Need-at-requires
+at-requires c κs = search needs
+
+sky-at-requires : tie.Need-sky-at-requires
+sky-at-requires c κs = search needs
+
+same-length : tie.Need-same-length
+same-length c = search needs
+
+returns-2 : tie.Need-returns-2
+returns-2 c = let s = c .before .before .before .before .before .before .before .before .before .before .before .args in new-instant (s .degree) (s .base) (s .field .now) (s .times .now) (s .added .now) (s .w .now) _ (s .known) (s .t) _ (c .before .before .before .before .before .before .before .before .before .before .before .pre .0) (c .before .before .before .before .before .before .before .before .before .before .before .pre .1) (c .before .before .before .at .ensures) (c .sky-at .ensures)
+
+pub refresh-spec : {M : Type 1} → statement M
+refresh-spec =
+    tie.close
+    (tie.spec
+    same-bits-requires
+    returns
+    sub-at
+    part-at-start
+    part-at-end
+    at-requires
+    sky-at-requires
+    same-length
+    returns-2)
