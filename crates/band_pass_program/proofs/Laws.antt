@@ -5,9 +5,9 @@ use mathlib.Core.List.{List, [], _∷_, _++_, append-assoc, append-nil}
 use Prim.Native.Nat.{ℕ, zero, suc, _+_, _-_, _*_, _/_, _%_, _<_, _≤_}
 use native.Mathlib.Numerals.{add-one}
 use native.Mathlib.Omega.{arith}
-use borrow.Author.Tests.{not-true, not-false, lt-ltb, le-ltb, ltb-false, le-leb, lt-leb}
+use borrow.Author.Tests.{not-true, not-false, lt-ltb, le-ltb, ltb-false, le-leb}
 use lib.Dec.{leb, ltb, eqb}
-use lib.ListN.{length, take, drop, getD, set, length-append, length-set, length-take, drop-of-length-le, List·getD-eq-default}
+use lib.ListN.{length, take, drop, getD, set, length-append, length-take, drop-of-length-le, List·getD-eq-default}
 use lib.Seq.{take-suc, take-at, take-all, length-take-le}
 use lib.Ieee.{Float, nan, binary64, ofBits, toBits}
 use Rattle.laws.specs.Loops.{head-at, fill-turn, fill-done, take-set}
@@ -21,7 +21,7 @@ use borrow.Rule.Slice.PartMut.{midOf, mid-len}
 use Rattle.laws.specs.Checks.{all, isTime, rising}
 use Rattle.laws.specs.Loops.{cleared}
 use Rattle.laws.specs.Runs.{runsOf}
-use Rattle.slices.specs.Calls.{Left, left, leftClear, handed, settled}
+use Rattle.slices.specs.Calls.{left, leftClear, handed, settled}
 use Rattle.slices.specs.declared.Outcome.{Outcome}
 use Rattle.slices.specs.declared.Outcome.the-variants.{Accepted, Refused}
 use Rattle.filter.specs.Filter.{bandPass}

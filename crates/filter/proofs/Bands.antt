@@ -1,5 +1,5 @@
 -- The sections of a band: flat and as records, and the constants of the code. Assumes nothing.
-use mathlib.Core.Path.{_≡_, refl, sym, ap, _∙_}
+use mathlib.Core.Path.{_≡_, refl, ap, _∙_}
 use mathlib.Core.List.{List, [], _∷_}
 use lib.Ieee.{Float, ofBits, ofInt, round}
 use Rattle.laws.specs.Floats.{_⊗_, _⊘_, bits, two64}

@@ -1,18 +1,17 @@
 -- The tests of the public calls and of the kernel. Assumes nothing.
 use mathlib.Core.Path.{_≡_, refl, sym, ap, _∙_}
-use mathlib.Core.List.{List, [], _∷_}
+use mathlib.Core.List.{List}
 use mathlib.Core.Bool.{Bool, true, false, cond, _&&_}
-use Prim.Native.Nat.{ℕ, suc, _+_, _*_, _/_, _%_, _<_, _≤_}
+use Prim.Native.Nat.{ℕ, _+_, _*_, _/_, _%_, _<_, _≤_}
 use native.Mathlib.Omega.{arith}
 use lib.Dec.{leb, eqb}
-use lib.ListN.{length, replicate}
+use lib.ListN.{length}
 use borrow.Author.Tests.{eqb-true, leb-true}
 use lib.Ieee.{Float}
 use lib.Ieee.Scale.{finite}
 use Rattle.laws.specs.Checks.{all, isTime, rising}
-use Rattle.laws.specs.Floats.{zero64}
 use Rattle.slices.proofs.Calls.{cond-passes}
-use Rattle.slices.specs.declared.Outcome.the-variants.{Accepted, Refused}
+use Rattle.slices.specs.declared.Outcome.the-variants.{Accepted}
 use Rattle.filter.specs.declared.Band.{Band}
 use Rattle.filter.specs.Sections.{butterworth, coefficients}
 use Rattle.filter.specs.Calls.{refusedBand, judgedBand, bandCall, filterRefusal, bandRefusal, bandFits, bandPassed}

@@ -1,8 +1,7 @@
 -- Document 01's starred instances of the filter, computed: a step of 3.0 joins, the next double above splits; 64 samples give zeros; 65 zeros give zeros. Assumes nothing.
-use mathlib.Core.Path.{_≡_, refl, sym, ap, _∙_}
-use mathlib.Core.List.{List, [], _∷_, _++_, reverse, map}
-use mathlib.Core.Bool.{true, false}
-use Prim.Native.Nat.{ℕ, zero, suc, _+_, _-_, _<_, min}
+use mathlib.Core.Path.{_≡_, refl, ap, _∙_}
+use mathlib.Core.List.{List, [], _∷_, reverse}
+use Prim.Native.Nat.{ℕ, zero, suc}
 use lib.ListN.{length, take, drop, replicate}
 use lib.Ieee.{Float, ofBits, ofInt, round, add, sub, mul, div, neg, lt, le}
 use Rattle.laws.specs.Floats.{bits, zero64}
@@ -11,9 +10,8 @@ use Rattle.laws.specs.Lists.{All}
 use Rattle.laws.specs.WholeNumbers.{number}
 use Rattle.numbers.specs.Numbers.{sine, cosine, sineAt, cosineAt, sineNear, cosineNear, near, rounded, quarter, rest as left, horner, hornerFrom, factorial, alternating, sines, cosines}
 use Rattle.filter.specs.Sections.{quality, section, butterworth}
-use Rattle.filter.specs.Filter.{rest, sampleOf, memoryOf, throughOne, through, padBefore, padAfter, padded, filtfilt, passBy, band, pass, bandPass}
+use Rattle.filter.specs.Filter.{rest, sampleOf, memoryOf, throughOne, through, padBefore, padAfter, padded, passBy, band, pass}
 use Rattle.filter.specs.declared.Biquad.{Biquad}
-use Rattle.filter.specs.declared.BiquadMemory.{BiquadMemory}
 
 -- 0, 3.0 and the next double above 3.0
 pub three-joins : runsOf (zero64 ∷ bits 0x4008000000000000 ∷ []) ≡ 2 ∷ []

@@ -1,4 +1,4 @@
-use Rattle.band_pass_program.proofs.Laws.{refusal-none, text-refused, text-answered, printed-counts}
+use Rattle.band_pass_program.proofs.Laws.{text-refused, text-answered, printed-counts}
 use borrow.Author.Needs.{needs}
 use Rattle.band_pass_program.proofs.answer.Statement.{statement}
 use Rattle.band_pass_program.proofs.answer.Tie as tie

@@ -1,5 +1,4 @@
 use borrow.Author.Needs.{needs}
-use mathlib.Core.Path.{refl}
 use Rattle.band_pass_program.proofs.Laws.{text-lines}
 use Rattle.band_pass_program.proofs.count_lines.Statement.{statement}
 use Rattle.band_pass_program.proofs.count_lines.Tie as tie

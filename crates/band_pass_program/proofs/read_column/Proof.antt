@@ -1,6 +1,6 @@
 use mathlib.Core.Path.{_≡_, refl}
 use mathlib.Core.List.{_++_}
-use Prim.Native.Nat.{_+_, _-_, _*_, _≤_}
+use Prim.Native.Nat.{_+_, _-_, _*_}
 use lib.ListN.{length, take}
 use Rattle.band_pass_program.specs.Text.{column}
 use Rattle.band_pass_program.proofs.Laws.{column-turn, column-done, column-starts}

@@ -1,5 +1,5 @@
 use mathlib.Core.Path.{_≡_, refl}
-use Prim.Native.Nat.{_+_, _*_, _≤_}
+use Prim.Native.Nat.{_+_, _*_}
 use Rattle.band_pass_program.specs.Text.{refusalFrom}
 use Rattle.band_pass_program.proofs.Laws.{scan-ends, scan-over, scan-bad, scan-goes}
 use borrow.Author.Needs.{needs}

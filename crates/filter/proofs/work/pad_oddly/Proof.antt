@@ -1,12 +1,5 @@
-use mathlib.Core.Path.{_≡_, refl, sym, ap, _∙_}
-use mathlib.Core.List.{List, [], _∷_, _++_, reverse}
-use mathlib.Core.Logic.{⊎-elim}
-use Prim.Native.Nat.{ℕ, suc, _+_, _-_, _*_, _<_, _≤_}
-use native.Mathlib.Omega.{arith}
+use Prim.Native.Nat.{_-_}
 use borrow.Author.Needs.{needs}
-use lib.ListN.{length, take, drop, getD, set, replicate, length-set}
-use lib.Ieee.{Float, nan}
-use Rattle.filter.specs.Filter.{padded, padBefore, padAfter}
 use Rattle.filter.proofs.Laws.{pad-law}
 use Rattle.filter.proofs.work.pad_oddly.Statement.{statement}
 use Rattle.filter.proofs.work.pad_oddly.Tie as tie

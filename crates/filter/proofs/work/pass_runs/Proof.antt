@@ -1,12 +1,9 @@
-use mathlib.Core.Path.{_≡_, refl, sym, ap, _∙_}
-use mathlib.Core.List.{List, [], _∷_, _++_, reverse}
-use mathlib.Core.Logic.{⊎-elim}
-use Prim.Native.Nat.{ℕ, suc, _+_, _-_, _*_, _<_, _≤_}
+use mathlib.Core.Path.{_≡_, refl}
+use mathlib.Core.List.{_++_}
+use Prim.Native.Nat.{_+_, _-_, _≤_}
 use native.Mathlib.Omega.{arith}
 use borrow.Author.Needs.{needs}
-use lib.ListN.{length, take, drop, getD, set, replicate, length-set}
-use lib.Ieee.{Float, nan}
-use borrow.Rule.Slice.PartMut.{same-len-mid}
+use lib.ListN.{length, take, drop}
 use Rattle.laws.specs.Runs.{passed}
 use Rattle.filter.specs.Sections.{sectionsOf}
 use Rattle.filter.specs.Filter.{passBy}

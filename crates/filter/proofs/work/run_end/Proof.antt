@@ -1,11 +1,10 @@
-use mathlib.Core.Path.{_≡_, refl, sym, ap, _∙_}
-use mathlib.Core.List.{List, [], _∷_, _++_, reverse}
-use mathlib.Core.Logic.{⊎-elim}
-use Prim.Native.Nat.{ℕ, suc, _+_, _-_, _*_, _<_, _≤_}
+use mathlib.Core.Path.{_≡_, refl}
+use mathlib.Core.List.{List}
+use Prim.Native.Nat.{suc, _+_, _-_, _<_, _≤_}
 use native.Mathlib.Omega.{arith}
 use borrow.Author.Needs.{needs}
-use lib.ListN.{length, take, drop, getD, set, replicate, length-set}
-use lib.Ieee.{Float, nan}
+use lib.ListN.{length, take, drop, getD}
+use lib.Ieee.{Float}
 use Rattle.filter.proofs.Laws.{run-goes, run-ends, run-stops}
 use Rattle.laws.specs.Runs.{runsOf, splits}
 use Rattle.filter.proofs.work.run_end.Statement.{statement}
