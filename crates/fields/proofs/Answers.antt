@@ -1,17 +1,18 @@
 -- What the calls hand out and leave behind. Assumes nothing.
 use Prim.Native.Nat.{ℕ, zero, suc, _+_, _*_, _≤_, _<_}
 use mathlib.Core.Path.{_≡_, refl, sym, ap, ap₂, _∙_}
-use mathlib.Core.Bool.{Bool, true, false, cond, _&&_}
-use mathlib.Core.List.{List, [], _∷_}
+use mathlib.Core.Bool.{Bool, true, false, cond, not, _&&_}
+use mathlib.Core.List.{List, [], _∷_, _++_, append-nil}
 use native.Mathlib.Omega.{arith}
-use borrow.Author.Tests.{le-leb, eq-eqb}
-use lib.ListN.{length, replicate}
+use borrow.Author.Tests.{le-leb, eq-eqb, not-true, not-false}
+use lib.ListN.{length, take, replicate}
 use lib.Ieee.{Float}
 use lib.Ieee.Scale.{finite}
-use Rattle.laws.specs.Floats.{zero64}
+use Rattle.laws.specs.Floats.{_⊗_, _⊘_, zero64}
+use Rattle.numbers.specs.Numbers.{cosine}
 use Rattle.laws.specs.Checks.{all}
 use Rattle.laws.specs.Loops.{cleared}
-use Rattle.laws.specs.Tables.{tri, rows, rows-length}
+use Rattle.laws.specs.Tables.{tri, row, rows, rows-length}
 use Rattle.slices.specs.Calls.{Left, left, handed, settled}
 use Rattle.slices.specs.declared.Outcome.{Outcome}
 use Rattle.slices.specs.declared.Outcome.the-variants.{Accepted, Refused}
@@ -21,7 +22,11 @@ use Rattle.series.specs.Field.{size, Fits}
 use Rattle.series.specs.Prepared.{factorOf, tabulated}
 use Rattle.series.specs.declared.Factor.{Factor}
 use Rattle.series.specs.declared.Factor.the-variants.{RecursionA, RecursionB}
-use Rattle.fields.specs.Calls.{handedTwo, handedOne, twoTables, refusalOf, newCall}
+use Rattle.series.specs.declared.Partials.{Partials}
+use Rattle.fields.specs.Calls.{finitePartials, finiteNeu, accelerationOf, accelerationCall, handedTwo, handedOne, twoTables, refusalOf, newCall, judgedPartials}
+use Rattle.fields.specs.declared.PartialsAnswer.the-variants as partials
+use Rattle.fields.specs.declared.AccelerationAnswer.{AccelerationAnswer}
+use Rattle.fields.specs.declared.AccelerationAnswer.the-variants as acceleration
 use Rattle.fields.proofs.Refusals.{passed, two-say}
 
 -- ---- handed out
@@ -98,3 +103,46 @@ module _ (N : ℕ) (a b w : List Float) (n : ℕ) (e : n ≡ refusalOf N (twoTab
       let qa = ea ∙ tabulated-rows RecursionA N a (p .high) (f .a) in
       let qb = eb ∙ tabulated-rows RecursionB N b (p .high) (f .b) in
       two-left (rows aOf (N + 1)) (rows bOf (N + 1)) a b w a' b' w' r _ (sym h ∙ e) (rows-length aOf (N + 1) ∙ sym (f .a)) (rows-length bOf (N + 1) ∙ sym (f .b)) ew (er ∙ ap₂ handedTwo qa qb)
+
+-- ---- a row begun
+
+pub row-none : (g : ℕ → Float) (out : List Float) (k : ℕ) → take (k + 0) out ≡ take k out ++ row g 0
+unfolding row
+row-none g out k = ap (λ (i : ℕ). take i out) {x = k + 0} {y = k} (omega arith) ∙ sym (append-nil (take k out))
+
+-- ---- tests of numbers
+
+pub three-fine : {a b c q v : Bool} (x y z : Bool) → a ≡ x → b ≡ y → c ≡ z → q ≡ b && c → v ≡ a && q → v ≡ x && (y && z)
+three-fine x y z ea eb ec eq ev = ev ∙ (λ i. ea i && (eq ∙ (λ j. eb j && ec j)) i)
+
+pub judged-fine : (z : Partials) (b : Bool) → b ≡ finitePartials z → b ≡ true → partials.Value z ≡ judgedPartials z
+judged-fine z b e h = ap (λ (i : Bool). cond i (partials.Value z) (partials.Refused 10)) (sym h ∙ e)
+
+pub judged-not : (z : Partials) (b : Bool) → b ≡ finitePartials z → b ≡ false → partials.Refused 10 ≡ judgedPartials z
+judged-not z b e h = ap (λ (i : Bool). cond i (partials.Value z) (partials.Refused 10)) (sym h ∙ e)
+
+module _ (p : Partials) (r lat : Float) (fp fr fl q x : Bool) (ep : fp ≡ finitePartials p) (er : fr ≡ finite r) (el : fl ≡ finite lat) (eq : q ≡ fr && fl) (ex : x ≡ fp && q) where
+  given : x ≡ finitePartials p && (finite r && finite lat)
+  given = ex ∙ (λ i. ep i && (eq ∙ (λ j. er j && el j)) i)
+
+  pub acceleration-refused : not x ≡ true → acceleration.Refused 4 ≡ accelerationCall p r lat
+  unfolding accelerationCall
+  acceleration-refused h =
+      ap (λ (i : Bool). cond i (cond (finiteNeu (accelerationOf p r lat)) (acceleration.Value (accelerationOf p r lat)) (acceleration.Refused 10)) (acceleration.Refused 4)) (sym (not-true x h) ∙ given)
+
+  module _ (c : Float) (fn fe fu g y : Bool) (ec : c ≡ cosine lat) (en : fn ≡ finite (p .dlat ⊘ r)) (ee : fe ≡ finite (p .dlon ⊘ (r ⊗ c))) (eu : fu ≡ finite (p .dr)) (eg : g ≡ fe && fu) (ey : y ≡ fn && g) (h : not x ≡ false) where
+    made : y ≡ finiteNeu (accelerationOf p r lat)
+    made = ey ∙ (λ i. en i && (eg ∙ (λ j. (ee ∙ ap (λ (k : Float). finite (p .dlon ⊘ (r ⊗ k))) ec) j && eu j)) i)
+
+    pub acceleration-fine : y ≡ true → acceleration.Value (record { north = p .dlat ⊘ r; east = p .dlon ⊘ (r ⊗ c); up = p .dr }) ≡ accelerationCall p r lat
+    unfolding accelerationCall
+    acceleration-fine k =
+        ap (λ (i : Float). acceleration.Value (record { north = p .dlat ⊘ r; east = p .dlon ⊘ (r ⊗ i); up = p .dr })) ec
+        ∙ ap (λ (i : Bool). cond i (acceleration.Value (accelerationOf p r lat)) (acceleration.Refused 10)) (sym k ∙ made)
+        ∙ ap (λ (i : Bool). cond i (cond (finiteNeu (accelerationOf p r lat)) (acceleration.Value (accelerationOf p r lat)) (acceleration.Refused 10)) (acceleration.Refused 4)) (sym (not-false x h) ∙ given)
+
+    pub acceleration-not : y ≡ false → acceleration.Refused 10 ≡ accelerationCall p r lat
+    unfolding accelerationCall
+    acceleration-not k =
+        ap (λ (i : Bool). cond i (acceleration.Value (accelerationOf p r lat)) (acceleration.Refused 10)) (sym k ∙ made)
+        ∙ ap (λ (i : Bool). cond i (cond (finiteNeu (accelerationOf p r lat)) (acceleration.Value (accelerationOf p r lat)) (acceleration.Refused 10)) (acceleration.Refused 4)) (sym (not-false x h) ∙ given)

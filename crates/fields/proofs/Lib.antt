@@ -1,2 +1,4 @@
 mod Refusals
 mod Answers
+mod Tables
+pub mod Instances

@@ -35,9 +35,9 @@ index-is n m k h g e = rw (le-leb m n h, le-leb n 180 g) (ap index.At e)
 pub sized : (shape : ℕ → Bool) (N l r : ℕ) (b v : Bool) → (N ≤ 180 → l ≡ size N) → b ≡ shape l → r ≡ refusalOf N b v → r ≡ refusalOf N (shape (size N)) v
 sized shape N l r b v e eb er = er ∙ by-degree (degreeFine N) refl
   where
-    by-degree : (d : Bool) → degreeFine N ≡ d → cond d (cond b (cond v 0 4) 3) 1 ≡ cond d (cond (shape (size N)) (cond v 0 4) 3) 1
+    by-degree : (d : Bool) → degreeFine N ≡ d → _≡_ {A = ℕ} (cond d (cond b (cond v 0 4) 3) 1) (cond d (cond (shape (size N)) (cond v 0 4) 3) 1)
     by-degree false h = refl
-    by-degree true h = ap (λ (x : Bool). cond x (cond v 0 4) 3) (eb ∙ ap shape (e (leb-true N 180 (and-true (leb 2 N) (leb N 180) h .1))))
+    by-degree true h = ap (λ (x : Bool). cond {A = ℕ} x (cond v 0 4) 3) (eb ∙ ap shape (e (leb-true N 180 (and-true (leb 2 N) (leb N 180) h .1))))
 
 -- ---- where nothing is refused
 
@@ -70,3 +70,22 @@ pub four-say : (N a b p dp scratch : ℕ) → N ≤ 180 → fourTables (size N) 
 four-say N a b p dp scratch h e =
     let q = and-true (twoTables (size N) a b scratch) (twoTables (size N) p dp scratch) e in
     (two-say N a b scratch h (q .0), two-say N p dp scratch h (q .1))
+
+-- the chains as the code builds them
+
+pub verdict-is : (N x y z : ℕ) (shape values fine : Bool) → fine ≡ leb 2 N && leb N 180 → x ≡ cond values 0 4 → y ≡ cond shape x 3 → z ≡ cond fine y 1 → z ≡ refusalOf N shape values
+verdict-is N x y z shape values fine ef ex ey ez =
+    ez ∙ (λ i. cond (ef i) (ey i) 1) ∙ ap (λ (k : ℕ). cond (degreeFine N) (cond shape k 3) 1) ex
+
+pub two-is : (l x y scratch : ℕ) (p q : Bool) → p ≡ eqb y l && leb (8 * l) scratch → q ≡ eqb x l && p → q ≡ twoTables l x y scratch
+two-is l x y scratch p q ep eq = eq ∙ ap (λ (b : Bool). eqb x l && b) ep
+
+pub tables-refused : (N l x y scratch r : ℕ) (b v : Bool) → (N ≤ 180 → l ≡ size N) → b ≡ twoTables l x y scratch → r ≡ refusalOf N b v → r ≡ refusalOf N (twoTables (size N) x y scratch) v
+tables-refused N l x y scratch r b v e eb er = sized (λ k. twoTables k x y scratch) N l r b v e eb er
+
+pub field-refused : (N l f x y scratch r : ℕ) (a b v : Bool) → (N ≤ 180 → l ≡ size N) → a ≡ twoTables l x y scratch → b ≡ eqb f (2 + 2 * l) && a → r ≡ refusalOf N b v → r ≡ refusalOf N (fieldAnd (size N) f x y scratch) v
+field-refused N l f x y scratch r a b v e ea eb er = sized (λ k. fieldAnd k f x y scratch) N l r b v e (eb ∙ ap (λ (c : Bool). eqb f (2 + 2 * l) && c) ea) er
+
+pub compute-refused : (N l x y p q scratch r : ℕ) (a c b v : Bool) → (N ≤ 180 → l ≡ size N) → a ≡ twoTables l x y scratch → c ≡ twoTables l p q scratch → b ≡ a && c → r ≡ refusalOf N b v →
+    r ≡ refusalOf N (fourTables (size N) x y p q scratch) v
+compute-refused N l x y p q scratch r a c b v e ea ec eb er = sized (λ k. fourTables k x y p q scratch) N l r b v e (eb ∙ (λ i. ea i && ec i)) er
