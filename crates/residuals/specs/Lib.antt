@@ -1,0 +1,2 @@
+-- Module 5 of document 01: range-acceleration residuals.
+pub mod Epoch
