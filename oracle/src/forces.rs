@@ -1,7 +1,8 @@
 // The forces of module 2. Answers by the source; refusals by document 01's table: 4 for an argument that is not finite or
-// a time outside 0 to 2^31, 10 for an answer that is not finite.
+// a time outside 0 to 2^31, 10 for an answer that is not finite; 1 and 3 too where a field is lent. Scratch stands at 7.0
+// before a call: +0.0 after an answer and after 10, unchanged after the others.
 use crate::list::{List, step};
-use crate::source::{GM_MOON, GM_SUN, Rng, V3, empirical, fictitious, j2_gravity, solid_tide, sun_moon, third_body, tides};
+use crate::source::{Coefficients, GM_MOON, GM_SUN, Legendre, Rng, V3, empirical, fictitious, gravity, idx, j2_gravity, set_nmax, solid_tide, sun_moon, third_body, tides};
 
 const SUN_MOON: u64 = 0;
 const THIRD_BODY: u64 = 1;
@@ -10,6 +11,7 @@ const TIDES: u64 = 3;
 const FICTITIOUS: u64 = 4;
 const EMPIRICAL: u64 = 5;
 const J2_GRAVITY: u64 = 6;
+const GRAVITY: u64 = 7;
 
 const LAST: f64 = 2147483648.0;
 
@@ -91,6 +93,117 @@ fn flattened(list: &mut List, x: V3) {
     told(list, finite(&x), &j2_gravity(x));
 }
 
+fn places_of(n: usize) -> usize {
+    (n + 1) * (n + 2) / 2
+}
+
+#[derive(Clone)]
+struct Lent {
+    degree: usize,
+    field: Vec<f64>,
+    a: Vec<f64>,
+    b: Vec<f64>,
+    x: V3,
+    scratch: usize,
+}
+
+impl Lent {
+    fn new(random: &mut Rng, n: usize, x: V3) -> Lent {
+        let mut field = vec![3.986_004_415e14, 6_378_136.3];
+        for _ in 0..2 * places_of(n) {
+            field.push(1e-5 * ((random.next_u64() >> 11) as f64 / (1u64 << 53) as f64 - 0.5));
+        }
+        field[2] = 1.0;
+        let tables = Legendre::new(n);
+        Lent { degree: n, field, a: tables.a.clone(), b: tables.b.clone(), x, scratch: 8 * places_of(n) }
+    }
+
+    fn refusal(&self) -> u64 {
+        if !(2..=180).contains(&self.degree) {
+            return 1;
+        }
+        let l = places_of(self.degree);
+        if self.field.len() != 2 + 2 * l || self.a.len() != l || self.b.len() != l || self.scratch < 8 * l {
+            return 3;
+        }
+        if !finite(&self.field) || !finite(&self.a) || !finite(&self.b) || !finite(&self.x) {
+            return 4;
+        }
+        0
+    }
+
+    fn call(&self, list: &mut List) {
+        list.call(GRAVITY);
+        list.ask(self.degree as u64);
+        for part in [&self.field, &self.a, &self.b] {
+            list.ask(part.len() as u64);
+            list.ask_all(part);
+        }
+        list.ask_all(&self.x);
+        list.ask(self.scratch as u64);
+        let early = self.refusal();
+        if early != 0 {
+            list.tell(early);
+            // an empty scratch is told as +0.0
+            list.tell((self.scratch > 0) as u64);
+            return;
+        }
+        set_nmax(self.degree);
+        let l = places_of(self.degree);
+        let mut c = Coefficients::zeros(self.field[0], self.field[1], self.degree);
+        for n in 0..=self.degree {
+            for m in 0..=n {
+                c.set(n, m, self.field[2 + idx(n, m)], self.field[2 + l + idx(n, m)]);
+            }
+        }
+        told(list, true, &gravity(&c, self.x));
+        list.tell(0);
+    }
+
+    fn changed(&self, change: impl Fn(&mut Lent)) -> Lent {
+        let mut out = self.clone();
+        change(&mut out);
+        out
+    }
+}
+
+fn lent(list: &mut List, random: &mut Rng) {
+    for x in corners() {
+        Lent::new(random, 2, x).call(list);
+        Lent::new(random, 3, x).call(list);
+    }
+    for n in [2, 5, 8, 20] {
+        for k in 0..6 {
+            let mut part = || 1.5e7 * ((random.next_u64() >> 11) as f64 / (1u64 << 53) as f64 - 0.5);
+            let x = if k == 0 { [1e-3 * part(), 0.0, part()] } else { [part(), part(), part()] };
+            Lent::new(random, n, x).call(list);
+        }
+    }
+    let base = Lent::new(random, 2, [7e6, -1e5, 2e5]);
+    for n in [0, 1, 181, 1000] {
+        base.changed(|l| l.degree = n).call(list);
+        base.changed(|l| { l.degree = n; l.field.clear(); l.x[0] = f64::NAN }).call(list);
+    }
+    base.changed(|l| { l.field.pop(); }).call(list);
+    base.changed(|l| l.field.push(f64::NAN)).call(list);
+    base.changed(|l| { l.a.pop(); }).call(list);
+    base.changed(|l| l.a.push(1.0)).call(list);
+    base.changed(|l| { l.b.pop(); }).call(list);
+    base.changed(|l| l.b.push(1.0)).call(list);
+    base.changed(|l| l.scratch -= 1).call(list);
+    base.changed(|l| l.scratch = 0).call(list);
+    base.changed(|l| l.scratch += 77).call(list);
+    for w in WILD {
+        for k in [0, 1, 2, base.field.len() - 1] {
+            base.changed(|l| l.field[k] = w).call(list);
+        }
+        base.changed(|l| l.a[5] = w).call(list);
+        base.changed(|l| l.b[0] = w).call(list);
+        base.changed(|l| l.x[2] = w).call(list);
+    }
+    base.changed(|l| l.field[0] = f64::MAX).call(list);
+}
+
 // On the axes, beside them, near the centre, far out, at the centre.
 fn corners() -> Vec<V3> {
     let r = 6.9e6;
@@ -154,6 +267,7 @@ fn refusals(list: &mut List) {
 
 pub fn make(list: &mut List, seed: u64) {
     let mut random = Rng::new(seed);
+    lent(list, &mut random);
     let mut unit = || (random.next_u64() >> 11) as f64 / (1u64 << 53) as f64;
     for t in edges() {
         places(list, t);

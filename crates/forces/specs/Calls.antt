@@ -1,17 +1,20 @@
 -- What the public calls answer. Assumes nothing: definitions only.
-use Prim.Native.Nat.{ℕ}
-use mathlib.Core.Bool.{Bool, cond, _&&_}
-use mathlib.Core.List.{List}
-use lib.ListN.{replicate}
-use lib.Ieee.{Float}
+use Prim.Native.Nat.{ℕ, _+_, _*_}
+use mathlib.Core.Bool.{Bool, true, cond, _&&_}
+use mathlib.Core.List.{List, [], _∷_}
+use lib.Dec.{leb, eqb}
+use lib.ListN.{length, take, drop, getD, replicate}
+use lib.Ieee.{Float, nan}
 use lib.Ieee.Scale.{finite}
 use Rattle.laws.specs.Floats.{zero64}
 use Rattle.laws.specs.Checks.{all, isTime}
+use Rattle.slices.specs.Calls.{Left, firstFailed, settled}
+use Rattle.series.specs.Field.{size}
 use Rattle.slices.specs.declared.Outcome.the-variants.{Accepted, Refused}
 use Rattle.vectors.specs.declared.Vector.{Vector}
 use Rattle.sky.specs.Sky.{sunMoon}
 use Rattle.tide.specs.Tide.{solidTide}
-use Rattle.forces.specs.Forces.{thirdBody, tidesOf, fictitiousOf, empiricalOf, j2Of}
+use Rattle.forces.specs.Forces.{gravityBy, thirdBody, tidesOf, fictitiousOf, empiricalOf, j2Of}
 use Rattle.sky.specs.declared.SunMoon.{SunMoon}
 use Rattle.tide.specs.declared.SolidTide.{SolidTide}
 use Rattle.forces.specs.declared.TideAnswer.{TideAnswer}
@@ -62,3 +65,26 @@ empiricalCall x v u e = answer ((finiteVector x && finiteVector v) && (finite u 
 
 unfoldable pub j2Call : Vector → Answer
 j2Call x = answer (finiteVector x) (j2Of x)
+
+-- ---- `gravity`, the one call with slices
+
+-- of a field's list: GM, the radius, the cosine coefficients, the sine coefficients
+unfoldable pub gravityOfField : ℕ → List Float → List Float → List Float → Vector → Vector
+gravityOfField N field a b x =
+    gravityBy N (getD field 0 nan) (getD field 1 nan) a b (take (size N) (drop 2 field)) (take (size N) (drop (2 + size N) field)) x
+
+-- the lengths of the field, the Legendre tables and the scratch
+unfoldable pub lengthsFine : ℕ → ℕ → ℕ → ℕ → ℕ → Bool
+lengthsFine N field a b scratch = eqb field (2 + 2 * size N) && (eqb a (size N) && (eqb b (size N) && leb (8 * size N) scratch))
+
+unfoldable pub valuesFine : List Float → List Float → List Float → Vector → Bool
+valuesFine field a b x = all finite field && (all finite a && (all finite b && finiteVector x))
+
+unfoldable pub gravityRefusal : ℕ → ℕ → ℕ → ℕ → ℕ → Bool → ℕ
+gravityRefusal N field a b scratch values =
+    firstFailed ((leb 2 N && leb N 180, 1) ∷ (lengthsFine N field a b scratch, 3) ∷ (values, 4) ∷ [])
+
+abbrev pub gravityCall : ℕ → List Float → List Float → List Float → Vector → List Float → Left Answer
+gravityCall N field a b x scratch =
+    settled (answer true (gravityOfField N field a b x)) of-force.Refused
+    (gravityRefusal N (length field) (length a) (length b) (length scratch) (valuesFine field a b x)) 0 [] [] scratch

@@ -12,7 +12,7 @@ use Rattle.vectors.specs.Vector.{plus, minus, times, inner, norm, cross}
 use Rattle.vectors.specs.declared.Vector.{Vector}
 use Rattle.numbers.specs.Constants.{decimal, earthGM, earthRadius, sunGM, moonGM, rotation, flattening}
 use Rattle.sky.specs.Sky.{sunMoon}
-use Rattle.series.specs.Field.{partialsWith, partialsOf}
+use Rattle.series.specs.Field.{partialsWith, partialsBy, partialsOf}
 use Rattle.series.specs.declared.Partials.{Partials}
 use Rattle.tide.specs.Tide.{placeOf, solidTide}
 use Rattle.tide.specs.declared.kernel.Place.{Place}
@@ -29,6 +29,10 @@ gradient at p =
 -- the gravity at x of the published series to degree N of the coefficients c, s
 unfoldable pub gravityOf : ℕ → Float → Float → List Float → List Float → Vector → Vector
 gravityOf N gm radius c s x = let at = placeOf x in gradient at (partialsOf N gm radius c s (at .r) (at .lat) (at .lon))
+
+-- the same from lent Legendre tables a and b
+unfoldable pub gravityBy : ℕ → Float → Float → List Float → List Float → List Float → List Float → Vector → Vector
+gravityBy N gm radius a b c s x = let at = placeOf x in gradient at (partialsBy N gm radius a b c s (at .r) (at .lat) (at .lon))
 
 -- the same from tables as given: a, b, and a work slice with C and S at its front
 unfoldable pub gravityWith : ℕ → Float → Float → List Float → List Float → List Float → Vector → Vector
