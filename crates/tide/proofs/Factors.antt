@@ -5,7 +5,7 @@ use Prim.Native.Nat.{ℕ}
 use lib.Ieee.{Float, binary64, size, round, add, sub, mul, div, ofBits, ofInt}
 use Rattle.root.specs.Root.{digits, isqrt, rootOfUnits, sqrt}
 use Rattle.laws.specs.Floats.{bits}
-use Rattle.tide.specs.Legendre.{aOf, bOf, diag, lower, upper}
+use Rattle.series.specs.Legendre.{aOf, bOf, diagonal, lowerOf, upperOf}
 
 pub a-1-0 : aOf 1 0 ≡ bits 0x3ffbb67ae8584caa
 unfolding aOf digits isqrt rootOfUnits sqrt add sub mul div round ofBits number ofInt
@@ -55,66 +55,66 @@ pub b-3-2 : bOf 3 2 ≡ bits 0x0000000000000000
 unfolding bOf digits isqrt rootOfUnits sqrt add sub mul div round ofBits number ofInt
 b-3-2 = refl
 
-pub diag-0 : diag 0 ≡ bits 0x05cd0b15a491eb84
-unfolding diag digits isqrt rootOfUnits sqrt add sub mul div round ofBits number ofInt
+pub diag-0 : diagonal 0 ≡ bits 0x05cd0b15a491eb84
+unfolding diagonal digits isqrt rootOfUnits sqrt add sub mul div round ofBits number ofInt
 diag-0 = refl
 
-pub diag-1 : diag 1 ≡ bits 0x05d926f8db162108
-unfolding diag digits isqrt rootOfUnits sqrt add sub mul div round ofBits number ofInt
+pub diag-1 : diagonal 1 ≡ bits 0x05d926f8db162108
+unfolding diagonal digits isqrt rootOfUnits sqrt add sub mul div round ofBits number ofInt
 diag-1 = refl
 
-pub diag-2 : diag 2 ≡ bits 0x05dc1efd59df15b3
-unfolding diag digits isqrt rootOfUnits sqrt add sub mul div round ofBits number ofInt
+pub diag-2 : diagonal 2 ≡ bits 0x05dc1efd59df15b3
+unfolding diagonal digits isqrt rootOfUnits sqrt add sub mul div round ofBits number ofInt
 diag-2 = refl
 
-pub diag-3 : diag 3 ≡ bits 0x05de5fcc2b75c5ec
-unfolding diag digits isqrt rootOfUnits sqrt add sub mul div round ofBits number ofInt
+pub diag-3 : diagonal 3 ≡ bits 0x05de5fcc2b75c5ec
+unfolding diagonal digits isqrt rootOfUnits sqrt add sub mul div round ofBits number ofInt
 diag-3 = refl
 
-pub lower-1-1 : lower 1 1 ≡ bits 0x4000000000000001
-unfolding lower digits isqrt rootOfUnits sqrt add sub mul div round ofBits number ofInt
+pub lower-1-1 : lowerOf 1 1 ≡ bits 0x4000000000000001
+unfolding lowerOf digits isqrt rootOfUnits sqrt add sub mul div round ofBits number ofInt
 lower-1-1 = refl
 
-pub lower-2-1 : lower 2 1 ≡ bits 0x400bb67ae8584caa
-unfolding lower digits isqrt rootOfUnits sqrt add sub mul div round ofBits number ofInt
+pub lower-2-1 : lowerOf 2 1 ≡ bits 0x400bb67ae8584caa
+unfolding lowerOf digits isqrt rootOfUnits sqrt add sub mul div round ofBits number ofInt
 lower-2-1 = refl
 
-pub lower-2-2 : lower 2 2 ≡ bits 0x4000000000000000
-unfolding lower digits isqrt rootOfUnits sqrt add sub mul div round ofBits number ofInt
+pub lower-2-2 : lowerOf 2 2 ≡ bits 0x4000000000000000
+unfolding lowerOf digits isqrt rootOfUnits sqrt add sub mul div round ofBits number ofInt
 lower-2-2 = refl
 
-pub lower-3-1 : lower 3 1 ≡ bits 0x4013988e1409212f
-unfolding lower digits isqrt rootOfUnits sqrt add sub mul div round ofBits number ofInt
+pub lower-3-1 : lowerOf 3 1 ≡ bits 0x4013988e1409212f
+unfolding lowerOf digits isqrt rootOfUnits sqrt add sub mul div round ofBits number ofInt
 lower-3-1 = refl
 
-pub lower-3-2 : lower 3 2 ≡ bits 0x40094c583ada5b53
-unfolding lower digits isqrt rootOfUnits sqrt add sub mul div round ofBits number ofInt
+pub lower-3-2 : lowerOf 3 2 ≡ bits 0x40094c583ada5b53
+unfolding lowerOf digits isqrt rootOfUnits sqrt add sub mul div round ofBits number ofInt
 lower-3-2 = refl
 
-pub lower-3-3 : lower 3 3 ≡ bits 0x4003988e1409212e
-unfolding lower digits isqrt rootOfUnits sqrt add sub mul div round ofBits number ofInt
+pub lower-3-3 : lowerOf 3 3 ≡ bits 0x4003988e1409212e
+unfolding lowerOf digits isqrt rootOfUnits sqrt add sub mul div round ofBits number ofInt
 lower-3-3 = refl
 
-pub upper-1-0 : upper 1 0 ≡ bits 0x3ff0000000000000
-unfolding upper digits isqrt rootOfUnits sqrt add sub mul div round ofBits number ofInt
+pub upper-1-0 : upperOf 1 0 ≡ bits 0x3ff0000000000000
+unfolding upperOf digits isqrt rootOfUnits sqrt add sub mul div round ofBits number ofInt
 upper-1-0 = refl
 
-pub upper-2-0 : upper 2 0 ≡ bits 0x3ffbb67ae8584caa
-unfolding upper digits isqrt rootOfUnits sqrt add sub mul div round ofBits number ofInt
+pub upper-2-0 : upperOf 2 0 ≡ bits 0x3ffbb67ae8584caa
+unfolding upperOf digits isqrt rootOfUnits sqrt add sub mul div round ofBits number ofInt
 upper-2-0 = refl
 
-pub upper-2-1 : upper 2 1 ≡ bits 0x4000000000000000
-unfolding upper digits isqrt rootOfUnits sqrt add sub mul div round ofBits number ofInt
+pub upper-2-1 : upperOf 2 1 ≡ bits 0x4000000000000000
+unfolding upperOf digits isqrt rootOfUnits sqrt add sub mul div round ofBits number ofInt
 upper-2-1 = refl
 
-pub upper-3-0 : upper 3 0 ≡ bits 0x4003988e1409212e
-unfolding upper digits isqrt rootOfUnits sqrt add sub mul div round ofBits number ofInt
+pub upper-3-0 : upperOf 3 0 ≡ bits 0x4003988e1409212e
+unfolding upperOf digits isqrt rootOfUnits sqrt add sub mul div round ofBits number ofInt
 upper-3-0 = refl
 
-pub upper-3-1 : upper 3 1 ≡ bits 0x40094c583ada5b53
-unfolding upper digits isqrt rootOfUnits sqrt add sub mul div round ofBits number ofInt
+pub upper-3-1 : upperOf 3 1 ≡ bits 0x40094c583ada5b53
+unfolding upperOf digits isqrt rootOfUnits sqrt add sub mul div round ofBits number ofInt
 upper-3-1 = refl
 
-pub upper-3-2 : upper 3 2 ≡ bits 0x4003988e1409212e
-unfolding upper digits isqrt rootOfUnits sqrt add sub mul div round ofBits number ofInt
+pub upper-3-2 : upperOf 3 2 ≡ bits 0x4003988e1409212e
+unfolding upperOf digits isqrt rootOfUnits sqrt add sub mul div round ofBits number ofInt
 upper-3-2 = refl

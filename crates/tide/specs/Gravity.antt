@@ -10,16 +10,12 @@ use Rattle.numbers.specs.declared.SineCosine.{SineCosine}
 use Rattle.vectors.specs.declared.Vector.{Vector}
 use Rattle.numbers.specs.Constants.{earthGM, earthRadius}
 use Rattle.laws.specs.Tables.{tri, rows}
-use Rattle.tide.specs.Legendre.{pnm, der}
-use Rattle.tide.specs.Tide.{placeOf, ordersOf}
+use Rattle.series.specs.Legendre.{legendre, derived}
+use Rattle.tide.specs.Tide.{entry, placeOf, ordersOf}
 use Rattle.tide.specs.declared.SolidTide.{SolidTide}
 use Rattle.tide.specs.declared.degree3.Tables.{Tables}
 use Rattle.tide.specs.declared.degree3.Sums.{Sums}
 use Rattle.tide.specs.declared.degree3.Totals.{Totals}
-
--- the entry of a table at (n, m)
-abbrev pub entry : List Float → ℕ → ℕ → Float
-entry table n m = getD table (tri n + m) nan
 
 -- one order more: P̄ (C cos mλ + S sin mλ), its latitude derivative, and P̄ m (S cos mλ − C sin mλ)
 unfoldable pub addOrder : Tables → ℕ → ℕ → Sums → Sums
@@ -56,8 +52,8 @@ degreeSums f q (suc n) = addDegree f q n (degreeSums f q n)
 
 unfoldable pub tablesOf : SolidTide → SineCosine → Float → Tables
 tablesOf field lat lon =
-    let p = rows (pnm (lat .sine) (lat .cosine)) 4 in
-    record { c = field .c; s = field .s; p = p; dp = rows (der p) 4; cos = ordersOf lon .cos; sin = ordersOf lon .sin }
+    let p = rows (legendre (lat .sine) (lat .cosine)) 4 in
+    record { c = field .c; s = field .s; p = p; dp = rows (derived (entry p)) 4; cos = ordersOf lon .cos; sin = ordersOf lon .sin }
 
 -- north, east and up at a latitude and longitude, to Earth-fixed axes
 unfoldable pub fromLocal : SineCosine → SineCosine → Float → Float → Float → Vector

@@ -12,11 +12,15 @@ use Rattle.vectors.specs.Vector.{norm}
 use Rattle.vectors.specs.declared.Vector.{Vector}
 use Rattle.numbers.specs.Constants.{decimal, earthGM, earthRadius, sunGM, moonGM}
 use Rattle.laws.specs.Tables.{tri, rows}
-use Rattle.tide.specs.Legendre.{pnm}
+use Rattle.series.specs.Legendre.{legendre}
 use Rattle.tide.specs.declared.kernel.Place.{Place}
 use Rattle.tide.specs.declared.kernel.Orders.{Orders}
 use Rattle.tide.specs.declared.kernel.Raised.{Raised}
 use Rattle.tide.specs.declared.SolidTide.{SolidTide}
+
+-- the entry of a table at (n, m)
+abbrev pub entry : List Float → ℕ → ℕ → Float
+entry table n m = getD table (tri n + m) nan
 
 -- distance, geocentric latitude and longitude of a position
 unfoldable pub placeOf : Vector → Place
@@ -42,7 +46,7 @@ ratio gm r n = gm ⊘ earthGM ⊗ power (earthRadius ⊘ r) (n + 1) one64 ⊘ nu
 
 -- what a body raises of degree n and order m, before cos mλ and sin mλ
 unfoldable pub weight : Float → Place → ℕ → ℕ → Float
-weight gm at n m = getD loveNumbers (tri n + m) nan ⊗ ratio gm (at .r) n ⊗ pnm (sine (at .lat)) (cosine (at .lat)) n m
+weight gm at n m = getD loveNumbers (tri n + m) nan ⊗ ratio gm (at .r) n ⊗ legendre (sine (at .lat)) (cosine (at .lat)) n m
 
 -- from degree 2 on
 abbrev pub fromTwo : (ℕ → ℕ → Float) → ℕ → ℕ → Float

@@ -4,8 +4,8 @@ ghost use mathlib.Core.Path.{_≡_};
 ghost use Prim.Native.Nat.{_+_, _≤_, _<_};
 ghost use lib.ListN.{length};
 ghost use Rattle.laws.specs.Tables.{rows};
-ghost use Rattle.tide.specs.Legendre.{pnm, der};
-ghost use Rattle.tide.specs.Tide.{placeOf, ordersOf, raisedBy, bothRaise, solidTide};
+ghost use Rattle.series.specs.Legendre.{legendre as legendreOf, derived as derivedOf};
+ghost use Rattle.tide.specs.Tide.{entry, placeOf, ordersOf, raisedBy, bothRaise, solidTide};
 use numbers;
 use vectors;
 
@@ -136,7 +136,7 @@ pub fn orders_of(lon: f64) -> Orders
 
 // P(n, m) at the latitude whose sine is t and whose cosine is u, column by column.
 pub fn legendre(t: f64, u: f64) -> [f64; 10]
-    ensures { λ r. ⌜ r ≡ rows (pnm t u) 4 ⌝ }
+    ensures { λ r. ⌜ r ≡ rows (legendreOf t u) 4 ⌝ }
 {
     let r0 = 1.0 / SCALE;
     let r1 = r0 * u;
@@ -164,7 +164,7 @@ pub fn legendre(t: f64, u: f64) -> [f64; 10]
 
 // The latitude derivatives of a table.
 pub fn derived(p: [f64; 10]) -> [f64; 10]
-    ensures { λ r. ⌜ r ≡ rows (der p) 4 ⌝ }
+    ensures { λ r. ⌜ r ≡ rows (derivedOf (entry p)) 4 ⌝ }
 {
     [
         0.0,
