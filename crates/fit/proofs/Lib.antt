@@ -1,0 +1,9 @@
+pub mod Flights
+pub mod Found
+pub mod Rows
+pub mod Notes
+pub mod Columns
+pub mod Steps
+pub mod Rounds
+pub mod Whole
+pub mod Locality

@@ -1,0 +1,63 @@
+use Rattle.fit.proofs.Whole.{finished}
+use Rattle.integrate.specs.Force.{model, runOf, attractionOf, fullForce}
+use native.Mathlib.Omega.{arith}
+use Prim.Native.Nat.{_+_, _*_, _-_}
+use borrow.Author.Needs.{needs}
+use Rattle.fit.proofs.kernel.finish.Statement.{statement}
+use Rattle.fit.proofs.kernel.finish.Tie as tie
+
+fly-requires : tie.Need-fly-requires
+fly-requires c κs = search needs
+
+misfits-requires : tie.Need-misfits-requires
+misfits-requires c κs = (omega arith, omega (arith, c .before .before .before .fly .ensures .1 .long))
+
+add-m : tie.Need-add-m
+add-m c = search needs
+
+mul-rms : tie.Need-mul-rms
+mul-rms c = search needs
+
+add-rms : tie.Need-add-rms
+add-rms c = search needs
+
+mul-rms-2 : tie.Need-mul-rms-2
+mul-rms-2 c = search needs
+
+sub-rms : tie.Need-sub-rms
+sub-rms c = search needs
+
+part-rms-start : tie.Need-part-rms-start
+part-rms-start c = search needs
+
+part-rms-end : tie.Need-part-rms-end
+part-rms-end c = search needs
+
+rms-requires : tie.Need-rms-requires
+rms-requires c κs = search needs
+
+same-length : tie.Need-same-length
+same-length c = search needs
+
+returns : tie.Need-returns
+returns c =
+    let a = c .before .before .before .before .before .before .before .before .before .before .before .before .before .before .before .before .before .args in
+    finished (model (a .degree) (a .field .now) (a .times .now) (a .added .now)) (a .a .now) (a .b .now) (a .arc) (a .p) (a .s .now) _ _ (a .base) (a .n) (a .base + 39245 + 3 * a .n - (a .base + 39245)) _ (omega arith) (omega arith) (omega arith) (omega arith)
+    (c .before .before .before .before .before .before .before .before .before .fly .ensures .0) (c .before .before .before .before .before .before .before .before .before .fly .ensures .1) (c .before .before .before .before .before .misfits .ensures) (c .rms .ensures)
+
+pub finish-spec : {M : Type 1} → statement M
+finish-spec =
+    tie.close
+    (tie.spec
+    fly-requires
+    misfits-requires
+    add-m
+    mul-rms
+    add-rms
+    mul-rms-2
+    sub-rms
+    part-rms-start
+    part-rms-end
+    rms-requires
+    same-length
+    returns)

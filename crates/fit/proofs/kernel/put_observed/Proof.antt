@@ -1,0 +1,20 @@
+use Rattle.fit.proofs.Notes.{stored}
+use lib.ListN.{length-set}
+use native.Mathlib.Omega.{arith}
+use mathlib.Core.Path.{_≡_, refl, sym, ap, _∙_}
+use borrow.Author.Needs.{needs}
+use Rattle.laws.specs.WholeNumbers.{number}
+use Rattle.fit.proofs.kernel.put_observed.Statement.{statement}
+use Rattle.fit.proofs.kernel.put_observed.Tie as tie
+
+same-length : tie.Need-same-length
+same-length c = c .before .before .put .ensures .only .long ∙ simp length-set
+
+returns : tie.Need-returns
+unfolding number
+returns c = stored (c .before .before .before .before .before .before .args .s .now) _ (c .before .before .before .before .before .before .args .at) (c .before .before .before .before .before .before .args .k) (c .before .before .before .before .before .before .args .v) _ (omega arith) (c .before .before .before .before .nearest-u64-to-f64 .ensures) (c .before .before .put .ensures)
+
+pub put-observed-spec : {M : Type 1} → statement M
+put-observed-spec =
+    tie.close
+    (tie.spec (λ c κs. search needs) (λ c. search needs) (λ c. search needs) (λ c. search needs) (λ c κs. simp length-set (omega arith)) same-length returns)

@@ -1,0 +1,91 @@
+use Rattle.fit.proofs.Rounds.{rounded}
+use Rattle.integrate.specs.Force.{model, runOf, attractionOf, fullForce}
+use native.Mathlib.Omega.{arith}
+use Prim.Native.Nat.{_+_, _*_, _-_}
+use borrow.Author.Needs.{needs}
+use Rattle.fit.proofs.kernel.round.Statement.{statement}
+use Rattle.fit.proofs.kernel.round.Tie as tie
+
+linearise-requires : tie.Need-linearise-requires
+linearise-requires c κs = search needs
+
+add-d : tie.Need-add-d
+add-d c = search needs
+
+add-m : tie.Need-add-m
+add-m c = search needs
+
+mul-fifteen : tie.Need-mul-fifteen
+mul-fifteen c = search needs
+
+add-fifteen : tie.Need-add-fifteen
+add-fifteen c = search needs
+
+mul-fifteen-2 : tie.Need-mul-fifteen-2
+mul-fifteen-2 c = search needs
+
+sub-fifteen : tie.Need-sub-fifteen
+sub-fifteen c = search needs
+
+part-fifteen-start : tie.Need-part-fifteen-start
+part-fifteen-start c = search needs
+
+part-fifteen-end : tie.Need-part-fifteen-end
+part-fifteen-end c = search needs
+
+mul-fifteen-3 : tie.Need-mul-fifteen-3
+mul-fifteen-3 c = search needs
+
+add-fifteen-2 : tie.Need-add-fifteen-2
+add-fifteen-2 c = search needs
+
+mul-fifteen-4 : tie.Need-mul-fifteen-4
+mul-fifteen-4 c = search needs
+
+sub-fifteen-2 : tie.Need-sub-fifteen-2
+sub-fifteen-2 c = search needs
+
+part-fifteen-start-2 : tie.Need-part-fifteen-start-2
+part-fifteen-start-2 c = search needs
+
+part-fifteen-end-2 : tie.Need-part-fifteen-end-2
+part-fifteen-end-2 c = search needs
+
+fifteen-requires : tie.Need-fifteen-requires
+fifteen-requires c κs = search needs
+
+updated-requires : tie.Need-updated-requires
+updated-requires c κs = search needs
+
+same-length : tie.Need-same-length
+same-length c = search needs
+
+returns : tie.Need-returns
+returns c =
+    let a = c .before .before .before .before .before .before .before .before .before .before .before .before .before .before .before .before .args in
+    rounded (model (a .degree) (a .field .now) (a .times .now) (a .added .now)) (a .a .now) (a .b .now) (a .arc) (a .p) (a .s .now) _ (a .base) (a .n) (omega arith) (omega (arith, c .before .before .before .before .before .before .before .before .linearise .ensures .apart .long)) (c .before .before .before .before .before .before .before .before .linearise .ensures)
+    (a .base + 42428 + 45 * a .n - (a .base + 42428)) (a .base + 39245 + 3 * a .n - (a .base + 39245)) (omega arith) (omega arith) (c .before .before .fifteen .result) (c .before .before .fifteen .ensures) _ (c .updated .ensures)
+
+pub round-spec : {M : Type 1} → statement M
+round-spec =
+    tie.close
+    (tie.spec
+    linearise-requires
+    add-d
+    add-m
+    mul-fifteen
+    add-fifteen
+    mul-fifteen-2
+    sub-fifteen
+    part-fifteen-start
+    part-fifteen-end
+    mul-fifteen-3
+    add-fifteen-2
+    mul-fifteen-4
+    sub-fifteen-2
+    part-fifteen-start-2
+    part-fifteen-end-2
+    fifteen-requires
+    updated-requires
+    same-length
+    returns)

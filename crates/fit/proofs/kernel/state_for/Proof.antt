@@ -1,0 +1,36 @@
+use mathlib.Core.Path.{_≡_, sym, ap, _∙_}
+use native.Mathlib.Omega.{arith}
+use Rattle.slices.specs.declared.Found.the-variants.{At, Nothing}
+use Rattle.slices.specs.Slices.{lookup}
+use Rattle.numbers.specs.Seconds.{wholeSecond}
+use Rattle.fit.specs.declared.kernel.Held.the-variants.{Known}
+use Rattle.fit.specs.Fit.{stateFor, heldAt}
+use Rattle.fit.proofs.Found.{place-below}
+use borrow.Author.Needs.{needs}
+use Rattle.fit.proofs.kernel.state_for.Statement.{statement}
+use Rattle.fit.proofs.kernel.state_for.Tie as tie
+
+returns : tie.Need-returns
+unfolding stateFor
+returns c =
+    let a = c .before .before .before .before .before .before .before .args in
+    let p : lookup (a .keys .now) (wholeSecond (a .t)) ≡ At (c .before .before .before .found .given .0 .0) = sym (c .before .before .before .before .before .place .ensures (c .before .before .before .before .before .before .before .pre .0)) ∙ c .before .before .before .found .given .1 in
+    ap Known (c .state-in .ensures) ∙ sym (ap (heldAt (a .states .now)) p)
+
+returns-2 : tie.Need-returns-2
+unfolding stateFor
+returns-2 c =
+    let a = c .before .before .before .before .before .before .args in
+    let p : lookup (a .keys .now) (wholeSecond (a .t)) ≡ At (c .before .before .found .given .0 .0) = sym (c .before .before .before .before .place .ensures (c .before .before .before .before .before .before .pre .0)) ∙ c .before .before .found .given .1 in
+    absurd (omega (arith, place-below (a .keys .now) (a .t) (c .before .before .found .given .0 .0) p, c .if1 .left))
+
+returns-3 : tie.Need-returns-3
+unfolding stateFor
+returns-3 c =
+    let a = c .before .before .before .before .args in
+    sym (ap (heldAt (a .states .now)) (sym (c .before .before .place .ensures (c .before .before .before .before .pre .0)) ∙ c .enum-told .given .1))
+
+pub state-for-spec : {M : Type 1} → statement M
+state-for-spec =
+    tie.close
+    (tie.spec (λ c κs. search needs) (λ c. search needs) (λ c. search needs) (λ c κs. omega arith) returns (λ c. search needs) returns-2 returns-3)

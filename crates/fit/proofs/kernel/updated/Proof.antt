@@ -1,0 +1,34 @@
+use Rattle.fit.specs.Fit.{updatedOf, scaleOf}
+use Rattle.least_squares.proofs.Laws.{row-more, row-whole}
+use lib.ListN.{length, take, getD, set, length-set}
+use lib.Ieee.{Float, nan}
+use native.Mathlib.Omega.{arith}
+use Prim.Native.Nat.{ℕ, suc, _+_, _*_, _-_, _≤_, _<_}
+use mathlib.Core.Path.{_≡_, refl, sym, ap, _∙_}
+use borrow.Author.Needs.{needs}
+use Rattle.laws.specs.Floats.{_⊕_, _⊗_}
+use Rattle.laws.specs.Tables.{row}
+use Rattle.fit.proofs.kernel.updated.Statement.{statement}
+use Rattle.fit.proofs.kernel.updated.Tie as tie
+
+abbrev Inv-loop : tie.InvT-loop
+Inv-loop p beta q₀ i₀ q i = (i ≤ 15) × (length q ≡ 15) × (take i q ≡ row (λ (j : ℕ). getD p j nan ⊕ getD beta j nan ⊗ scaleOf j) i)
+
+abbrev μ-loop : tie.MeasureT-loop
+μ-loop p beta q₀ i₀ q i = 15 - i
+
+loop-holds : tie.Need-loop-holds Inv-loop μ-loop
+unfolding row
+loop-holds c = (omega arith, refl, refl)
+
+loop-again : tie.Need-loop-again Inv-loop μ-loop
+loop-again c = (omega arith, simp length-set (c .before .before .loop .inv .1), row-more (c .before .before .loop .q) _ (c .before .before .loop .i) _ (c .before .before .loop .inv .2) (omega arith) (ap (λ (v : Float). getD (c .before .before .before .args .t1) (c .before .before .loop .i) nan ⊕ getD (c .before .before .before .args .t2) (c .before .before .loop .i) nan ⊗ v) (c .parameter-scale .ensures)))
+
+returns : tie.Need-returns Inv-loop μ-loop
+unfolding updatedOf
+returns c = row-whole (c .before .loop .q) _ (c .before .loop .i) 15 (c .before .loop .inv .2) (omega arith) (c .before .loop .inv .1)
+
+pub updated-spec : {M : Type 1} → statement M
+updated-spec =
+    tie.close
+    (tie.spec Inv-loop μ-loop loop-holds (λ c. search needs) (λ c. search needs) (λ c. search needs) (λ c. search needs) (λ c κs. search needs) (λ c. search needs) (λ c. search needs) (λ c. search needs) (λ c. search needs) loop-again returns)

@@ -1,0 +1,34 @@
+-- Where the observations of a fit stand in the lent numbers. Assumes nothing.
+use mathlib.Core.Path.{_≡_}
+use mathlib.Core.Bool.{true, false, cond}
+use mathlib.Core.List.{List}
+use Prim.Native.Nat.{ℕ, _+_, _*_, _/_, _%_, _≤_, _<_}
+use lib.Dec.{leb}
+use lib.Ieee.{Float, nan, fin, lt, toUnsigned}
+use lib.IntN.{pos}
+use lib.ListN.{length, getD}
+use Rattle.vectors.specs.declared.Vector.{Vector}
+use Rattle.integrate.specs.declared.kernel.State.{State}
+use Rattle.fit.specs.Fit.{Observed, axis, nth}
+use Rattle.integrate.specs.Room.{Holds3}
+use Rattle.laws.specs.Floats.{_⊖_}
+use Rattle.laws.specs.WholeNumbers.{number}
+
+-- observations, four numbers each
+pub record Observes (s : List Float) (at : ℕ) (obs : List Observed) : Type 0 where
+  pub step : (j : ℕ) → j < length obs → getD s (at + 4 * j) nan ≡ number (nth obs j .step)
+  pub place : (j : ℕ) → j < length obs → Holds3 s (at + 4 * j + 1) (nth obs j .place)
+
+-- a step number that was stored as a float, at most 5302
+unfoldable pub stepNumber : Float → ℕ
+stepNumber x = cond (lt (fin true 1 (pos 0)) x) (cond (lt x (fin false 1 (pos 64))) (cond (leb (toUnsigned 64 x) 5302) (toUnsigned 64 x) 0) 0) 0
+
+-- where row r finds its observed coordinate and its run's, in scratch from b on
+unfoldable pub stepAt : List Float → ℕ → ℕ → ℕ
+stepAt s b r = stepNumber (getD s (b + 31818 + 4 * (r / 3)) nan)
+
+unfoldable pub placeAt : List Float → ℕ → ℕ → Float
+placeAt s b r = getD s (b + 31818 + 4 * (r / 3) + 1 + r % 3) nan
+
+unfoldable pub runAt : List Float → ℕ → ℕ → Float
+runAt s b r = getD s (b + 6 * stepAt s b r + r % 3) nan

@@ -1,0 +1,540 @@
+// Orbits fitted to observed positions (document 01, module 4), in one lent slice. From `base` on, behind the numbers that a run needs:
+//        0  states of one run, six numbers each
+//    31818  observed steps: step, x, y, z
+//    36062  base positions at the observed steps
+//    39245  misfits
+//    42428  rows of the design, 15 numbers each
+//    90173  end
+ghost use mathlib.Core.Path.{_≡_};
+ghost use mathlib.Core.Bool.{true};
+ghost use mathlib.Core.List.{List, _++_};
+ghost use Prim.Native.Nat.{ℕ, _+_, _*_, _/_, _≤_, _<_};
+ghost use lib.Ieee.{Float, nan};
+ghost use lib.ListN.{length, getD, replicate};
+ghost use Rattle.laws.specs.Checks.{risingSeconds};
+ghost use Rattle.numbers.specs.Seconds.{wholeSecond};
+ghost use Rattle.slices.specs.Slices.{lookup};
+ghost use Rattle.finality.specs.Brackets.{covers};
+ghost use Rattle.integrate.specs.Steps.{timeOf};
+ghost use Rattle.integrate.specs.Room.{stateIn, Only, Orbit};
+ghost use Rattle.integrate.specs.Work.{Placed};
+ghost use Rattle.integrate.specs.Force.{model, frontSize, fullForce, attractionOf, runOf};
+ghost use Rattle.integrate.specs.declared.kernel.Force.the-variants.{Full, J2};
+ghost use Rattle.fit.specs.Fit.{stateFor, seen, observed, startOf, scaleOf, movedOf, updatedOf, rmsOf};
+ghost use Rattle.fit.specs.Room.{stepNumber, stepAt, placeAt, runAt};
+ghost use Rattle.fit.specs.Contracts.{Measured, Based, Columned, Stored, Noted, Observing, Designed, Differentiated, Linearised, Rounded, Finished, FitFrom, Fits};
+
+// The state at a second, if there is one.
+pub enum Held {
+    Known(integrate::kernel::State),
+    Missing,
+}
+
+// An arc's fit: the rms of its misfits, or the number of its refusal. The states stay in scratch.
+pub enum Fitted {
+    Fitted(f64),
+    Refused(u8),
+}
+
+fn state_in(l: &[f64], i: usize) -> integrate::kernel::State
+    requires { ⌜ i + 6 ≤ length (now l) ⌝ }
+    ensures { λ r. ⌜ r ≡ stateIn (now (l .entry)) i ⌝ }
+{
+    integrate::kernel::State {
+        position: vectors::Vector {
+            x: l[i],
+            y: l[i + 1],
+            z: l[i + 2],
+        },
+        velocity: vectors::Vector {
+            x: l[i + 3],
+            y: l[i + 4],
+            z: l[i + 5],
+        },
+    }
+}
+
+// Where the second of a time stands among the keys.
+fn place(keys: &[i64], t: f64) -> slices::Found
+    ensures { λ r. ⌜ (risingSeconds (now (keys .entry)) ≡ true → r ≡ lookup (now (keys .entry)) (wholeSecond t)) ⌝ }
+{
+    let second = numbers::whole_second(numbers::GpsTime(t));
+    slices::find(keys, second.0)
+}
+
+fn state_for(keys: &[i64], states: &[f64], t: f64) -> Held
+    requires { ⌜ (risingSeconds (now keys) ≡ true) × (length (now states) ≡ 6 * length (now keys)) ⌝ }
+    ensures { λ r. ⌜ r ≡ stateFor (now (keys .entry)) (now (states .entry)) t ⌝ }
+{
+    let found = place(keys, t);
+    match found {
+        slices::Found::At(i) => {
+            if i < keys.len() {
+                let s = state_in(states, 6 * i);
+                return Held::Known(s);
+            }
+            Held::Missing
+        }
+        slices::Found::Nothing => Held::Missing,
+    }
+}
+
+// The states of a run, from the first six parameters.
+fn fly(
+    force: integrate::kernel::Force,
+    degree: usize,
+    field: &[f64],
+    a: &[f64],
+    b: &[f64],
+    times: &[f64],
+    added: &[f64],
+    arc: integrate::kernel::Arc,
+    p: [f64; 15],
+    s: &mut [f64],
+    base: usize,
+)
+    requires { ⌜ (arc .steps ≤ 5302) × (base + 31818 ≤ length (now s)) × (degree ≤ 180) × (base ≡ frontSize degree) ⌝ }
+    ensures { λ _. ⌜ Orbit (now (s .exit)) base (runOf (attractionOf force (model degree (now (field .entry)) (now (times .entry)) (now (added .entry))) (now (a .entry)) (now (b .entry))) arc p) (arc .steps + 1) × Only 0 (base + 31818) (now (s .entry)) (now (s .exit)) ⌝ }
+{
+    integrate::kernel::run(force, degree, field, a, b, times, added, arc, p, s);
+}
+
+// A step number that was stored as a float.
+fn step_of(x: f64) -> usize
+    ensures { λ r. ⌜ (r ≡ stepNumber x) × (r ≤ 5302) ⌝ }
+{
+    if x > -1.0 {
+        if x < 18446744073709551616.0 {
+            let k = std::num::truncating_f64_to_u64(x);
+            if k <= 5302 {
+                return k as usize;
+            }
+        }
+    }
+    0
+}
+
+// The step of row r's observation.
+fn step_at(s: &[f64], base: usize, r: usize) -> usize
+    requires { ⌜ (r < 3183) × (base + 36062 ≤ length (now s)) ⌝ }
+    ensures { λ k. ⌜ (k ≡ stepAt (now (s .entry)) base r) × (k ≤ 5302) ⌝ }
+{
+    step_of(s[base + 31818 + 4 * (r / 3)])
+}
+
+// The run's coordinate for row r.
+fn run_at(s: &[f64], base: usize, r: usize) -> f64
+    requires { ⌜ (r < 3183) × (base + 36062 ≤ length (now s)) ⌝ }
+    ensures { λ v. ⌜ v ≡ runAt (now (s .entry)) base r ⌝ }
+{
+    let k = step_at(s, base, r);
+    s[base + 6 * k + r % 3]
+}
+
+// The observed coordinate of row r.
+fn place_at(s: &[f64], base: usize, r: usize) -> f64
+    requires { ⌜ (r < 3183) × (base + 36062 ≤ length (now s)) ⌝ }
+    ensures { λ v. ⌜ v ≡ placeAt (now (s .entry)) base r ⌝ }
+{
+    s[base + 31818 + 4 * (r / 3) + 1 + r % 3]
+}
+
+fn misfits(s: &mut [f64], base: usize, n: usize)
+    requires { ⌜ (n ≤ 1061) × (base + 90173 ≤ length (now s)) ⌝ }
+    ensures { λ _. ⌜ Measured (now (s .entry)) (now (s .exit)) base (3 * n) ⌝ }
+{
+    for r in 0..3 * n {
+        let v = place_at(s, base, r) - run_at(s, base, r);
+        s[base + 39245 + r] = v;
+    }
+}
+
+fn bases(s: &mut [f64], base: usize, n: usize)
+    requires { ⌜ (n ≤ 1061) × (base + 90173 ≤ length (now s)) ⌝ }
+    ensures { λ _. ⌜ Based (now (s .entry)) (now (s .exit)) base (3 * n) ⌝ }
+{
+    for r in 0..3 * n {
+        let v = run_at(s, base, r);
+        s[base + 36062 + r] = v;
+    }
+}
+
+fn column(s: &mut [f64], base: usize, n: usize, i: usize)
+    requires { ⌜ (n ≤ 1061) × (i < 15) × (base + 90173 ≤ length (now s)) ⌝ }
+    ensures { λ _. ⌜ Columned (now (s .entry)) (now (s .exit)) base (3 * n) i ⌝ }
+{
+    for r in 0..3 * n {
+        let v = run_at(s, base, r) - s[base + 36062 + r];
+        s[base + 42428 + (15 * r + i)] = v;
+    }
+}
+
+// By how much a parameter is moved.
+fn parameter_scale(i: usize) -> f64
+    ensures { λ r. ⌜ r ≡ scaleOf i ⌝ }
+{
+    if i < 3 {
+        return 1.0;
+    }
+    if i < 6 {
+        return 1e-3;
+    }
+    1.0
+}
+
+fn moved(p: [f64; 15], i: usize) -> [f64; 15]
+    requires { ⌜ i < 15 ⌝ }
+    ensures { λ r. ⌜ r ≡ movedOf p i ⌝ }
+{
+    let mut q = p;
+    q[i] = p[i] + parameter_scale(i);
+    q
+}
+
+fn updated(p: [f64; 15], beta: [f64; 15]) -> [f64; 15]
+    ensures { λ r. ⌜ r ≡ updatedOf p beta ⌝ }
+{
+    let mut q = [0.0; 15];
+    for i in 0..15usize {
+        q[i] = p[i] + beta[i] * parameter_scale(i);
+    }
+    q
+}
+
+fn start(state: integrate::kernel::State) -> [f64; 15]
+    ensures { λ r. ⌜ r ≡ startOf state ⌝ }
+{
+    let x = state.position;
+    let v = state.velocity;
+    [
+        x.x,
+        x.y,
+        x.z,
+        v.x,
+        v.y,
+        v.z,
+        0.0,
+        0.0,
+        0.0,
+        0.0,
+        0.0,
+        0.0,
+        0.0,
+        0.0,
+        0.0,
+    ]
+}
+
+fn put(s: &mut [f64], at: usize, v: vectors::Vector)
+    requires { ⌜ at + 3 ≤ length (now s) ⌝ }
+    ensures { λ _. ⌜ Placed (now (s .entry)) (now (s .exit)) at v ⌝ }
+{
+    s[at] = v.x;
+    s[at + 1] = v.y;
+    s[at + 2] = v.z;
+}
+
+fn put_observed(s: &mut [f64], at: usize, k: usize, v: vectors::Vector)
+    requires { ⌜ at + 4 ≤ length (now s) ⌝ }
+    ensures { λ _. ⌜ Stored (now (s .entry)) (now (s .exit)) at k v ⌝ }
+{
+    s[at] = std::num::nearest_u64_to_f64(k as u64);
+    put(s, at + 1, v);
+}
+
+// Step 5c's position, if it is known, after n others. Returns how many there are then.
+fn note(
+    keys: &[i64],
+    states: &[f64],
+    t0: f64,
+    c: usize,
+    s: &mut [f64],
+    base: usize,
+    n: usize,
+) -> usize
+    requires { ⌜ (risingSeconds (now keys) ≡ true) × (length (now states) ≡ 6 * length (now keys)) × (n ≤ c) × (c < 1061) × (base + 90173 ≤ length (now s)) ⌝ }
+    ensures { λ r. ⌜ Noted (now (s .entry)) (now (s .exit)) base n (seen (5 * c) (stateFor (now (keys .entry)) (now (states .entry)) (timeOf t0 (5 * c)))) r ⌝ }
+{
+    let held = state_for(keys, states, integrate::kernel::time(t0, 5 * c));
+    match held {
+        Held::Known(state) => {
+            put_observed(s, base + 31818 + 4 * n, 5 * c, state.position);
+            n + 1
+        }
+        Held::Missing => n,
+    }
+}
+
+// The known positions at every fifth step. Returns how many there are.
+fn observe(
+    keys: &[i64],
+    states: &[f64],
+    arc: integrate::kernel::Arc,
+    s: &mut [f64],
+    base: usize,
+) -> usize
+    requires { ⌜ (risingSeconds (now keys) ≡ true) × (length (now states) ≡ 6 * length (now keys)) × (arc .steps ≤ 5302) × (base + 90173 ≤ length (now s)) ⌝ }
+    ensures { λ r. ⌜ Observing (now (s .entry)) (now (s .exit)) base (observed (stateFor (now (keys .entry)) (now (states .entry))) arc) r ⌝ }
+{
+    let mut n: usize = 0;
+    for c in 0..arc.steps / 5 + 1 {
+        n = note(keys, states, arc.t0, c, s, base, n);
+    }
+    n
+}
+
+// Column i of the design: a run with parameter i moved, less the base.
+fn partial(
+    degree: usize,
+    field: &[f64],
+    a: &[f64],
+    b: &[f64],
+    times: &[f64],
+    added: &[f64],
+    arc: integrate::kernel::Arc,
+    p: [f64; 15],
+    i: usize,
+    s: &mut [f64],
+    base: usize,
+    n: usize,
+)
+    requires { ⌜ (arc .steps ≤ 5302) × (i < 15) × (n ≤ 1061) × (base + 90173 ≤ length (now s)) × (degree ≤ 180) × (base ≡ frontSize degree) ⌝ }
+    ensures { λ _. ⌜ Differentiated (runOf (attractionOf J2 (model degree (now (field .entry)) (now (times .entry)) (now (added .entry))) (now (a .entry)) (now (b .entry))) arc (movedOf p i)) (arc .steps) (now (s .entry)) (now (s .exit)) base (3 * n) i ⌝ }
+{
+    let q = moved(p, i);
+    fly(
+        integrate::kernel::Force::J2,
+        degree,
+        field,
+        a,
+        b,
+        times,
+        added,
+        arc,
+        q,
+        s,
+        base,
+    );
+    column(s, base, n, i);
+}
+
+fn design(
+    degree: usize,
+    field: &[f64],
+    a: &[f64],
+    b: &[f64],
+    times: &[f64],
+    added: &[f64],
+    arc: integrate::kernel::Arc,
+    p: [f64; 15],
+    s: &mut [f64],
+    base: usize,
+    n: usize,
+)
+    requires { ⌜ (arc .steps ≤ 5302) × (n ≤ 1061) × (base + 90173 ≤ length (now s)) × (degree ≤ 180) × (base ≡ frontSize degree) ⌝ }
+    ensures { λ _. ⌜ Designed (λ (i : ℕ). runOf (attractionOf J2 (model degree (now (field .entry)) (now (times .entry)) (now (added .entry))) (now (a .entry)) (now (b .entry))) arc (movedOf p i)) (arc .steps) (now (s .entry)) (now (s .exit)) base (3 * n) 15 ⌝ }
+{
+    for i in 0..15usize {
+        partial(degree, field, a, b, times, added, arc, p, i, s, base, n);
+    }
+}
+
+// Misfits of the full run, and the design around the base run.
+fn linearise(
+    degree: usize,
+    field: &[f64],
+    a: &[f64],
+    b: &[f64],
+    times: &[f64],
+    added: &[f64],
+    arc: integrate::kernel::Arc,
+    p: [f64; 15],
+    s: &mut [f64],
+    base: usize,
+    n: usize,
+)
+    requires { ⌜ (arc .steps ≤ 5302) × (n ≤ 1061) × (base + 90173 ≤ length (now s)) × (degree ≤ 180) × (base ≡ frontSize degree) ⌝ }
+    ensures { λ _. ⌜ Linearised (runOf (attractionOf Full (model degree (now (field .entry)) (now (times .entry)) (now (added .entry))) (now (a .entry)) (now (b .entry))) arc p) (runOf (attractionOf J2 (model degree (now (field .entry)) (now (times .entry)) (now (added .entry))) (now (a .entry)) (now (b .entry))) arc p) (λ (i : ℕ). runOf (attractionOf J2 (model degree (now (field .entry)) (now (times .entry)) (now (added .entry))) (now (a .entry)) (now (b .entry))) arc (movedOf p i)) (arc .steps) (now (s .entry)) (now (s .exit)) base (3 * n) ⌝ }
+{
+    fly(
+        integrate::kernel::Force::Full,
+        degree,
+        field,
+        a,
+        b,
+        times,
+        added,
+        arc,
+        p,
+        s,
+        base,
+    );
+    misfits(s, base, n);
+    fly(
+        integrate::kernel::Force::J2,
+        degree,
+        field,
+        a,
+        b,
+        times,
+        added,
+        arc,
+        p,
+        s,
+        base,
+    );
+    bases(s, base, n);
+    design(degree, field, a, b, times, added, arc, p, s, base, n);
+}
+
+// One round of Gauss-Newton: the parameters after it, or none.
+fn round(
+    degree: usize,
+    field: &[f64],
+    a: &[f64],
+    b: &[f64],
+    times: &[f64],
+    added: &[f64],
+    arc: integrate::kernel::Arc,
+    p: [f64; 15],
+    s: &mut [f64],
+    base: usize,
+    n: usize,
+) -> least_squares::kernel::Estimate
+    requires { ⌜ (arc .steps ≤ 5302) × (n ≤ 1061) × (base + 90173 ≤ length (now s)) × (degree ≤ 180) × (base ≡ frontSize degree) ⌝ }
+    ensures { λ r. ⌜ Rounded (fullForce (model degree (now (field .entry)) (now (times .entry)) (now (added .entry))) (now (a .entry)) (now (b .entry))) arc p (now (s .entry)) (now (s .exit)) base n r ⌝ }
+{
+    linearise(degree, field, a, b, times, added, arc, p, s, base, n);
+    let d = base + 42428;
+    let m = base + 39245;
+    let e = least_squares::kernel::fifteen(&s[d..d + 45 * n], &s[m..m + 3 * n]);
+    let beta = e.beta;
+    let q = updated(p, beta);
+    least_squares::kernel::Estimate {
+        fine: e.fine,
+        beta: q,
+    }
+}
+
+// The root of the mean square.
+fn rms(y: &[f64]) -> f64
+    ensures { λ r. ⌜ r ≡ rmsOf (now (y .entry)) ⌝ }
+{
+    let mut sum = 0.0;
+    for i in 0..y.len() {
+        sum = sum + y[i] * y[i];
+    }
+    root::root(sum / std::num::nearest_u64_to_f64(y.len() as u64))
+}
+
+// The last full run and its misfits.
+fn finish(
+    degree: usize,
+    field: &[f64],
+    a: &[f64],
+    b: &[f64],
+    times: &[f64],
+    added: &[f64],
+    arc: integrate::kernel::Arc,
+    p: [f64; 15],
+    s: &mut [f64],
+    base: usize,
+    n: usize,
+) -> f64
+    requires { ⌜ (arc .steps ≤ 5302) × (n ≤ 1061) × (base + 90173 ≤ length (now s)) × (degree ≤ 180) × (base ≡ frontSize degree) ⌝ }
+    ensures { λ r. ⌜ Finished (fullForce (model degree (now (field .entry)) (now (times .entry)) (now (added .entry))) (now (a .entry)) (now (b .entry))) arc p (now (s .entry)) (now (s .exit)) base n r ⌝ }
+{
+    fly(
+        integrate::kernel::Force::Full,
+        degree,
+        field,
+        a,
+        b,
+        times,
+        added,
+        arc,
+        p,
+        s,
+        base,
+    );
+    misfits(s, base, n);
+    let m = base + 39245;
+    rms(&s[m..m + 3 * n])
+}
+
+// Two rounds from a start, and the final run.
+fn fit_from(
+    degree: usize,
+    field: &[f64],
+    a: &[f64],
+    b: &[f64],
+    times: &[f64],
+    added: &[f64],
+    arc: integrate::kernel::Arc,
+    state: integrate::kernel::State,
+    s: &mut [f64],
+    base: usize,
+    n: usize,
+) -> Fitted
+    requires { ⌜ (arc .steps ≤ 5302) × (n ≤ 1061) × (base + 90173 ≤ length (now s)) × (degree ≤ 180) × (base ≡ frontSize degree) ⌝ }
+    ensures { λ r. ⌜ FitFrom (fullForce (model degree (now (field .entry)) (now (times .entry)) (now (added .entry))) (now (a .entry)) (now (b .entry))) arc state (now (s .entry)) (now (s .exit)) base n r ⌝ }
+{
+    let first = round(
+        degree,
+        field,
+        a,
+        b,
+        times,
+        added,
+        arc,
+        start(state),
+        s,
+        base,
+        n,
+    );
+    if !first.fine {
+        return Fitted::Refused(9);
+    }
+    let p = first.beta;
+    let second = round(degree, field, a, b, times, added, arc, p, s, base, n);
+    if !second.fine {
+        return Fitted::Refused(9);
+    }
+    let q = second.beta;
+    let r = finish(degree, field, a, b, times, added, arc, q, s, base, n);
+    Fitted::Fitted(r)
+}
+
+// A dynamic orbit fitted to the known positions of an arc; its states stay in scratch from b on.
+fn fit_within(
+    degree: usize,
+    field: &[f64],
+    a: &[f64],
+    b: &[f64],
+    times: &[f64],
+    added: &[f64],
+    keys: &[i64],
+    states: &[f64],
+    arc: integrate::kernel::Arc,
+    s: &mut [f64],
+    base: usize,
+) -> Fitted
+    requires { ⌜ (risingSeconds (now keys) ≡ true) × (length (now states) ≡ 6 * length (now keys)) × (arc .steps ≤ 5302) × (base + 90173 ≤ length (now s)) × (degree ≤ 180) × (base ≡ frontSize degree) ⌝ }
+    ensures { λ r. ⌜ Fits (covers (now (times .entry))) (fullForce (model degree (now (field .entry)) (now (times .entry)) (now (added .entry))) (now (a .entry)) (now (b .entry))) (stateFor (now (keys .entry)) (now (states .entry))) arc (now (s .entry)) (now (s .exit)) base r ⌝ }
+{
+    if !model::kernel::covers(times, arc.t0) {
+        return Fitted::Refused(6);
+    }
+    if !model::kernel::covers(times, integrate::kernel::time(arc.t0, arc.steps)) {
+        return Fitted::Refused(6);
+    }
+    let n = observe(keys, states, arc, s, base);
+    if n < arc.steps / 10 {
+        return Fitted::Refused(7);
+    }
+    let held = state_for(keys, states, arc.t0);
+    match held {
+        Held::Known(state) => fit_from(degree, field, a, b, times, added, arc, state, s, base, n),
+        Held::Missing => Fitted::Refused(8),
+    }
+}

@@ -1,0 +1,2 @@
+// Orbits fitted to observed positions.
+pub mod kernel;
