@@ -1,6 +1,10 @@
 // The static library's functions for Rust and C. Each is the call of the same name.
 ghost use mathlib.Core.Path.{_≡_};
 ghost use lib.Ieee.{binary64};
+ghost use lib.ListN.{length};
+ghost use Rattle.series.specs.Field.{partialsWith};
+ghost use Rattle.series.specs.Prepared.{prepared};
+ghost use Rattle.exports.specs.Four.{fourOf};
 ghost use Rattle.root.specs.Root.{sqrt};
 ghost use Rattle.numbers.specs.Numbers.{sine as Numbers·sine, cosine as Numbers·cosine, arctangent as Numbers·arctangent, arcsine as Numbers·arcsine, power as Numbers·power};
 
@@ -44,4 +48,36 @@ pub extern "C" fn pozsmeteg_power(a: f64, n: u32, c: f64) -> f64
     ensures { λ r. ⌜ r ≡ Numbers·power a n c ⌝ }
 {
     numbers::power(a, n, c)
+}
+
+#[no_mangle]
+pub extern "C" fn pozsmeteg_prepare(degree: usize, work: &mut [f64])
+    ensures { λ _. ⌜ now (work .exit) ≡ prepared degree (now (work .entry)) ⌝ }
+{
+    fields::kernel::prepare(degree, work);
+}
+
+// The four numbers go into out.
+#[no_mangle]
+pub extern "C" fn pozsmeteg_partials(
+    degree: usize,
+    gm: f64,
+    radius: f64,
+    a: &[f64],
+    b: &[f64],
+    work: &[f64],
+    r: f64,
+    lat: f64,
+    lon: f64,
+    out: &mut [f64],
+)
+    ensures { λ _. ⌜ (length (now (out .entry)) ≡ 4 → now (out .exit) ≡ fourOf (partialsWith degree gm radius (now (a .entry)) (now (b .entry)) (now (work .entry)) r lat lon)) ⌝ }
+{
+    let z = fields::kernel::partials(degree, gm, radius, a, b, work, r, lat, lon);
+    if out.len() == 4 {
+        out[0] = z.v;
+        out[1] = z.dr;
+        out[2] = z.dlat;
+        out[3] = z.dlon;
+    }
 }

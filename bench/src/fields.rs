@@ -1,0 +1,53 @@
+// Module 1: one evaluation of the partials, the tables lent and the work slice prepared.
+use crate::source::{Coefficients, Legendre, Rng, idx};
+use crate::timing::Bench;
+use std::hint::black_box;
+
+unsafe extern "C" {
+    fn pozsmeteg_prepare(degree: usize, work: *mut f64, length: usize);
+    fn pozsmeteg_partials(
+        degree: usize, gm: f64, radius: f64, a: *const f64, a_length: usize, b: *const f64, b_length: usize,
+        work: *const f64, work_length: usize, r: f64, lat: f64, lon: f64, out: *mut f64, out_length: usize,
+    );
+}
+
+const GM: f64 = 3.986004415e14;
+const RADIUS: f64 = 6378136.3;
+
+fn field(n: usize, seed: u64) -> Coefficients {
+    let mut random = Rng::new(seed);
+    let mut unit = || 2.0 * ((random.next_u64() >> 11) as f64 / (1u64 << 53) as f64) - 1.0;
+    let mut out = Coefficients::zeros(GM, RADIUS, n);
+    for d in 0..=n {
+        for m in 0..=d {
+            let size = 1e-5 / (1.0 + (d * d) as f64);
+            out.set(d, m, size * unit(), size * unit());
+        }
+    }
+    out.set(0, 0, 1.0, 0.0);
+    out
+}
+
+pub fn works(bench: &mut Bench) {
+    for (n, count) in [(2, 2000), (60, 200), (180, 20)] {
+        let f = field(n, 7);
+        let l = idx(n, n) + 1;
+        let tables = Legendre::new(n);
+        let mut work = vec![0.0; 8 * l];
+        work[..l].copy_from_slice(&f.c);
+        work[l..2 * l].copy_from_slice(&f.s);
+        unsafe { pozsmeteg_prepare(n, work.as_mut_ptr(), work.len()) };
+        let places: Vec<(f64, f64, f64)> = [(0.3, 1.0), (-1.2, -3.0), (std::f64::consts::FRAC_PI_2, 100.0), (0.0, 0.0)].iter().map(|(lat, lon)| (6.878e6, *lat, *lon)).collect();
+        bench.compare(
+            &format!("partials, N = {n}"),
+            count,
+            places.len(),
+            &mut || places.iter().flat_map(|(r, lat, lon)| { let p = f.partials(black_box(*r), *lat, *lon); [p.v, p.dr, p.dlat, p.dlon] }).collect(),
+            &mut || places.iter().flat_map(|(r, lat, lon)| {
+                let mut out = [0.0; 4];
+                unsafe { pozsmeteg_partials(n, GM, RADIUS, tables.a.as_ptr(), l, tables.b.as_ptr(), l, work.as_ptr(), work.len(), black_box(*r), *lat, *lon, out.as_mut_ptr(), 4) };
+                out
+            }).collect(),
+        );
+    }
+}
