@@ -1,7 +1,9 @@
 -- What the work on the lent numbers leaves. Assumes nothing.
 use mathlib.Core.Path.{_≡_}
 use mathlib.Core.List.{List, _++_}
-use mathlib.Core.Bool.{Bool, true}
+use mathlib.Core.Bool.{Bool, true, false, _&&_}
+use lib.Dec.{leb, eqb}
+use lib.IntN.{ℤ}
 use Prim.Native.Nat.{ℕ, _+_, _*_, _%_, _≤_, _<_}
 use lib.Ieee.{Float, nan}
 use lib.ListN.{length, getD}
@@ -11,7 +13,9 @@ use Rattle.integrate.specs.declared.kernel.State.{State}
 use Rattle.integrate.specs.declared.kernel.Arc.{Arc}
 use Rattle.fit.specs.declared.kernel.Held.{Held}
 use Rattle.fit.specs.declared.kernel.Fitted.{Fitted as Fit}
-use Rattle.fit.specs.declared.kernel.Fitted.the-variants.{Fitted}
+use Rattle.fit.specs.declared.kernel.Fitted.the-variants.{Fitted, Refused}
+use Rattle.laws.specs.Checks.{risingSeconds}
+use Rattle.integrate.specs.Force.{frontSize}
 use Rattle.fit.specs.Fit.{Observed, axis, nth, startOf, regular, improved, rmsAt, fittedFrom, fitOf, orbitOf}
 use Rattle.fit.specs.Room.{Observes, stepNumber, stepAt, placeAt, runAt}
 use Rattle.integrate.specs.Force.{runOf}
@@ -105,3 +109,23 @@ pub record Fits (covered : Float → Bool) (full : Float → Vector → Vector) 
   pub said : answer ≡ fitOf covered full look arc
   pub states : (x : Float) → answer ≡ Fitted x → Orbit s' b (orbitOf full look arc) (arc .steps + 1)
   pub only : Only 0 (b + 90173) s s'
+
+-- ---- the fit for other crates
+
+-- degree and steps within their bounds, a state for each key, room for the work, and keys that rise
+unfoldable pub arcServes : ℕ → ℕ → List ℤ → ℕ → ℕ → Bool
+arcServes N steps keys states room = leb N 180 && leb steps 5302 && eqb states (6 * length keys) && leb (frontSize N + 90173) room && risingSeconds keys
+
+-- the guard's answer, and what holds where it is true
+pub record Serving (N steps : ℕ) (keys : List ℤ) (states room : ℕ) (r : Bool) : Type 0 where
+  pub says : r ≡ arcServes N steps keys states room
+  pub degree : r ≡ true → N ≤ 180
+  pub few : r ≡ true → steps ≤ 5302
+  pub each : r ≡ true → states ≡ 6 * length keys
+  pub enough : r ≡ true → frontSize N + 90173 ≤ room
+  pub rising : r ≡ true → risingSeconds keys ≡ true
+
+-- the fit where the slices serve, and nothing otherwise
+pub record ArcFit (serves : Bool) (covered : Float → Bool) (full : Float → Vector → Vector) (look : Float → Held) (arc : Arc) (s s' : List Float) (base : ℕ) (answer : Fit) : Type 0 where
+  pub fits : serves ≡ true → Fits covered full look arc s s' base answer
+  pub unfit : serves ≡ false → (answer ≡ Refused 3) × (s' ≡ s)

@@ -22,7 +22,7 @@ ghost use Rattle.integrate.specs.Force.{model, frontSize, fullForce, attraction
 ghost use Rattle.integrate.specs.declared.kernel.Force.the-variants.{Full, J2};
 ghost use Rattle.fit.specs.Fit.{stateFor, seen, observed, startOf, scaleOf, movedOf, updatedOf, rmsOf};
 ghost use Rattle.fit.specs.Room.{stepNumber, stepAt, placeAt, runAt};
-ghost use Rattle.fit.specs.Contracts.{Measured, Based, Columned, Stored, Noted, Observing, Designed, Differentiated, Linearised, Rounded, Finished, FitFrom, Fits};
+ghost use Rattle.fit.specs.Contracts.{Measured, Based, Columned, Stored, Noted, Observing, Designed, Differentiated, Linearised, Rounded, Finished, FitFrom, Fits, arcServes, Serving, ArcFit};
 
 // The state at a second, if there is one.
 pub enum Held {
@@ -537,4 +537,46 @@ fn fit_within(
         Held::Known(state) => fit_from(degree, field, a, b, times, added, arc, state, s, base, n),
         Held::Missing => Fitted::Refused(8),
     }
+}
+
+// Whether the lent slices serve for a fit.
+fn arc_fits(degree: usize, steps: usize, keys: &[i64], states: usize, room: usize) -> bool
+    ensures { λ r. ⌜ Serving degree steps (now (keys .entry)) states room r ⌝ }
+{
+    if degree > 180 {
+        return false;
+    }
+    if steps > 5302 {
+        return false;
+    }
+    if states != 6 * keys.len() {
+        return false;
+    }
+    let base = integrate::kernel::front_size(degree);
+    if base + 90173 > room {
+        return false;
+    }
+    slices::rising_keys(keys)
+}
+
+// A dynamic orbit fitted to the known positions of an arc; its states stay behind the numbers before them. Refused by 3, and nothing is done, where the slices do not serve.
+pub fn fit_arc(
+    degree: usize,
+    field: &[f64],
+    a: &[f64],
+    b: &[f64],
+    times: &[f64],
+    added: &[f64],
+    keys: &[i64],
+    states: &[f64],
+    arc: integrate::kernel::Arc,
+    s: &mut [f64],
+) -> Fitted
+    ensures { λ r. ⌜ ArcFit (arcServes degree (arc .steps) (now (keys .entry)) (length (now (states .entry))) (length (now (s .entry)))) (covers (now (times .entry))) (fullForce (model degree (now (field .entry)) (now (times .entry)) (now (added .entry))) (now (a .entry)) (now (b .entry))) (stateFor (now (keys .entry)) (now (states .entry))) arc (now (s .entry)) (now (s .exit)) (frontSize degree) r ⌝ }
+{
+    if arc_fits(degree, arc.steps, keys, states.len(), s.len()) {
+        let base = integrate::kernel::front_size(degree);
+        return fit_within(degree, field, a, b, times, added, keys, states, arc, s, base);
+    }
+    Fitted::Refused(3)
 }

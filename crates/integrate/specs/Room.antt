@@ -1,7 +1,7 @@
 -- What stands where in a list of numbers, place by place. Assumes nothing.
 use mathlib.Core.Path.{_≡_}
-use mathlib.Core.List.{List}
-use Prim.Native.Nat.{ℕ, _+_, _*_, _≤_, _<_}
+use mathlib.Core.List.{List, [], _∷_, _++_}
+use Prim.Native.Nat.{ℕ, zero, suc, _+_, _*_, _≤_, _<_}
 use lib.Ieee.{Float, nan}
 use lib.ListN.{length, getD}
 use Rattle.vectors.specs.declared.Vector.{Vector}
@@ -33,3 +33,11 @@ pub record Holds3 (s : List Float) (at : ℕ) (v : Vector) : Type 0 where
 pub record Orbit (s : List Float) (at : ℕ) (run : Run) (n : ℕ) : Type 0 where
   pub position : (k : ℕ) → k < n → Holds3 s (at + 6 * k) (run k .position)
   pub velocity : (k : ℕ) → k < n → Holds3 s (at + 6 * k + 3) (run k .velocity)
+
+-- the six numbers of a state, and those of the first n states, end to end
+abbrev pub six : State → List Float
+six s = s .position .x ∷ s .position .y ∷ s .position .z ∷ s .velocity .x ∷ s .velocity .y ∷ s .velocity .z ∷ []
+
+unfoldable pub flat : Run → ℕ → List Float
+flat run zero = []
+flat run (suc n) = flat run n ++ six (run n)

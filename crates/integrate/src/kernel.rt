@@ -516,6 +516,16 @@ fn base_of(degree: usize) -> usize
     8 * (n * (n + 1) / 2)
 }
 
+// The same for any degree up to 180.
+pub fn front_size(degree: usize) -> usize
+    ensures { λ r. ⌜ (degree ≤ 180 → r ≡ frontSize degree) × (r ≤ 131768) ⌝ }
+{
+    if degree > 180 {
+        return 0;
+    }
+    base_of(degree)
+}
+
 // The nine empirical parameters behind a state's six numbers.
 fn strengths(p: [f64; 15]) -> [f64; 9]
     ensures { λ r. ⌜ r ≡ strengthsOf p ⌝ }
