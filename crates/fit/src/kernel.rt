@@ -576,7 +576,19 @@ pub fn fit_arc(
 {
     if arc_fits(degree, arc.steps, keys, states.len(), s.len()) {
         let base = integrate::kernel::front_size(degree);
-        return fit_within(degree, field, a, b, times, added, keys, states, arc, s, base);
+        return fit_within(
+            degree,
+            field,
+            a,
+            b,
+            times,
+            added,
+            keys,
+            states,
+            arc,
+            s,
+            base,
+        );
     }
     Fitted::Refused(3)
 }

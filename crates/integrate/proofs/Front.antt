@@ -34,7 +34,7 @@ eq-no-nan nan h = absurd (never h)
 eq-no-nan (inf s) h = tt
 eq-no-nan (fin s m e) h = tt
 
-and-second : (a b : Bool) → a && b ≡ true → b ≡ true
+pub and-second : (a b : Bool) → a && b ≡ true → b ≡ true
 and-second true b h = h
 and-second false b h = absurd (never h)
 

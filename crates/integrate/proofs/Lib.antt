@@ -1,3 +1,4 @@
 pub mod Places
 pub mod Front
 pub mod Laws
+pub mod Calls

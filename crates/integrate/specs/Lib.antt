@@ -2,3 +2,4 @@ pub mod Steps
 pub mod Room
 pub mod Force
 pub mod Work
+pub mod Calls

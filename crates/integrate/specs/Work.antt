@@ -4,7 +4,7 @@ use mathlib.Core.Bool.{Bool, true, false}
 use mathlib.Core.List.{List}
 use Prim.Native.Nat.{ℕ, _+_, _*_, _≤_, _<_}
 use lib.Ieee.{Float, nan}
-use lib.ListN.{take, getD}
+use lib.ListN.{length, take, getD}
 use Rattle.vectors.specs.declared.Vector.{Vector}
 use Rattle.forces.specs.Forces.{momentOf}
 use Rattle.integrate.specs.declared.kernel.State.{State}
@@ -15,7 +15,7 @@ use Rattle.integrate.specs.declared.kernel.Force.{Force}
 use Rattle.integrate.specs.declared.kernel.Force.the-variants.{Full}
 use Rattle.integrate.specs.Steps.{Acceleration, stepOf}
 use Rattle.integrate.specs.Force.{Model, frontSize, frontAt, fullForce, runFits}
-use Rattle.integrate.specs.Room.{Run, Only, Holds3, Orbit}
+use Rattle.integrate.specs.Room.{Run, Only, Holds3, Orbit, flat}
 
 -- the numbers before the states are those of an instant, and so are Sun, Moon and tide
 pub record Ready (M : Model) (w : List Float) (known : Instant) : Type 0 where
@@ -91,3 +91,8 @@ pub record Fitting (N steps room : ℕ) (r : Bool) : Type 0 where
 pub record Ran (fits : Bool) (w w' : List Float) (base steps : ℕ) (run : Run) : Type 0 where
   pub flown : fits ≡ true → Flown w w' base steps run
   pub kept : fits ≡ false → w' ≡ w
+
+-- the states of a run as a list, and scratch as long as before
+pub record Listed (run : Run) (n : ℕ) (out scratch scratch' : List Float) : Type 0 where
+  pub states : out ≡ flat run n
+  pub long : length scratch' ≡ length scratch

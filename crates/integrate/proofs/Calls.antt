@@ -1,0 +1,220 @@
+-- Laws of the public call. Assumes nothing.
+use mathlib.Core.Path.{_≡_, refl, sym, ap, subst, _∙_}
+use mathlib.Core.Bool.{Bool, true, false, cond, _&&_}
+use mathlib.Core.List.{List, [], _∷_, _++_}
+use Prim.Native.Nat.{ℕ, zero, suc, _+_, _*_, _-_, _≤_, _<_}
+use native.Mathlib.Omega.{arith}
+use lib.Dec.{leb, eqb}
+use lib.Ieee.{Float, nan, le}
+use lib.Ieee.Scale.{finite}
+use lib.ListN.{length, take, drop, getD, length-append, length-drop}
+use lib.Seq.{ext-getD, getD-take, getD-drop, length-take-le, take-add, drop-drop}
+use borrow.Author.Tests.{leb-true, lt-leb, le-leb, eqb-true}
+use Rattle.laws.specs.Floats.{bits}
+use Rattle.laws.specs.Checks.{all, isTime, rising, latest}
+use Rattle.laws.specs.Loops.{cleared}
+use Rattle.laws.specs.Tables.{tri}
+use Rattle.slices.specs.Slices.{copied}
+use Rattle.slices.specs.Calls.{left, firstFailed}
+use Rattle.slices.specs.declared.Outcome.{Outcome}
+use Rattle.slices.specs.declared.Outcome.the-variants.{Accepted, Refused}
+use Rattle.slices.proofs.Calls.{cond-passes, call-refused, call-handed}
+use Rattle.slices.proofs.Laws.{copied-all}
+use Rattle.integrate.specs.declared.kernel.Arc.{Arc}
+use Rattle.integrate.specs.declared.kernel.State.{State}
+use Rattle.integrate.specs.declared.kernel.Force.{Force}
+use Rattle.integrate.specs.Room.{Run, Orbit, six, flat}
+use Rattle.integrate.specs.Force.{model, frontSize, attractionOf, runOf, runFits}
+use Rattle.integrate.specs.Work.{Ran, Listed}
+use Rattle.integrate.specs.Calls.{between, isStart, boundTests, lengthsAt, lengthsFit, arcFits, modelFits, laterTests, refusal, integrateCall}
+use Rattle.integrate.proofs.Front.{never, and-second}
+
+-- ---- the tests
+
+pub bounds-is : (N fields steps : ℕ) (u v : Bool) (n1 n2 n3 : ℕ) → u ≡ between 2 32 fields → n1 ≡ cond (leb steps 5302) 0 2 → n2 ≡ cond u n1 2 → v ≡ between 2 180 N → n3 ≡ cond v n2 1 →
+    n3 ≡ firstFailed (boundTests N fields steps)
+bounds-is N fields steps u v n1 n2 n3 eu e1 e2 ev e3 = simp (e3, ev, e2, eu, e1)
+
+pub lengths-are : (l field a b fields added scratch : ℕ) (t1 t2 t3 t4 : Bool) (m n : ℕ) → t1 ≡ eqb field (2 + 2 * l) && eqb a l → t2 ≡ t1 && eqb b l → m ≡ fields * (2 + 2 * l) → t3 ≡ t2 && eqb added m → n ≡ fields * l →
+    t4 ≡ t3 && leb (2 * n + 8 * l + 150000) scratch → t4 ≡ lengthsAt l field a b fields added scratch
+unfolding lengthsAt
+lengths-are l field a b fields added scratch t1 t2 t3 t4 m n e1 e2 em e3 en e4 = simp (e4, e3, e2, e1, em, en)
+
+module _ (N field a b fields added scratch : ℕ) where
+  pub lengths-degree : 180 < N → false ≡ lengthsFit N field a b fields added scratch
+  unfolding lengthsFit
+  lengths-degree h = sym (simp (lt-leb N 180 h))
+
+  pub lengths-fields : N ≤ 180 → 32 < fields → false ≡ lengthsFit N field a b fields added scratch
+  unfolding lengthsFit
+  lengths-fields g h = sym (simp (le-leb N 180 g, lt-leb fields 32 h))
+
+  pub lengths-fit : (l : ℕ) (r : Bool) → N ≤ 180 → fields ≤ 32 → l ≡ tri (N + 1) → r ≡ lengthsAt l field a b fields added scratch → r ≡ lengthsFit N field a b fields added scratch
+  unfolding lengthsFit
+  lengths-fit l r g h e f = f ∙ sym (simp (le-leb N 180 g, le-leb fields 32 h, sym e))
+
+pub arc-is : (arc : Arc) (s n f t r : Bool) → s ≡ isStart (arc .t0) → n ≡ isTime (arc .node) → t ≡ s && n → f ≡ finite (arc .period) → r ≡ t && f → r ≡ arcFits arc
+unfolding arcFits
+arc-is arc s n f t r es en et ef er = simp (er, et, es, en, ef)
+
+pub model-is : (field a b ts fs : List Float) (x y z u v t1 t2 t3 t4 : Bool) → x ≡ all finite field → y ≡ all finite a → t1 ≡ x && y → z ≡ all finite b → t2 ≡ t1 && z → u ≡ all finite fs → t3 ≡ t2 && u →
+    v ≡ all isTime ts → t4 ≡ t3 && v → t4 ≡ modelFits field a b ts fs
+unfolding modelFits
+model-is field a b ts fs x y z u v t1 t2 t3 t4 ex ey e1 ez e2 eu e3 ev e4 = simp (e4, e3, e2, e1, ex, ey, ez, eu, ev)
+
+pub later-is : (N : ℕ) (field a b ts fs : List Float) (arc : Arc) (p : List Float) (out scratch : ℕ) (r f m t l : Bool) (n1 n2 n3 n4 n5 n6 : ℕ) →
+    r ≡ rising ts → n1 ≡ cond r 0 5 → f ≡ arcFits arc → t ≡ all finite p → n2 ≡ cond t n1 4 → n3 ≡ cond f n2 4 → m ≡ modelFits field a b ts fs → n4 ≡ cond m n3 4 →
+    l ≡ lengthsFit N (length field) (length a) (length b) (length ts) (length fs) scratch → n5 ≡ cond (eqb out (6 * (arc .steps + 1))) n4 3 → n6 ≡ cond l n5 3 →
+    n6 ≡ firstFailed (laterTests N field a b ts fs arc p out scratch)
+later-is N field a b ts fs arc p out scratch r f m t l n1 n2 n3 n4 n5 n6 er e1 ef et e2 e3 em e4 el e5 e6 = simp (e6, el, e5, e4, em, e3, ef, e2, et, e1, er)
+
+-- three tests before others
+stays : (d c s : Bool) (n rest : ℕ) → n ≡ cond d (cond c (cond s 0 2) 2) 1 → (n ≡ 0 → ⊥) → n ≡ cond d (cond c (cond s rest 2) 2) 1
+stays true true true n rest e h = absurd (h e)
+stays true true false n rest e h = e
+stays true false s n rest e h = e
+stays false c s n rest e h = e
+
+goes : (d c s : Bool) (n rest : ℕ) → n ≡ cond d (cond c (cond s 0 2) 2) 1 → n ≡ 0 → rest ≡ cond d (cond c (cond s rest 2) 2) 1
+goes true true true n rest e h = refl
+goes true true false n rest e h = absurd (omega arith)
+goes true false s n rest e h = absurd (omega arith)
+goes false c s n rest e h = absurd (omega arith)
+
+module _ (N : ℕ) (field a b ts fs : List Float) (arc : Arc) (p : List Float) (out scratch n : ℕ) (e : n ≡ firstFailed (boundTests N (length ts) (arc .steps))) where
+  pub refusal-first : (n ≡ 0 → ⊥) → n ≡ refusal N field a b ts fs arc p out scratch
+  unfolding refusal
+  refusal-first h = stays (between 2 180 N) (between 2 32 (length ts)) (leb (arc .steps) 5302) n (firstFailed (laterTests N field a b ts fs arc p out scratch)) e h
+
+  pub refusal-later : n ≡ 0 → (m : ℕ) → m ≡ firstFailed (laterTests N field a b ts fs arc p out scratch) → m ≡ refusal N field a b ts fs arc p out scratch
+  unfolding refusal
+  refusal-later h m f = f ∙ goes (between 2 180 N) (between 2 32 (length ts)) (leb (arc .steps) 5302) n (firstFailed (laterTests N field a b ts fs arc p out scratch)) e h
+
+  pub few-steps : n ≡ 0 → arc .steps ≤ 5302
+  few-steps h =
+      let x = cond-passes (between 2 180 N) _ 0 (sym e ∙ h) in
+      let y = cond-passes (between 2 32 (length ts)) _ 1 (x .1) in
+      let z = cond-passes (leb (arc .steps) 5302) _ 1 (y .1) in
+      leb-true (arc .steps) 5302 (z .0)
+
+-- ---- what holds where none fails
+
+pub record Passed (N : ℕ) (arc : Arc) (out scratch : ℕ) : Type 0 where
+  pub degree : N ≤ 180
+  pub few : arc .steps ≤ 5302
+  pub room : frontSize N + 150000 ≤ scratch
+  pub each : out ≡ 6 * (arc .steps + 1)
+
+lengths-room : (N field a b fields added scratch : ℕ) → lengthsFit N field a b fields added scratch ≡ true → frontSize N + 150000 ≤ scratch
+unfolding lengthsFit lengthsAt
+lengths-room N field a b fields added scratch h =
+    let l : ℕ = tri (N + 1) in
+    let q = and-second (eqb field (2 + 2 * l) && eqb a l && eqb b l && eqb added (fields * (2 + 2 * l))) (leb (2 * (fields * l) + 8 * l + 150000) scratch)
+    (and-second (leb N 180 && leb fields 32) (lengthsAt l field a b fields added scratch) h) in
+    omega (arith, leb-true (2 * (fields * tri (N + 1)) + 8 * tri (N + 1) + 150000) scratch q)
+
+pub passes : (N : ℕ) (field a b ts fs : List Float) (arc : Arc) (p : List Float) (out scratch : ℕ) → refusal N field a b ts fs arc p out scratch ≡ 0 → Passed N arc out scratch
+unfolding refusal
+passes N field a b ts fs arc p out scratch h =
+    let x = cond-passes (between 2 180 N) _ 0 h in
+    let y = cond-passes (between 2 32 (length ts)) _ 1 (x .1) in
+    let z = cond-passes (leb (arc .steps) 5302) _ 1 (y .1) in
+    let u = cond-passes (lengthsFit N (length field) (length a) (length b) (length ts) (length fs) scratch) _ 2 (z .1) in
+    let v = cond-passes (eqb out (6 * (arc .steps + 1))) _ 2 (u .1) in
+    record {
+      degree = leb-true N 180 (and-second (leb 2 N) (leb N 180) (x .0));
+      few = leb-true (arc .steps) 5302 (z .0);
+      room = lengths-room N (length field) (length a) (length b) (length ts) (length fs) scratch (u .0);
+      each = eqb-true out (6 * (arc .steps + 1)) (v .0);
+    }
+
+-- ---- the states of a run as a list
+
+six-part : (w : List Float) (at : ℕ) (run : Run) (k : ℕ) → Orbit w at run (suc k) → at + 6 * suc k ≤ length w → take 6 (drop (at + 6 * k) w) ≡ six (run k)
+six-part w at run k o h =
+    let b : ℕ = at + 6 * k in
+    let l : length (take 6 (drop b w)) ≡ 6 = length-take-le 6 (drop b w) (omega (arith, length-drop b w)) in
+    let p = o .position k (omega arith) in
+    let v = o .velocity k (omega arith) in
+    let zero-off : b + 0 ≡ b = omega arith in
+    ext-getD nan (take 6 (drop b w)) (six (run k)) l (λ i q. getD-take 6 (drop b w) i nan (omega arith) ∙ getD-drop b w i nan ∙ at-place i (omega arith))
+  where
+    at-place : (i : ℕ) → i < 6 → getD w (at + 6 * k + i) nan ≡ getD (six (run k)) i nan
+    at-place zero q = let e : at + 6 * k + 0 ≡ at + 6 * k = omega arith in ap (λ (n : ℕ). getD w n nan) e ∙ o .position k (omega arith) .x
+    at-place (suc zero) q = o .position k (omega arith) .y
+    at-place (suc (suc zero)) q = o .position k (omega arith) .z
+    at-place (suc (suc (suc zero))) q = o .velocity k (omega arith) .x
+    at-place (suc (suc (suc (suc zero)))) q = let e : at + 6 * k + 4 ≡ at + 6 * k + 3 + 1 = omega arith in ap (λ (n : ℕ). getD w n nan) e ∙ o .velocity k (omega arith) .y
+    at-place (suc (suc (suc (suc (suc zero))))) q = let e : at + 6 * k + 5 ≡ at + 6 * k + 3 + 2 = omega arith in ap (λ (n : ℕ). getD w n nan) e ∙ o .velocity k (omega arith) .z
+    at-place (suc (suc (suc (suc (suc (suc i)))))) q = absurd (omega arith)
+
+flat-length : (run : Run) (n : ℕ) → length (flat run n) ≡ 6 * n
+unfolding flat
+flat-length run zero = refl
+flat-length run (suc n) = length-append (flat run n) (six (run n)) ∙ omega (arith, flat-length run n)
+
+pub flat-part : (w : List Float) (at : ℕ) (run : Run) (n : ℕ) → Orbit w at run n → at + 6 * n ≤ length w → take (6 * n) (drop at w) ≡ flat run n
+unfolding flat
+flat-part w at run zero o h = refl
+flat-part w at run (suc n) o h =
+    let less : Orbit w at run n = record { position = λ k l. o .position k (omega arith); velocity = λ k l. o .velocity k (omega arith) } in
+    let e : 6 * suc n ≡ 6 * n + 6 = omega arith in
+    ap (λ (k : ℕ). take k (drop at w)) e
+    ∙ take-add (6 * n) 6 (drop at w)
+    ∙ (λ i. flat-part w at run n less (omega arith) i ++ (ap (take 6) (drop-drop (6 * n) at w) ∙ six-part w at run n o h) i)
+
+pub ran-long : (N steps : ℕ) (w w' : List Float) (run : Run) → N ≤ 180 → steps ≤ 5302 → frontSize N + 31818 ≤ length w → Ran (runFits N steps (length w)) w w' (frontSize N) steps run → length w' ≡ length w
+unfolding runFits
+ran-long N steps w w' run h k l r = r .flown (simp (le-leb N 180 h, le-leb steps 5302 k, le-leb (frontSize N + 31818) (length w) l)) .only .long
+
+pub states-are : (N steps base : ℕ) (w w' out out' : List Float) (run : Run) → N ≤ 180 → steps ≤ 5302 → frontSize N + 31818 ≤ length w → length out ≡ 6 * (steps + 1) →
+    Ran (runFits N steps (length w)) w w' (frontSize N) steps run → (N ≤ 180 → base ≡ frontSize N) × (base ≤ 131768) →
+    out' ≡ copied (take (base + 6 * (steps + 1) - base) (drop base w')) out → Listed run (steps + 1) out' w w'
+unfolding runFits
+states-are N steps base w w' out out' run h k l q r e c =
+    let f = r .flown (simp (le-leb N 180 h, le-leb steps 5302 k, le-leb (frontSize N + 31818) (length w) l)) in
+    let eb : base ≡ frontSize N = e .0 h in
+    let z : base + 6 * (steps + 1) - base ≡ 6 * (steps + 1) = omega arith in
+    let long : length w' ≡ length w = f .only .long in
+    let part : take (base + 6 * (steps + 1) - base) (drop base w') ≡ flat run (steps + 1) =
+    (λ i. take (z i) (drop (eb i) w')) ∙ flat-part w' (frontSize N) run (steps + 1) (f .states) (omega (arith, long)) in
+    let lp : length (take (base + 6 * (steps + 1) - base) (drop base w')) ≡ 6 * (steps + 1) =
+    ap (λ (n : ℕ). length (take n (drop base w'))) z ∙ length-take-le (6 * (steps + 1)) (drop base w') (omega (arith, length-drop base w', long)) in
+    record { states = c ∙ copied-all (take (base + 6 * (steps + 1) - base) (drop base w')) out (q ∙ sym lp) ∙ part; long = long }
+
+-- ---- the call
+
+module _ (force : Force) (N : ℕ) (field a b ts fs : List Float) (arc : Arc) (p out scratch : List Float) (n : ℕ) (en : n ≡ refusal N field a b ts fs arc p (length out) (length scratch)) where
+  pub integrate-refused : (n ≡ 0 → ⊥) → left (Refused n) (out ∷ []) scratch ≡ integrateCall force N field a b ts fs arc p out scratch
+  unfolding integrateCall
+  integrate-refused h = call-refused Accepted Refused _ _ _ n _ _ en h
+
+  pub passed-here : n ≡ 0 → Passed N arc (length out) (length scratch)
+  passed-here h = passes N field a b ts fs arc p (length out) (length scratch) (sym en ∙ h)
+
+  module _ (h : n ≡ 0) (out' scratch' scratch'' : List Float)
+      (eo : Listed (runOf (attractionOf force (model N field ts fs) a b) arc p) (arc .steps + 1) out' scratch scratch') (es : scratch'' ≡ cleared scratch') (t : Bool) (et : t ≡ all finite out') where
+    clear-is : scratch'' ≡ cleared scratch
+    clear-is = let l = eo .long in es ∙ rw l
+
+    finite-is : t ≡ all (all finite) (flat (runOf (attractionOf force (model N field ts fs) a b) arc p) (arc .steps + 1) ∷ [])
+    finite-is = et ∙ ap (all finite) (eo .states) ∙ and-true (all finite (flat (runOf (attractionOf force (model N field ts fs) a b) arc p) (arc .steps + 1)))
+      where
+        and-true : (x : Bool) → x ≡ x && true
+        and-true true = refl
+        and-true false = refl
+
+    pub integrate-accepted : t ≡ true → left Accepted (out' ∷ []) scratch'' ≡ integrateCall force N field a b ts fs arc p out scratch
+    unfolding integrateCall
+    integrate-accepted q =
+        (λ i. left Accepted (eo .states i ∷ []) (clear-is i))
+        ∙ call-handed Accepted Refused (flat (runOf (attractionOf force (model N field ts fs) a b) arc p) (arc .steps + 1) ∷ []) (out ∷ []) scratch true _ 0 (sym h ∙ en) refl (sym q ∙ finite-is)
+
+    pub integrate-unfit : t ≡ false → (out'' : List Float) → out'' ≡ cleared out' → left (Refused 10) (out'' ∷ []) scratch'' ≡ integrateCall force N field a b ts fs arc p out scratch
+    unfolding integrateCall
+    integrate-unfit q out'' e =
+        (λ i. left (Refused 10) ((e ∙ same (ap length (eo .states) ∙ flat-length _ (arc .steps + 1) ∙ sym (passed-here h .each))) i ∷ []) (clear-is i))
+        ∙ call-handed Accepted Refused (flat (runOf (attractionOf force (model N field ts fs) a b) arc p) (arc .steps + 1) ∷ []) (out ∷ []) scratch false _ 0 (sym h ∙ en) refl (sym q ∙ finite-is)
+      where
+        same : length out' ≡ length out → cleared out' ≡ cleared out
+        same l = rw l
