@@ -69,17 +69,25 @@ pub later-is : (N : ℕ) (field a b ts fs : List Float) (arc : Arc) (p : List Fl
 later-is N field a b ts fs arc p out scratch r f m t l n1 n2 n3 n4 n5 n6 er e1 ef et e2 e3 em e4 el e5 e6 = simp (e6, el, e5, e4, em, e3, ef, e2, et, e1, er)
 
 -- three tests before others
-stays : (d c s : Bool) (n rest : ℕ) → n ≡ cond d (cond c (cond s 0 2) 2) 1 → (n ≡ 0 → ⊥) → n ≡ cond d (cond c (cond s rest 2) 2) 1
+pub stays : (d c s : Bool) (n rest : ℕ) → n ≡ cond d (cond c (cond s 0 2) 2) 1 → (n ≡ 0 → ⊥) → n ≡ cond d (cond c (cond s rest 2) 2) 1
 stays true true true n rest e h = absurd (h e)
 stays true true false n rest e h = e
 stays true false s n rest e h = e
 stays false c s n rest e h = e
 
-goes : (d c s : Bool) (n rest : ℕ) → n ≡ cond d (cond c (cond s 0 2) 2) 1 → n ≡ 0 → rest ≡ cond d (cond c (cond s rest 2) 2) 1
+pub goes : (d c s : Bool) (n rest : ℕ) → n ≡ cond d (cond c (cond s 0 2) 2) 1 → n ≡ 0 → rest ≡ cond d (cond c (cond s rest 2) 2) 1
 goes true true true n rest e h = refl
 goes true true false n rest e h = absurd (omega arith)
 goes true false s n rest e h = absurd (omega arith)
 goes false c s n rest e h = absurd (omega arith)
+
+-- where those three are passed, the steps are few
+pub bounds-few : (N fields steps n : ℕ) → n ≡ firstFailed (boundTests N fields steps) → n ≡ 0 → steps ≤ 5302
+bounds-few N fields steps n e h =
+    let x = cond-passes (between 2 180 N) _ 0 (sym e ∙ h) in
+    let y = cond-passes (between 2 32 fields) _ 1 (x .1) in
+    let z = cond-passes (leb steps 5302) _ 1 (y .1) in
+    leb-true steps 5302 (z .0)
 
 module _ (N : ℕ) (field a b ts fs : List Float) (arc : Arc) (p : List Float) (out scratch n : ℕ) (e : n ≡ firstFailed (boundTests N (length ts) (arc .steps))) where
   pub refusal-first : (n ≡ 0 → ⊥) → n ≡ refusal N field a b ts fs arc p out scratch
@@ -91,11 +99,7 @@ module _ (N : ℕ) (field a b ts fs : List Float) (arc : Arc) (p : List Float) (
   refusal-later h m f = f ∙ goes (between 2 180 N) (between 2 32 (length ts)) (leb (arc .steps) 5302) n (firstFailed (laterTests N field a b ts fs arc p out scratch)) e h
 
   pub few-steps : n ≡ 0 → arc .steps ≤ 5302
-  few-steps h =
-      let x = cond-passes (between 2 180 N) _ 0 (sym e ∙ h) in
-      let y = cond-passes (between 2 32 (length ts)) _ 1 (x .1) in
-      let z = cond-passes (leb (arc .steps) 5302) _ 1 (y .1) in
-      leb-true (arc .steps) 5302 (z .0)
+  few-steps h = bounds-few N (length ts) (arc .steps) n e h
 
 -- ---- what holds where none fails
 
@@ -105,7 +109,7 @@ pub record Passed (N : ℕ) (arc : Arc) (out scratch : ℕ) : Type 0 where
   pub room : frontSize N + 150000 ≤ scratch
   pub each : out ≡ 6 * (arc .steps + 1)
 
-lengths-room : (N field a b fields added scratch : ℕ) → lengthsFit N field a b fields added scratch ≡ true → frontSize N + 150000 ≤ scratch
+pub lengths-room : (N field a b fields added scratch : ℕ) → lengthsFit N field a b fields added scratch ≡ true → frontSize N + 150000 ≤ scratch
 unfolding lengthsFit lengthsAt
 lengths-room N field a b fields added scratch h =
     let l : ℕ = tri (N + 1) in
@@ -148,7 +152,7 @@ six-part w at run k o h =
     at-place (suc (suc (suc (suc (suc zero))))) q = let e : at + 6 * k + 5 ≡ at + 6 * k + 3 + 2 = omega arith in ap (λ (n : ℕ). getD w n nan) e ∙ o .velocity k (omega arith) .z
     at-place (suc (suc (suc (suc (suc (suc i)))))) q = absurd (omega arith)
 
-flat-length : (run : Run) (n : ℕ) → length (flat run n) ≡ 6 * n
+pub flat-length : (run : Run) (n : ℕ) → length (flat run n) ≡ 6 * n
 unfolding flat
 flat-length run zero = refl
 flat-length run (suc n) = length-append (flat run n) (six (run n)) ∙ omega (arith, flat-length run n)
