@@ -7,3 +7,4 @@ pub mod Steps
 pub mod Rounds
 pub mod Whole
 pub mod Locality
+pub mod Calls

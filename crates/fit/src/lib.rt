@@ -1,2 +1,178 @@
 // Orbits fitted to observed positions.
 pub mod kernel;
+
+ghost use mathlib.Core.Path.{_≡_};
+ghost use mathlib.Core.List.{[], _∷_};
+ghost use Prim.Native.Nat.{_+_, _*_, _≤_};
+ghost use lib.Dec.{eqb};
+ghost use lib.ListN.{length, take, drop};
+ghost use Rattle.slices.specs.Calls.{left, firstFailed};
+ghost use Rattle.slices.specs.Slices.{copied};
+ghost use Rattle.integrate.specs.Force.{frontSize};
+ghost use Rattle.fit.specs.Calls.{laterTests, refusal as refusalOf, fitCall};
+ghost use Rattle.fit.specs.Handing.{Handed};
+
+// Whether there are six numbers for each key.
+fn six_each(keys: &[i64], states: usize) -> bool
+    ensures { λ r. ⌜ r ≡ eqb states (6 * length (now (keys .entry))) ⌝ }
+{
+    states == 6 * keys.len()
+}
+
+fn later_refusal(
+    degree: usize,
+    field: &[f64],
+    a: &[f64],
+    b: &[f64],
+    times: &[f64],
+    added: &[f64],
+    keys: &[i64],
+    states: &[f64],
+    arc: integrate::kernel::Arc,
+    out: usize,
+    scratch: usize,
+) -> u8
+    requires { ⌜ arc .steps ≤ 5302 ⌝ }
+    ensures { λ r. ⌜ r ≡ firstFailed (laterTests degree (now (field .entry)) (now (a .entry)) (now (b .entry)) (now (times .entry)) (now (added .entry)) (now (keys .entry)) (now (states .entry)) arc out scratch) ⌝ }
+{
+    let order = slices::unless(
+        slices::rising(times),
+        5,
+        slices::unless(slices::rising_keys(keys), 5, 0),
+    );
+    let numbers = slices::unless(
+        slices::all_finite(states),
+        4,
+        slices::unless(slices::all_keys(keys), 4, order),
+    );
+    let values = slices::unless(
+        integrate::model_fine(field, a, b, times, added),
+        4,
+        slices::unless(integrate::arc_fine(arc), 4, numbers),
+    );
+    let sizes = slices::unless(
+        out == 6 * (arc.steps + 1),
+        3,
+        slices::unless(six_each(keys, states.len()), 3, values),
+    );
+    let lengths = integrate::lengths_fit(
+        degree,
+        field.len(),
+        a.len(),
+        b.len(),
+        times.len(),
+        added.len(),
+        scratch,
+    );
+    slices::unless(keys.len() <= 200000, 2, slices::unless(lengths, 3, sizes))
+}
+
+fn refusal(
+    degree: usize,
+    field: &[f64],
+    a: &[f64],
+    b: &[f64],
+    times: &[f64],
+    added: &[f64],
+    keys: &[i64],
+    states: &[f64],
+    arc: integrate::kernel::Arc,
+    out: usize,
+    scratch: usize,
+) -> u8
+    ensures { λ r. ⌜ r ≡ refusalOf degree (now (field .entry)) (now (a .entry)) (now (b .entry)) (now (times .entry)) (now (added .entry)) (now (keys .entry)) (now (states .entry)) arc out scratch ⌝ }
+{
+    let first = integrate::bounds(degree, times.len(), arc.steps);
+    if first != 0 {
+        return first;
+    }
+    later_refusal(
+        degree,
+        field,
+        a,
+        b,
+        times,
+        added,
+        keys,
+        states,
+        arc,
+        out,
+        scratch,
+    )
+}
+
+// The fitted states into out, and the rms, where all are finite.
+fn hand_out(
+    x: f64,
+    degree: usize,
+    steps: usize,
+    out: &mut [f64],
+    scratch: &mut [f64],
+) -> kernel::Fitted
+    requires { ⌜ (degree ≤ 180) × (steps ≤ 5302) × (frontSize degree + 31818 ≤ length (now scratch)) × (length (now out) ≡ 6 * (steps + 1)) ⌝ }
+    ensures { λ r. ⌜ Handed x (take (6 * (steps + 1)) (drop (frontSize degree) (now (scratch .entry)))) (now (out .entry)) (now (scratch .entry)) r (now (out .exit)) (now (scratch .exit)) ⌝ }
+{
+    let base = integrate::kernel::front_size(degree);
+    let end = base + 6 * (steps + 1);
+    slices::copy(&scratch[base..end], out);
+    slices::clear(scratch);
+    if slices::both(numbers::is_finite(x), slices::all_finite(&out[..])) {
+        return kernel::Fitted::Fitted(x);
+    }
+    slices::clear(out);
+    kernel::Fitted::Refused(10)
+}
+
+// A dynamic orbit fitted to the known positions of an arc: the rms of its misfits, and its states, six numbers each, in out.
+pub fn fit_orbit(
+    degree: usize,
+    field: &[f64],
+    a: &[f64],
+    b: &[f64],
+    times: &[f64],
+    added: &[f64],
+    keys: &[i64],
+    states: &[f64],
+    arc: integrate::kernel::Arc,
+    out: &mut [f64],
+    scratch: &mut [f64],
+) -> kernel::Fitted
+    ensures { λ r. ⌜ left r (now (out .exit) ∷ []) (now (scratch .exit)) ≡ fitCall degree (now (field .entry)) (now (a .entry)) (now (b .entry)) (now (times .entry)) (now (added .entry)) (now (keys .entry)) (now (states .entry)) arc (now (out .entry)) (now (scratch .entry)) ⌝ }
+{
+    let refused = refusal(
+        degree,
+        field,
+        a,
+        b,
+        times,
+        added,
+        keys,
+        states,
+        arc,
+        out.len(),
+        scratch.len(),
+    );
+    if refused != 0 {
+        return kernel::Fitted::Refused(refused);
+    }
+    let answer = kernel::fit_arc(
+        degree,
+        field,
+        a,
+        b,
+        times,
+        added,
+        keys,
+        states,
+        arc,
+        scratch,
+    );
+    match answer {
+        kernel::Fitted::Fitted(x) => hand_out(x, degree, arc.steps, out, scratch),
+        kernel::Fitted::Refused(k) => {
+            slices::clear(out);
+            slices::clear(scratch);
+            kernel::Fitted::Refused(k)
+        }
+    }
+}

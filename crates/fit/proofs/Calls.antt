@@ -1,0 +1,213 @@
+-- Laws of the public call. Assumes nothing.
+use mathlib.Core.Path.{_≡_, refl, sym, ap, subst, _∙_}
+use mathlib.Core.Bool.{Bool, true, false, cond, _&&_}
+use mathlib.Core.List.{List, [], _∷_, map}
+use Prim.Native.Nat.{ℕ, zero, suc, _+_, _*_, _-_, _/_, _≤_, _<_}
+use native.Mathlib.Omega.{arith}
+use lib.Dec.{leb, eqb, ltb}
+use lib.IntN.{ℤ}
+use lib.Ieee.{Float}
+use lib.Ieee.Scale.{finite}
+use lib.ListN.{length, take, drop, length-drop}
+use lib.Seq.{length-take-le}
+use borrow.Author.Tests.{leb-true, eqb-true, le-leb, eq-eqb}
+use Rattle.laws.specs.Checks.{all, isKey, rising, risingSeconds}
+use Rattle.laws.specs.Lists.{cond-ind}
+use Rattle.laws.specs.Loops.{cleared}
+use Rattle.vectors.specs.declared.Vector.{Vector}
+use Rattle.slices.specs.Slices.{copied}
+use Rattle.slices.specs.Calls.{left, firstFailed, settled}
+use Rattle.slices.proofs.Calls.{cond-passes, call-refused, call-failed, call-handed}
+use Rattle.slices.proofs.Laws.{copied-all}
+use Rattle.finality.specs.Brackets.{covers}
+use Rattle.least_squares.proofs.Laws.{never}
+use Rattle.integrate.specs.declared.kernel.Arc.{Arc}
+use Rattle.integrate.specs.Steps.{timeOf}
+use Rattle.integrate.specs.Room.{Run, Orbit, flat}
+use Rattle.integrate.specs.Force.{model, frontSize, fullForce}
+use Rattle.integrate.specs.Calls.{between, boundTests, lengthsFit, modelFits, arcFits}
+use Rattle.integrate.proofs.Calls.{stays, goes, bounds-few, lengths-room, flat-part}
+use Rattle.integrate.proofs.Front.{and-second}
+use Rattle.fit.specs.declared.kernel.Held.{Held}
+use Rattle.fit.specs.declared.kernel.Held.the-variants.{Known, Missing}
+use Rattle.fit.specs.declared.kernel.Fitted.{Fitted as Fit}
+use Rattle.fit.specs.declared.kernel.Fitted.the-variants.{Fitted, Refused}
+use Rattle.fit.specs.Fit.{Observed, stateFor, fitOf, fitFrom, fittedFrom, orbitOf, observed, startOf, improved, regular, rmsAt}
+use Rattle.fit.specs.Contracts.{Fits, arcServes, ArcFit}
+use Rattle.fit.specs.Handing.{Handed}
+use Rattle.fit.specs.Calls.{numberOf, rmsIn, laterTests, refusal, fitCall}
+
+-- ---- the tests
+
+pub later-is : (N : ℕ) (field a b ts fs : List Float) (ks : List ℤ) (ss : List Float) (arc : Arc) (out scratch : ℕ) (r k f g m t l q : Bool) (n1 n2 n3 n4 n5 n6 n7 n8 n9 n10 : ℕ) →
+    r ≡ rising ts → k ≡ risingSeconds ks → n1 ≡ cond k 0 5 → n2 ≡ cond r n1 5 → f ≡ all finite ss → g ≡ all isKey ks → n3 ≡ cond g n2 4 → n4 ≡ cond f n3 4 →
+    m ≡ modelFits field a b ts fs → t ≡ arcFits arc → n5 ≡ cond t n4 4 → n6 ≡ cond m n5 4 →
+    q ≡ eqb (length ss) (6 * length ks) → n7 ≡ cond q n6 3 → n8 ≡ cond (eqb out (6 * (arc .steps + 1))) n7 3 →
+    l ≡ lengthsFit N (length field) (length a) (length b) (length ts) (length fs) scratch → n9 ≡ cond l n8 3 → n10 ≡ cond (leb (length ks) 200000) n9 2 →
+    n10 ≡ firstFailed (laterTests N field a b ts fs ks ss arc out scratch)
+later-is N field a b ts fs ks ss arc out scratch r k f g m t l q n1 n2 n3 n4 n5 n6 n7 n8 n9 n10 er ek e1 e2 ef eg e3 e4 em et e5 e6 eq e7 e8 el e9 e10 =
+    simp (e10, e9, el, e8, e7, eq, e6, em, e5, et, e4, ef, e3, eg, e2, er, e1, ek)
+
+module _ (N : ℕ) (field a b ts fs : List Float) (ks : List ℤ) (ss : List Float) (arc : Arc) (out scratch n : ℕ) (e : n ≡ firstFailed (boundTests N (length ts) (arc .steps))) where
+  pub refusal-first : (n ≡ 0 → ⊥) → n ≡ refusal N field a b ts fs ks ss arc out scratch
+  unfolding refusal
+  refusal-first h = stays (between 2 180 N) (between 2 32 (length ts)) (leb (arc .steps) 5302) n (firstFailed (laterTests N field a b ts fs ks ss arc out scratch)) e h
+
+  pub refusal-later : n ≡ 0 → (m : ℕ) → m ≡ firstFailed (laterTests N field a b ts fs ks ss arc out scratch) → m ≡ refusal N field a b ts fs ks ss arc out scratch
+  unfolding refusal
+  refusal-later h m f = f ∙ goes (between 2 180 N) (between 2 32 (length ts)) (leb (arc .steps) 5302) n (firstFailed (laterTests N field a b ts fs ks ss arc out scratch)) e h
+
+pub record Passed (N : ℕ) (arc : Arc) (ks : List ℤ) (states out scratch : ℕ) : Type 0 where
+  pub degree : N ≤ 180
+  pub few : arc .steps ≤ 5302
+  pub room : frontSize N + 150000 ≤ scratch
+  pub each : out ≡ 6 * (arc .steps + 1)
+  pub rows : states ≡ 6 * length ks
+  pub order : risingSeconds ks ≡ true
+
+pub passes : (N : ℕ) (field a b ts fs : List Float) (ks : List ℤ) (ss : List Float) (arc : Arc) (out scratch : ℕ) → refusal N field a b ts fs ks ss arc out scratch ≡ 0 → Passed N arc ks (length ss) out scratch
+unfolding refusal
+passes N field a b ts fs ks ss arc out scratch h =
+    let x = cond-passes (between 2 180 N) _ 0 h in
+    let y = cond-passes (between 2 32 (length ts)) _ 1 (x .1) in
+    let z = cond-passes (leb (arc .steps) 5302) _ 1 (y .1) in
+    let c = cond-passes (leb (length ks) 200000) _ 1 (z .1) in
+    let u = cond-passes (lengthsFit N (length field) (length a) (length b) (length ts) (length fs) scratch) _ 2 (c .1) in
+    let v = cond-passes (eqb out (6 * (arc .steps + 1))) _ 2 (u .1) in
+    let w = cond-passes (eqb (length ss) (6 * length ks)) _ 2 (v .1) in
+    let m = cond-passes (modelFits field a b ts fs) _ 3 (w .1) in
+    let t = cond-passes (arcFits arc) _ 3 (m .1) in
+    let f = cond-passes (all finite ss) _ 3 (t .1) in
+    let g = cond-passes (all isKey ks) _ 3 (f .1) in
+    let r = cond-passes (rising ts) _ 4 (g .1) in
+    let k = cond-passes (risingSeconds ks) _ 4 (r .1) in
+    record {
+      degree = leb-true N 180 (and-second (leb 2 N) (leb N 180) (x .0));
+      few = leb-true (arc .steps) 5302 (z .0);
+      room = lengths-room N (length field) (length a) (length b) (length ts) (length fs) scratch (u .0);
+      each = eqb-true out (6 * (arc .steps + 1)) (v .0);
+      rows = eqb-true (length ss) (6 * length ks) (w .0);
+      order = k .0;
+    }
+
+-- ---- an arc refused has a number from 6 on
+
+abbrev Late : Fit → Type 0
+Late (Fitted x) = Unit
+Late (Refused n) = n ≡ 0 → ⊥
+
+late : (n : ℕ) → 0 < n → n ≡ 0 → ⊥
+late n h e = omega arith
+
+from-late : (full : Float → Vector → Vector) (arc : Arc) (obs : List Observed) (h : Held) → Late (fitFrom full arc obs h)
+unfolding fittedFrom
+from-late full arc obs (Known s) =
+    cond-ind Late (regular full arc obs (startOf s)) _ (Refused 9)
+    (λ t. cond-ind Late (regular full arc obs (improved full arc obs (startOf s))) (Fitted _) (Refused 9) (λ u. tt) (λ u. late 9 (omega arith)))
+    (λ t. late 9 (omega arith))
+from-late full arc obs Missing = late 8 (omega arith)
+
+pub fit-late : (covered : Float → Bool) (full : Float → Vector → Vector) (look : Float → Held) (arc : Arc) → Late (fitOf covered full look arc)
+unfolding fitOf
+fit-late covered full look arc =
+    let few : Bool = ltb (length (observed look arc)) (arc .steps / 10) in
+    let rest : Fit = fitFrom full arc (observed look arc) (look (arc .t0)) in
+    cond-ind Late (covered (arc .t0) && covered (timeOf (arc .t0) (arc .steps))) (cond few (Refused 7) rest) (Refused 6)
+    (λ t. cond-ind Late few (Refused 7) rest (λ u. late 7 (omega arith)) (λ u. from-late full arc (observed look arc) (look (arc .t0))))
+    (λ t. late 6 (omega arith))
+
+-- ---- handing out
+
+and-both : (a b : Bool) → a && b ≡ true → (a ≡ true) × (b ≡ true)
+and-both true b h = (refl, h)
+and-both false b h = absurd (never h)
+
+and-true : (x : Bool) → x ≡ x && true
+and-true true = refl
+and-true false = refl
+
+cleared-same : (x y : List Float) → length x ≡ length y → cleared x ≡ cleared y
+cleared-same x y l = rw l
+
+module _ (x : Float) (N steps base : ℕ) (w out o1 w1 : List Float) (h : N ≤ 180) (k : steps ≤ 5302) (l : frontSize N + 31818 ≤ length w) (q : length out ≡ 6 * (steps + 1))
+    (e : (N ≤ 180 → base ≡ frontSize N) × (base ≤ 131768)) (c : o1 ≡ copied (take (base + 6 * (steps + 1) - base) (drop base w)) out) (cl : w1 ≡ cleared w)
+    (f g t : Bool) (ef : f ≡ finite x) (eg : g ≡ all finite o1) (et : t ≡ f && g) where
+  part-is : take (base + 6 * (steps + 1) - base) (drop base w) ≡ take (6 * (steps + 1)) (drop (frontSize N) w)
+  part-is = let z : base + 6 * (steps + 1) - base ≡ 6 * (steps + 1) = omega arith in λ i. take (z i) (drop (e .0 h i) w)
+
+  part-length : length (take (6 * (steps + 1)) (drop (frontSize N) w)) ≡ 6 * (steps + 1)
+  part-length = length-take-le (6 * (steps + 1)) (drop (frontSize N) w) (omega (arith, length-drop (frontSize N) w))
+
+  out-is : o1 ≡ take (6 * (steps + 1)) (drop (frontSize N) w)
+  out-is = c ∙ ap (λ (y : List Float). copied y out) part-is ∙ copied-all (take (6 * (steps + 1)) (drop (frontSize N) w)) out (q ∙ sym part-length)
+
+  all-is : g ≡ all (all finite) (take (6 * (steps + 1)) (drop (frontSize N) w) ∷ [])
+  all-is = eg ∙ ap (all finite) out-is ∙ and-true (all finite (take (6 * (steps + 1)) (drop (frontSize N) w)))
+
+  pub hand-good : t ≡ true → Handed x (take (6 * (steps + 1)) (drop (frontSize N) w)) out w (Fitted x) o1 w1
+  hand-good u =
+      let b = and-both f g (sym et ∙ u) in
+      let fx : finite x ≡ true = sym ef ∙ b .0 in
+      record {
+        is = (λ i. left (Fitted x) (out-is i ∷ []) (cl i))
+            ∙ call-handed (Fitted x) Refused (take (6 * (steps + 1)) (drop (frontSize N) w) ∷ []) (out ∷ []) w true 0 (cond (finite x) 0 10) refl (sym (simp fx)) (sym (b .1) ∙ all-is);
+      }
+
+  pub hand-bad : t ≡ false → (o2 : List Float) → o2 ≡ cleared o1 → Handed x (take (6 * (steps + 1)) (drop (frontSize N) w)) out w (Refused 10) o2 w1
+  hand-bad u o2 eo =
+      let new : List Float = take (6 * (steps + 1)) (drop (frontSize N) w) in
+      let same : o2 ≡ cleared out = eo ∙ cleared-same o1 out (ap length out-is ∙ part-length ∙ sym q) in
+      record { is = (λ i. left (Refused 10) (same i ∷ []) (cl i)) ∙ cases f g ef all-is (sym et ∙ u) }
+    where
+      cases : (f g : Bool) → f ≡ finite x → g ≡ all (all finite) (take (6 * (steps + 1)) (drop (frontSize N) w) ∷ []) → f && g ≡ false →
+          left (Refused 10) (cleared out ∷ []) (cleared w) ≡ settled (Fitted x) Refused 0 (cond (finite x) 0 10) (take (6 * (steps + 1)) (drop (frontSize N) w) ∷ []) (out ∷ []) w
+      cases true true ef eg u = absurd (never (sym u))
+      cases true false ef eg u = call-handed (Fitted x) Refused (take (6 * (steps + 1)) (drop (frontSize N) w) ∷ []) (out ∷ []) w false 0 (cond (finite x) 0 10) refl (sym (simp (sym ef))) eg
+      cases false g ef eg u = call-failed (Fitted x) Refused (take (6 * (steps + 1)) (drop (frontSize N) w) ∷ []) (out ∷ []) w 10 0 (cond (finite x) 0 10) refl (sym (simp (sym ef))) (λ z. omega arith)
+
+-- ---- the call
+
+settled-scratch : (x : Float) (d : ℕ) (new outs : List (List Float)) (s s' : List Float) → cleared s ≡ cleared s' → settled (Fitted x) Refused 0 d new outs s ≡ settled (Fitted x) Refused 0 d new outs s'
+settled-scratch x zero new outs s s' e = by-finite (all (all finite) new) refl
+  where
+    by-finite : (b : Bool) → all (all finite) new ≡ b → settled (Fitted x) Refused 0 0 new outs s ≡ settled (Fitted x) Refused 0 0 new outs s'
+    by-finite true q = simp q (ap (left (Fitted x) new) e)
+    by-finite false q = simp q (ap (left (Refused 10) (map cleared outs)) e)
+settled-scratch x (suc d) new outs s s' e = ap (left (Refused (suc d)) (map cleared outs)) e
+
+module _ (N : ℕ) (field a b ts fs : List Float) (ks : List ℤ) (ss : List Float) (arc : Arc) (out scratch : List Float) (n : ℕ) (en : n ≡ refusal N field a b ts fs ks ss arc (length out) (length scratch)) where
+  pub fit-refused : (n ≡ 0 → ⊥) → left (Refused n) (out ∷ []) scratch ≡ fitCall N field a b ts fs ks ss arc out scratch
+  unfolding fitCall
+  fit-refused h = call-refused _ Refused _ _ _ n _ _ en h
+
+  pub fit-passed : n ≡ 0 → Passed N arc ks (length ss) (length out) (length scratch)
+  fit-passed h = passes N field a b ts fs ks ss arc (length out) (length scratch) (sym en ∙ h)
+
+  module _ (h : n ≡ 0) (s1 : List Float) (answer : Fit) (af : ArcFit (arcServes N (arc .steps) ks (length ss) (length scratch)) (covers ts) (fullForce (model N field ts fs) a b) (stateFor ks ss) arc scratch s1 (frontSize N) answer) where
+    fitted : Fits (covers ts) (fullForce (model N field ts fs) a b) (stateFor ks ss) arc scratch s1 (frontSize N) answer
+    unfolding arcServes
+    fitted =
+        let q = fit-passed h in
+        af .fits (simp (le-leb N 180 (q .degree), le-leb (arc .steps) 5302 (q .few), eq-eqb (length ss) (6 * length ks) (q .rows), le-leb (frontSize N + 90173) (length scratch) (omega (arith, q .room)), q .order))
+
+    pub fit-long : length s1 ≡ length scratch
+    fit-long = fitted .only .long
+
+    pub fit-failed : (k : ℕ) → answer ≡ Refused k → (out' s2 : List Float) → out' ≡ cleared out → s2 ≡ cleared s1 → left (Refused k) (out' ∷ []) s2 ≡ fitCall N field a b ts fs ks ss arc out scratch
+    unfolding fitCall
+    fit-failed k e out' s2 eo es =
+        let ek : fitOf (covers ts) (fullForce (model N field ts fs) a b) (stateFor ks ss) arc ≡ Refused k = sym (fitted .said) ∙ e in
+        (λ i. left (Refused k) (eo i ∷ []) ((es ∙ cleared-same s1 scratch fit-long) i))
+        ∙ call-failed _ Refused _ (out ∷ []) scratch k _ _ (sym h ∙ en) (sym (ap numberOf ek)) (subst Late ek (fit-late (covers ts) (fullForce (model N field ts fs) a b) (stateFor ks ss) arc))
+
+    pub fit-handed : (x : Float) → answer ≡ Fitted x → (r : Fit) (out' s2 : List Float) → Handed x (take (6 * (arc .steps + 1)) (drop (frontSize N) s1)) out s1 r out' s2 →
+        left r (out' ∷ []) s2 ≡ fitCall N field a b ts fs ks ss arc out scratch
+    unfolding fitCall
+    fit-handed x e r out' s2 hd =
+        let run : Run = orbitOf (fullForce (model N field ts fs) a b) (stateFor ks ss) arc in
+        let ex : fitOf (covers ts) (fullForce (model N field ts fs) a b) (stateFor ks ss) arc ≡ Fitted x = sym (fitted .said) ∙ e in
+        let new : take (6 * (arc .steps + 1)) (drop (frontSize N) s1) ≡ flat run (arc .steps + 1) =
+        flat-part s1 (frontSize N) run (arc .steps + 1) (fitted .states x e) (omega (arith, fit-long, fit-passed h .room, fit-passed h .few)) in
+        hd .is
+        ∙ settled-scratch x (cond (finite x) 0 10) _ (out ∷ []) s1 scratch (cleared-same s1 scratch fit-long)
+        ∙ (λ i. settled (Fitted (rmsIn (sym ex i))) Refused ((sym h ∙ en) i) (numberOf (sym ex i)) (new i ∷ []) (out ∷ []) scratch)
