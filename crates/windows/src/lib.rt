@@ -1,0 +1,1 @@
+// Fitted orbits, window by window: the definitions, and the law that crate `finality` asks of a fit.
