@@ -8,3 +8,4 @@ pub mod Within
 pub mod Ranges
 pub mod Consecutive
 pub mod Listing
+pub mod Periods
