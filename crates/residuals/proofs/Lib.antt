@@ -1,1 +1,5 @@
 pub mod Records
+pub mod Stages
+mod Lookups
+mod Making
+mod Answers

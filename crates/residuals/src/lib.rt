@@ -1,2 +1,338 @@
-// Module 5 of document 01: range-acceleration residuals.
+// Module 5 of document 01: range-acceleration residuals of the satellites C and D.
 pub mod kernel;
+mod work;
+
+ghost use mathlib.Core.Path.{_≡_};
+ghost use mathlib.Core.Bool.{_&&_};
+ghost use mathlib.Core.List.{[]};
+ghost use lib.ListN.{length};
+ghost use Rattle.slices.specs.Calls.{left};
+ghost use Rattle.integrate.specs.Force.{model};
+ghost use Rattle.lent.specs.Lent.{modelFits, tablesFit};
+ghost use Rattle.residuals.specs.Inputs.{keyed, inputs, observation, epochOf};
+ghost use Rattle.residuals.specs.Work.{Ready};
+ghost use Rattle.residuals.specs.Calls.{firstOf, rowsFine, inputsFit, inputsFine, epochRefusal, epochFinite, refused as refusedOf, answered, told, epochCall};
+
+pub enum Verdict {
+    Kept,
+    NotKept,
+    Refused(u8),
+}
+
+// The record is +0.0 in each place unless kept.
+pub struct EpochAnswer {
+    pub verdict: Verdict,
+    pub epoch: epochs::Epoch,
+}
+
+// ---- what is refused
+
+// The number of the first test that fails.
+fn first_of(degree: bool, counts: bool, lengths: bool, values: bool, order: bool) -> u8
+    ensures { λ r. ⌜ r ≡ firstOf degree counts lengths values order ⌝ }
+{
+    let last = slices::unless(values, 4, slices::unless(order, 5, 0));
+    slices::unless(
+        degree,
+        1,
+        slices::unless(counts, 2, slices::unless(lengths, 3, last)),
+    )
+}
+
+// Lengths of the lists that both calls are lent.
+fn lists_fit(
+    degree: usize,
+    field: &[f64],
+    a: &[f64],
+    b: &[f64],
+    times: &[f64],
+    added: &[f64],
+    ckeys: &[i64],
+    cstates: &[f64],
+    dkeys: &[i64],
+    dstates: &[f64],
+    cacckeys: &[i64],
+    caccs: &[f64],
+    dacckeys: &[i64],
+    daccs: &[f64],
+) -> bool
+    ensures { λ r. ⌜ r ≡ inputsFit (inputs (model degree (now (field .entry)) (now (times .entry)) (now (added .entry))) (now (a .entry)) (now (b .entry)) (keyed (now (ckeys .entry)) (now (cstates .entry))) (keyed (now (dkeys .entry)) (now (dstates .entry))) (keyed (now (cacckeys .entry)) (now (caccs .entry))) (keyed (now (dacckeys .entry)) (now (daccs .entry)))) ⌝ }
+{
+    let model = lent::model_fits(
+        degree,
+        times.len(),
+        field.len(),
+        added.len(),
+        a.len(),
+        b.len(),
+    );
+    let tables = lent::tables_fit(
+        ckeys.len(),
+        cstates.len(),
+        dkeys.len(),
+        dstates.len(),
+        cacckeys.len(),
+        caccs.len(),
+        dacckeys.len(),
+        daccs.len(),
+    );
+    slices::both(model, tables)
+}
+
+// Both satellites' states and accelerometer values.
+fn rows_fine(
+    ckeys: &[i64],
+    cstates: &[f64],
+    dkeys: &[i64],
+    dstates: &[f64],
+    cacckeys: &[i64],
+    caccs: &[f64],
+    dacckeys: &[i64],
+    daccs: &[f64],
+) -> bool
+    ensures { λ r. ⌜ r ≡ (rowsFine (keyed (now (ckeys .entry)) (now (cstates .entry))) && rowsFine (keyed (now (dkeys .entry)) (now (dstates .entry)))) && (rowsFine (keyed (now (cacckeys .entry)) (now (caccs .entry))) && rowsFine (keyed (now (dacckeys .entry)) (now (daccs .entry)))) ⌝ }
+{
+    let states = slices::both(
+        lent::keyed_fine(ckeys, cstates),
+        lent::keyed_fine(dkeys, dstates),
+    );
+    let accs = slices::both(
+        lent::keyed_fine(cacckeys, caccs),
+        lent::keyed_fine(dacckeys, daccs),
+    );
+    slices::both(states, accs)
+}
+
+fn epoch_refusal(
+    degree: usize,
+    field: &[f64],
+    a: &[f64],
+    b: &[f64],
+    times: &[f64],
+    added: &[f64],
+    ckeys: &[i64],
+    cstates: &[f64],
+    dkeys: &[i64],
+    dstates: &[f64],
+    cacckeys: &[i64],
+    caccs: &[f64],
+    dacckeys: &[i64],
+    daccs: &[f64],
+    t: f64,
+    observed: f64,
+    scratch: usize,
+) -> u8
+    ensures { λ r. ⌜ r ≡ epochRefusal (inputs (model degree (now (field .entry)) (now (times .entry)) (now (added .entry))) (now (a .entry)) (now (b .entry)) (keyed (now (ckeys .entry)) (now (cstates .entry))) (keyed (now (dkeys .entry)) (now (dstates .entry))) (keyed (now (cacckeys .entry)) (now (caccs .entry))) (keyed (now (dacckeys .entry)) (now (daccs .entry)))) t observed scratch ⌝ }
+{
+    let fields = times.len();
+    let counts = lent::counts_fine(
+        fields,
+        ckeys.len(),
+        dkeys.len(),
+        cacckeys.len(),
+        dacckeys.len(),
+    );
+    let lists = lists_fit(
+        degree,
+        field,
+        a,
+        b,
+        times,
+        added,
+        ckeys,
+        cstates,
+        dkeys,
+        dstates,
+        cacckeys,
+        caccs,
+        dacckeys,
+        daccs,
+    );
+    let lengths = slices::both(lists, lent::scratch_fits(degree, fields, 0, scratch));
+    let rows = rows_fine(
+        ckeys,
+        cstates,
+        dkeys,
+        dstates,
+        cacckeys,
+        caccs,
+        dacckeys,
+        daccs,
+    );
+    let values = slices::both(lent::model_fine(field, a, b, times, added), rows);
+    let own = slices::both(slices::is_time(t), numbers::is_finite(observed));
+    first_of(
+        lent::degree_fine(degree),
+        counts,
+        lengths,
+        slices::both(values, own),
+        lent::rise(times, ckeys, dkeys, cacckeys, dacckeys),
+    )
+}
+
+// ---- what is handed out
+
+fn epoch_finite(e: epochs::Epoch) -> bool
+    ensures { λ r. ⌜ r ≡ epochFinite e ⌝ }
+{
+    let terms = e.terms;
+    let mid = e.mid;
+    let vel = e.vel;
+    let arrays = slices::both(
+        slices::all_finite(&terms),
+        slices::both(slices::all_finite(&mid), slices::all_finite(&vel)),
+    );
+    slices::both(
+        numbers::is_finite(e.t),
+        slices::both(numbers::is_finite(e.residual), arrays),
+    )
+}
+
+fn refused(number: u8) -> EpochAnswer
+    ensures { λ r. ⌜ r ≡ refusedOf number ⌝ }
+{
+    let nothing = work::no_epoch();
+    let epoch = nothing.epoch;
+    let verdict = Verdict::Refused(number);
+    EpochAnswer { verdict, epoch }
+}
+
+fn judged(made: work::Made) -> EpochAnswer
+    ensures { λ r. ⌜ r ≡ told made ⌝ }
+{
+    let epoch = made.epoch;
+    if made.kept {
+        if epoch_finite(epoch) {
+            let verdict = Verdict::Kept;
+            return EpochAnswer { verdict, epoch };
+        }
+        return refused(10);
+    }
+    let nothing = work::no_epoch();
+    let zeros = nothing.epoch;
+    let verdict = Verdict::NotKept;
+    EpochAnswer {
+        verdict,
+        epoch: zeros,
+    }
+}
+
+// ---- the calls
+
+fn epoch_work(
+    degree: usize,
+    field: &[f64],
+    a: &[f64],
+    b: &[f64],
+    times: &[f64],
+    added: &[f64],
+    ckeys: &[i64],
+    cstates: &[f64],
+    dkeys: &[i64],
+    dstates: &[f64],
+    cacckeys: &[i64],
+    caccs: &[f64],
+    dacckeys: &[i64],
+    daccs: &[f64],
+    t: f64,
+    observed: f64,
+    good: u8,
+    scratch: &mut [f64],
+) -> EpochAnswer
+    requires { ⌜ Ready degree (now ckeys) (now dkeys) (now cacckeys) (now dacckeys) (length (now scratch)) ⌝ }
+    ensures { λ r. ⌜ (r ≡ answered (epochOf (inputs (model degree (now (field .entry)) (now (times .entry)) (now (added .entry))) (now (a .entry)) (now (b .entry)) (keyed (now (ckeys .entry)) (now (cstates .entry))) (keyed (now (dkeys .entry)) (now (dstates .entry))) (keyed (now (cacckeys .entry)) (now (caccs .entry))) (keyed (now (dacckeys .entry)) (now (daccs .entry)))) (observation t observed good))) × (length (now (scratch .exit)) ≡ length (now (scratch .entry))) ⌝ }
+{
+    let base = lent::front_size(degree);
+    work::open(degree, base, scratch);
+    let made = work::try_epoch(
+        degree,
+        field,
+        a,
+        b,
+        times,
+        added,
+        ckeys,
+        cstates,
+        dkeys,
+        dstates,
+        cacckeys,
+        caccs,
+        dacckeys,
+        daccs,
+        t,
+        observed,
+        good,
+        base,
+        scratch,
+    );
+    judged(made)
+}
+
+// One epoch's record, where it is kept.
+pub fn epoch(
+    degree: usize,
+    field: &[f64],
+    a: &[f64],
+    b: &[f64],
+    times: &[f64],
+    added: &[f64],
+    ckeys: &[i64],
+    cstates: &[f64],
+    dkeys: &[i64],
+    dstates: &[f64],
+    cacckeys: &[i64],
+    caccs: &[f64],
+    dacckeys: &[i64],
+    daccs: &[f64],
+    t: f64,
+    observed: f64,
+    good: u8,
+    scratch: &mut [f64],
+) -> EpochAnswer
+    ensures { λ r. ⌜ left r [] (now (scratch .exit)) ≡ epochCall (inputs (model degree (now (field .entry)) (now (times .entry)) (now (added .entry))) (now (a .entry)) (now (b .entry)) (keyed (now (ckeys .entry)) (now (cstates .entry))) (keyed (now (dkeys .entry)) (now (dstates .entry))) (keyed (now (cacckeys .entry)) (now (caccs .entry))) (keyed (now (dacckeys .entry)) (now (daccs .entry)))) (observation t observed good) (now (scratch .entry)) ⌝ }
+{
+    let n = epoch_refusal(
+        degree,
+        field,
+        a,
+        b,
+        times,
+        added,
+        ckeys,
+        cstates,
+        dkeys,
+        dstates,
+        cacckeys,
+        caccs,
+        dacckeys,
+        daccs,
+        t,
+        observed,
+        scratch.len(),
+    );
+    if n != 0 {
+        return refused(n);
+    }
+    let answer = epoch_work(
+        degree,
+        field,
+        a,
+        b,
+        times,
+        added,
+        ckeys,
+        cstates,
+        dkeys,
+        dstates,
+        cacckeys,
+        caccs,
+        dacckeys,
+        daccs,
+        t,
+        observed,
+        good,
+        scratch,
+    );
+    slices::clear(scratch);
+    answer
+}

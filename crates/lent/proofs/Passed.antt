@@ -1,0 +1,123 @@
+-- What the tests say where they pass. Assumes nothing.
+use mathlib.Core.Path.{_≡_, refl, sym, ap, _∙_}
+use mathlib.Core.Bool.{Bool, true, false, cond, _&&_}
+use mathlib.Core.List.{List}
+use Prim.Native.Nat.{ℕ, _+_, _*_, _≤_, _<_}
+use native.Mathlib.Nat.{mul-le-mul}
+use native.Mathlib.Omega.{arith}
+use lib.Dec.{leb, eqb}
+use lib.IntN.{ℤ}
+use lib.Ieee.{Float}
+use borrow.Author.Tests.{leb-true, le-leb, lt-leb}
+use Rattle.laws.specs.Checks.{rising, risingSeconds}
+use Rattle.lent.specs.Lent.{kind, size, few, frontSize, degreeFine, countsFine, modelFits, statesFit, leastScratch, scratchFits, rise}
+
+no : {X : Type 0} → false ≡ true → X
+no e = absurd (let z : _≡_ {A = ℕ} 0 1 = cc in omega arith)
+
+pub both-pass : (a b : Bool) → (a && b) ≡ true → (a ≡ true) × (b ≡ true)
+both-pass true b h = (refl, h)
+both-pass false b h = no h
+
+pub degree-passes : (N : ℕ) → degreeFine N ≡ true → N ≤ 180
+degree-passes N h = leb-true N 180 (both-pass (leb 2 N) (leb N 180) h .1)
+
+pub record Few (c d p q : ℕ) : Type 0 where
+  pub statesC : c ≤ 200000
+  pub statesD : d ≤ 200000
+  pub accC : p ≤ 200000
+  pub accD : q ≤ 200000
+
+pub counts-pass : (fields c d accC accD : ℕ) → countsFine fields c d accC accD ≡ true → Few c d accC accD
+unfolding countsFine
+counts-pass fields c d accC accD h =
+    let all = both-pass (leb 2 fields && leb fields 32) ((few c && few d) && (few accC && few accD)) h .1 in
+    let states = both-pass (few c && few d) (few accC && few accD) all .0 in
+    let accs = both-pass (few c && few d) (few accC && few accD) all .1 in
+    record {
+      statesC = leb-true c 200000 (both-pass (few c) (few d) states .0);
+      statesD = leb-true d 200000 (both-pass (few c) (few d) states .1);
+      accC = leb-true accC 200000 (both-pass (few accC) (few accD) accs .0);
+      accD = leb-true accD 200000 (both-pass (few accC) (few accD) accs .1);
+    }
+
+pub record Rise (times : List Float) (c d p q : List ℤ) : Type 0 where
+  pub fields : rising times ≡ true
+  pub statesC : risingSeconds c ≡ true
+  pub statesD : risingSeconds d ≡ true
+  pub accC : risingSeconds p ≡ true
+  pub accD : risingSeconds q ≡ true
+
+pub rise-passes : (times : List Float) (c d accC accD : List ℤ) → rise times c d accC accD ≡ true → Rise times c d accC accD
+unfolding rise
+rise-passes times c d accC accD h =
+    let all = both-pass (rising times) ((risingSeconds c && risingSeconds d) && (risingSeconds accC && risingSeconds accD)) h in
+    let parts = both-pass (risingSeconds c && risingSeconds d) (risingSeconds accC && risingSeconds accD) (all .1) in
+    record {
+      fields = all .0;
+      statesC = both-pass (risingSeconds c) (risingSeconds d) (parts .0) .0;
+      statesD = both-pass (risingSeconds c) (risingSeconds d) (parts .0) .1;
+      accC = both-pass (risingSeconds accC) (risingSeconds accD) (parts .1) .0;
+      accD = both-pass (risingSeconds accC) (risingSeconds accD) (parts .1) .1;
+    }
+
+pub scratch-passes : (N fields count scratch : ℕ) → scratchFits N fields count scratch ≡ true → leastScratch N fields count ≤ scratch
+unfolding scratchFits
+scratch-passes N fields count scratch h =
+    let a = both-pass (leb N 180) (leb fields 32 && (leb count 100000 && leb (leastScratch N fields count) scratch)) h .1 in
+    let b = both-pass (leb fields 32) (leb count 100000 && leb (leastScratch N fields count) scratch) a .1 in
+    leb-true (leastScratch N fields count) scratch (both-pass (leb count 100000) (leb (leastScratch N fields count) scratch) b .1)
+
+pub front-is : (N : ℕ) → N ≤ 180 → frontSize N ≡ 8 * kind N
+unfolding frontSize
+front-is N h = rw (le-leb N 180 h)
+
+-- ---- one way through each test
+
+pub product-small : (a b : ℕ) → a ≤ 32 → b ≤ 32944 → a * b ≤ 1054208
+product-small a b h k = mul-le-mul {n₂ = 32} {m₂ = 32944} h k
+
+pub front-over : (N : ℕ) → 180 < N → 0 ≡ frontSize N
+unfolding frontSize
+front-over N h = rw (lt-leb N 180 h)
+
+pub front-within : (N r : ℕ) → N ≤ 180 → r ≡ kind N → 8 * r ≡ frontSize N
+front-within N r h e = ap (λ (i : ℕ). 8 * i) e ∙ sym (front-is N h)
+
+module _ (N fields field added a b : ℕ) where
+  pub model-degree : 180 < N → false ≡ modelFits N fields field added a b
+  unfolding modelFits
+  model-degree h = rw (lt-leb N 180 h)
+
+  pub model-count : N ≤ 180 → 32 < fields → false ≡ modelFits N fields field added a b
+  unfolding modelFits
+  model-count h k = rw (le-leb N 180 h, lt-leb fields 32 k)
+
+  pub model-within : (r : Bool) → N ≤ 180 → fields ≤ 32 → r ≡ ((eqb field (size N) && eqb added (fields * size N)) && (eqb a (kind N) && eqb b (kind N))) → r ≡ modelFits N fields field added a b
+  unfolding modelFits
+  model-within r h k e = rw (le-leb N 180 h, le-leb fields 32 k) e
+
+pub states-many : (n values : ℕ) → 200000 < n → false ≡ statesFit n values
+unfolding statesFit
+states-many n values h = rw (lt-leb n 200000 h)
+
+pub states-within : (n values : ℕ) → n ≤ 200000 → eqb values (6 * n) ≡ statesFit n values
+unfolding statesFit
+states-within n values h = rw (le-leb n 200000 h)
+
+module _ (N fields count scratch : ℕ) where
+  pub scratch-degree : 180 < N → false ≡ scratchFits N fields count scratch
+  unfolding scratchFits
+  scratch-degree h = rw (lt-leb N 180 h)
+
+  pub scratch-fields : N ≤ 180 → 32 < fields → false ≡ scratchFits N fields count scratch
+  unfolding scratchFits
+  scratch-fields h k = rw (le-leb N 180 h, lt-leb fields 32 k)
+
+  pub scratch-count : N ≤ 180 → fields ≤ 32 → 100000 < count → false ≡ scratchFits N fields count scratch
+  unfolding scratchFits
+  scratch-count h k l = rw (le-leb N 180 h, le-leb fields 32 k, lt-leb count 100000 l)
+
+  pub scratch-within : (r : ℕ) → N ≤ 180 → fields ≤ 32 → count ≤ 100000 → r ≡ leastScratch N fields count → leb r scratch ≡ scratchFits N fields count scratch
+  unfolding scratchFits
+  scratch-within r h k l e = rw (le-leb N 180 h, le-leb fields 32 k, le-leb count 100000 l) (ap (λ (i : ℕ). leb i scratch) e)

@@ -1,0 +1,70 @@
+-- What is tested of the lists that the calls of module 5 and the whole path are lent (document 01, "Outcomes" and "Bounds"): the time-variable model with its Legendre
+-- tables, both satellites' states and accelerometer values by second. Assumes nothing.
+use Prim.Native.Nat.{ℕ, _+_, _*_}
+use mathlib.Core.Bool.{Bool, cond, _&&_}
+use mathlib.Core.List.{List}
+use lib.Dec.{leb, eqb}
+use lib.IntN.{ℤ}
+use lib.Ieee.{Float}
+use lib.Ieee.Scale.{finite}
+use Rattle.laws.specs.Checks.{all, isTime, isKey, rising, risingSeconds}
+use Rattle.laws.specs.Tables.{tri}
+
+-- how many coefficients of one kind a field of degree N has, and how many numbers
+abbrev pub kind : ℕ → ℕ
+kind N = tri (N + 1)
+
+abbrev pub size : ℕ → ℕ
+size N = 2 + 2 * kind N
+
+-- the numbers of one time's field and what the degree alone gives; none for a degree above 180
+unfoldable pub frontSize : ℕ → ℕ
+frontSize N = cond (leb N 180) (8 * kind N) 0
+
+-- ---- 1
+
+abbrev pub degreeFine : ℕ → Bool
+degreeFine N = leb 2 N && leb N 180
+
+-- ---- 2: of fields; of the states and accelerometer values of C and D
+
+abbrev pub few : ℕ → Bool
+few n = leb n 200000
+
+unfoldable pub countsFine : ℕ → ℕ → ℕ → ℕ → ℕ → Bool
+countsFine fields c d accC accD = (leb 2 fields && leb fields 32) && ((few c && few d) && (few accC && few accD))
+
+-- ---- 3: lengths. Each is judged where degree and counts are within their bounds
+
+-- the static field, the added fields end to end, and the Legendre tables
+unfoldable pub modelFits : ℕ → ℕ → ℕ → ℕ → ℕ → ℕ → Bool
+modelFits N fields field added a b =
+    leb N 180 && (leb fields 32 && ((eqb field (size N) && eqb added (fields * size N)) && (eqb a (kind N) && eqb b (kind N))))
+
+-- six numbers a state
+unfoldable pub statesFit : ℕ → ℕ → Bool
+statesFit n values = few n && eqb values (6 * n)
+
+-- of C and D, each with the length of its list of values
+unfoldable pub tablesFit : ℕ → ℕ → ℕ → ℕ → ℕ → ℕ → ℕ → ℕ → Bool
+tablesFit c cs d ds accC accsC accD accsD = (statesFit c cs && statesFit d ds) && (eqb accsC accC && eqb accsD accD)
+
+-- the least scratch of a call on so many observations
+abbrev pub leastScratch : ℕ → ℕ → ℕ → ℕ
+leastScratch N fields count = 2 * (fields * kind N) + 8 * kind N + 150000 + 10 * count
+
+unfoldable pub scratchFits : ℕ → ℕ → ℕ → ℕ → Bool
+scratchFits N fields count scratch = leb N 180 && (leb fields 32 && (leb count 100000 && leb (leastScratch N fields count) scratch))
+
+-- ---- 4: finite numbers, times and keys within their bounds
+
+unfoldable pub modelFine : List Float → List Float → List Float → List Float → List Float → Bool
+modelFine field a b times added = (all finite field && all finite added) && (all isTime times && (all finite a && all finite b))
+
+unfoldable pub keyedFine : List ℤ → List Float → Bool
+keyedFine keys values = all isKey keys && all finite values
+
+-- ---- 5: strictly rising
+
+unfoldable pub rise : List Float → List ℤ → List ℤ → List ℤ → List ℤ → Bool
+rise times c d accC accD = rising times && ((risingSeconds c && risingSeconds d) && (risingSeconds accC && risingSeconds accD))

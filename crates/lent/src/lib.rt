@@ -1,0 +1,157 @@
+// Tests of the lists that the calls of module 5 and the whole path are lent.
+ghost use mathlib.Core.Path.{_≡_};
+ghost use mathlib.Core.Bool.{_&&_};
+ghost use Prim.Native.Nat.{_+_, _*_, _≤_};
+ghost use lib.Dec.{leb, eqb};
+ghost use Rattle.lent.specs.Lent.{kind, size, degreeFine, countsFine, modelFits, statesFit, tablesFit, frontSize, leastScratch, scratchFits, modelFine, keyedFine, rise as riseOf};
+use slices;
+
+// Places for the coefficients of one kind.
+fn places(degree: usize) -> usize
+    requires { ⌜ degree ≤ 180 ⌝ }
+    ensures { λ r. ⌜ (r ≡ kind degree) × (r ≤ 16471) ⌝ }
+{
+    (degree + 1) * (degree + 2) / 2
+}
+
+pub fn degree_fine(degree: usize) -> bool
+    ensures { λ r. ⌜ r ≡ degreeFine degree ⌝ }
+{
+    slices::both(2 <= degree, degree <= 180)
+}
+
+// How many numbers stand before a run's states; none for a degree above 180.
+pub fn front_size(degree: usize) -> usize
+    ensures { λ r. ⌜ r ≡ frontSize degree ⌝ }
+{
+    if 180 < degree {
+        return 0;
+    }
+    8 * places(degree)
+}
+
+// Counts of fields, states and accelerometer values.
+pub fn counts_fine(fields: usize, c: usize, d: usize, cacc: usize, dacc: usize) -> bool
+    ensures { λ r. ⌜ r ≡ countsFine fields c d cacc dacc ⌝ }
+{
+    let few = slices::both(
+        slices::both(c <= 200000, d <= 200000),
+        slices::both(cacc <= 200000, dacc <= 200000),
+    );
+    slices::both(slices::both(2 <= fields, fields <= 32), few)
+}
+
+fn model_lengths(
+    degree: usize,
+    fields: usize,
+    field: usize,
+    added: usize,
+    a: usize,
+    b: usize,
+) -> bool
+    requires { ⌜ (degree ≤ 180) × (fields ≤ 32) ⌝ }
+    ensures { λ r. ⌜ r ≡ (eqb field (size degree) && eqb added (fields * size degree)) && (eqb a (kind degree) && eqb b (kind degree)) ⌝ }
+{
+    let l = places(degree);
+    let one = 2 + 2 * l;
+    let all = fields * one;
+    slices::both(
+        slices::both(field == one, added == all),
+        slices::both(a == l, b == l),
+    )
+}
+
+// Lengths of the static field, the added fields and the Legendre tables.
+pub fn model_fits(
+    degree: usize,
+    fields: usize,
+    field: usize,
+    added: usize,
+    a: usize,
+    b: usize,
+) -> bool
+    ensures { λ r. ⌜ r ≡ modelFits degree fields field added a b ⌝ }
+{
+    if 180 < degree {
+        return false;
+    }
+    if 32 < fields {
+        return false;
+    }
+    model_lengths(degree, fields, field, added, a, b)
+}
+
+fn states_fit(n: usize, values: usize) -> bool
+    ensures { λ r. ⌜ r ≡ statesFit n values ⌝ }
+{
+    if 200000 < n {
+        return false;
+    }
+    values == 6 * n
+}
+
+// Lengths of the states and accelerometer values, each beside its count.
+pub fn tables_fit(
+    c: usize,
+    cstates: usize,
+    d: usize,
+    dstates: usize,
+    cacc: usize,
+    caccs: usize,
+    dacc: usize,
+    daccs: usize,
+) -> bool
+    ensures { λ r. ⌜ r ≡ tablesFit c cstates d dstates cacc caccs dacc daccs ⌝ }
+{
+    slices::both(
+        slices::both(states_fit(c, cstates), states_fit(d, dstates)),
+        slices::both(caccs == cacc, daccs == dacc),
+    )
+}
+
+fn least_scratch(degree: usize, fields: usize, count: usize) -> usize
+    requires { ⌜ (degree ≤ 180) × (fields ≤ 32) × (count ≤ 100000) ⌝ }
+    ensures { λ r. ⌜ r ≡ leastScratch degree fields count ⌝ }
+{
+    let l = places(degree);
+    2 * (fields * l) + 8 * l + 150000 + 10 * count
+}
+
+pub fn scratch_fits(degree: usize, fields: usize, count: usize, scratch: usize) -> bool
+    ensures { λ r. ⌜ r ≡ scratchFits degree fields count scratch ⌝ }
+{
+    if 180 < degree {
+        return false;
+    }
+    if 32 < fields {
+        return false;
+    }
+    if 100000 < count {
+        return false;
+    }
+    least_scratch(degree, fields, count) <= scratch
+}
+
+// The model's numbers and times.
+pub fn model_fine(field: &[f64], a: &[f64], b: &[f64], times: &[f64], added: &[f64]) -> bool
+    ensures { λ r. ⌜ r ≡ modelFine (now (field .entry)) (now (a .entry)) (now (b .entry)) (now (times .entry)) (now (added .entry)) ⌝ }
+{
+    let fields = slices::both(slices::all_finite(field), slices::all_finite(added));
+    let tables = slices::both(slices::all_finite(a), slices::all_finite(b));
+    slices::both(fields, slices::both(slices::all_times(times), tables))
+}
+
+pub fn keyed_fine(keys: &[i64], values: &[f64]) -> bool
+    ensures { λ r. ⌜ r ≡ keyedFine (now (keys .entry)) (now (values .entry)) ⌝ }
+{
+    slices::both(slices::all_keys(keys), slices::all_finite(values))
+}
+
+// The field times and the keys of C and D.
+pub fn rise(times: &[f64], c: &[i64], d: &[i64], cacc: &[i64], dacc: &[i64]) -> bool
+    ensures { λ r. ⌜ r ≡ riseOf (now (times .entry)) (now (c .entry)) (now (d .entry)) (now (cacc .entry)) (now (dacc .entry)) ⌝ }
+{
+    let states = slices::both(slices::rising_keys(c), slices::rising_keys(d));
+    let accs = slices::both(slices::rising_keys(cacc), slices::rising_keys(dacc));
+    slices::both(slices::rising(times), slices::both(states, accs))
+}

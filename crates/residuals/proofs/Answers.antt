@@ -1,0 +1,94 @@
+-- What `epoch` answers and leaves, in the cases of its code. Assumes nothing.
+use mathlib.Core.Path.{_≡_, refl, sym, ap, _∙_}
+use mathlib.Core.Bool.{Bool, true, false, cond, _&&_}
+use mathlib.Core.Option.{Option, none, some}
+use mathlib.Core.List.{List, []}
+use Prim.Native.Nat.{ℕ, zero, suc, _+_, _*_, _≤_}
+use native.Mathlib.Omega.{arith}
+use lib.Ieee.{Float}
+use lib.Ieee.Scale.{finite}
+use lib.ListN.{length, replicate}
+use Rattle.laws.specs.Floats.{zero64}
+use Rattle.laws.specs.Checks.{isTime}
+use Rattle.laws.specs.Loops.{cleared}
+use Rattle.slices.specs.Calls.{left}
+use Rattle.slices.proofs.Calls.{cond-passes}
+use Rattle.integrate.specs.Force.{frontSize}
+use Rattle.lent.specs.Lent.{frontSize as frontRoom, kind, degreeFine, countsFine, scratchFits, rise, leastScratch}
+use Rattle.lent.proofs.Passed.{both-pass, degree-passes, Few, counts-pass, Rise, rise-passes, scratch-passes, front-is}
+use Rattle.finality.specs.Sheet.{Observation}
+use Rattle.epochs.specs.declared.Epoch.{Epoch}
+use Rattle.residuals.specs.declared.EpochAnswer.{EpochAnswer}
+use Rattle.residuals.specs.declared.work.Made.{Made}
+use Rattle.residuals.specs.Inputs.{Inputs, epochOf}
+use Rattle.residuals.specs.Work.{madeOf, Searchable, Ready}
+use Rattle.residuals.specs.Calls.{inputsCounted, inputsFit, inputsFine, inputsRise, firstOf, epochRefusal, epochFinite, refused, answered, told, epochLeft, epochCall}
+
+-- ---- five tests passed
+
+pub record Passed (d c l v o : Bool) : Type 0 where
+  pub degree : d ≡ true
+  pub counts : c ≡ true
+  pub lengths : l ≡ true
+  pub values : v ≡ true
+  pub order : o ≡ true
+
+pub first-passes : (d c l v o : Bool) → firstOf d c l v o ≡ 0 → Passed d c l v o
+first-passes d c l v o h =
+    let a = cond-passes d _ 0 h in
+    let b = cond-passes c _ 1 (a .1) in
+    let e = cond-passes l _ 2 (b .1) in
+    let f = cond-passes v _ 3 (e .1) in
+    let g = cond-passes o _ 4 (f .1) in
+    record { degree = a .0; counts = b .0; lengths = e .0; values = f .0; order = g .0 }
+
+abbrev ReadyFor : Inputs → ℕ → Type 0
+ReadyFor inp scratch = Ready (inp .model .degree) (inp .statesC .keys) (inp .statesD .keys) (inp .accC .keys) (inp .accD .keys) scratch
+
+pub ready : (inp : Inputs) (count scratch : ℕ) (values : Bool) → Passed (degreeFine (inp .model .degree)) (inputsCounted inp) (inputsFit inp && scratchFits (inp .model .degree) (length (inp .model .times)) count scratch) values (inputsRise inp) → ReadyFor inp scratch
+ready inp count scratch values p =
+    let f = counts-pass _ _ _ _ _ (p .counts) in
+    let r = rise-passes _ _ _ _ _ (p .order) in
+    let s = scratch-passes (inp .model .degree) (length (inp .model .times)) count scratch (both-pass (inputsFit inp) _ (p .lengths) .1) in
+    record {
+      degree = degree-passes (inp .model .degree) (p .degree);
+      statesC = record { rises = r .statesC; few = f .statesC };
+      statesD = record { rises = r .statesD; few = f .statesD };
+      accC = record { rises = r .accC; few = f .accC };
+      accD = record { rises = r .accD; few = f .accD };
+      room = omega (arith, s);
+    }
+
+pub epoch-ready : (inp : Inputs) (t v : Float) (n scratch : ℕ) → n ≡ epochRefusal inp t v scratch → n ≡ 0 → ReadyFor inp scratch
+unfolding epochRefusal
+epoch-ready inp t v n scratch e z =
+    ready inp 0 scratch (inputsFine inp && (isTime t && finite v))
+    (first-passes (degreeFine (inp .model .degree)) (inputsCounted inp) (inputsFit inp && scratchFits (inp .model .degree) (length (inp .model .times)) 0 scratch)
+    (inputsFine inp && (isTime t && finite v)) (inputsRise inp) (sym e ∙ z))
+
+-- the first numbers of scratch, by degree
+pub base-is : (N r : ℕ) → N ≤ 180 → r ≡ frontRoom N → r ≡ frontSize N
+base-is N r h e = e ∙ front-is N h
+
+-- ---- the answer
+
+told-made : (o : Option Epoch) → told (madeOf o) ≡ answered o
+told-made none = refl
+told-made (some e) = refl
+
+pub work-answers : (inp : Inputs) (o : Observation) (m : Made) (r : EpochAnswer) → m ≡ madeOf (epochOf inp o) → r ≡ told m → r ≡ answered (epochOf inp o)
+work-answers inp o m r e f = f ∙ ap told e ∙ told-made (epochOf inp o)
+
+pub epoch-refused : (inp : Inputs) (o : Observation) (s : List Float) (n : ℕ) (r : EpochAnswer) → n ≡ epochRefusal inp (o .at) (o .observed) (length s) → (n ≡ 0 → ⊥) → r ≡ refused n →
+    left r [] s ≡ epochCall inp o s
+epoch-refused inp o s n r e z f = ap (λ (r : EpochAnswer). left r [] s) f ∙ nonzero n z ∙ ap (λ (k : ℕ). epochLeft k (epochOf inp o) s) e
+  where
+    nonzero : (n : ℕ) → (n ≡ 0 → ⊥) → left (refused n) [] s ≡ epochLeft n (epochOf inp o) s
+    nonzero zero h = absurd (h refl)
+    nonzero (suc n) h = refl
+
+pub epoch-answered : (inp : Inputs) (o : Observation) (s s' : List Float) (k n : ℕ) (r : EpochAnswer) → n ≡ epochRefusal inp (o .at) (o .observed) (length s) → n ≡ 0 →
+    (r ≡ answered (epochOf inp o)) × (k ≡ length s) → s' ≡ replicate k zero64 → left r [] s' ≡ epochCall inp o s
+epoch-answered inp o s s' k n r e z f g =
+    (λ i. left (f .0 i) [] ((g ∙ ap (λ (k : ℕ). replicate k zero64) (f .1)) i))
+    ∙ ap (λ (k : ℕ). epochLeft k (epochOf inp o) s) (sym z ∙ e)

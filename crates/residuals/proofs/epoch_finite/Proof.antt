@@ -1,0 +1,63 @@
+use Rattle.residuals.specs.Calls.{epochFinite}
+use borrow.Author.Needs.{needs}
+use Rattle.residuals.proofs.epoch_finite.Statement.{statement}
+use Rattle.residuals.proofs.epoch_finite.Tie as tie
+
+slice-aggregate-all-finite : tie.Need-slice-aggregate-all-finite
+slice-aggregate-all-finite c = search needs
+
+all-finite-requires : tie.Need-all-finite-requires
+all-finite-requires c κs = search needs
+
+slice-aggregate-all-finite-2 : tie.Need-slice-aggregate-all-finite-2
+slice-aggregate-all-finite-2 c = search needs
+
+all-finite-requires-2 : tie.Need-all-finite-requires-2
+all-finite-requires-2 c κs = search needs
+
+slice-aggregate-all-finite-3 : tie.Need-slice-aggregate-all-finite-3
+slice-aggregate-all-finite-3 c = search needs
+
+all-finite-requires-3 : tie.Need-all-finite-requires-3
+all-finite-requires-3 c κs = search needs
+
+both-requires : tie.Need-both-requires
+both-requires c κs = search needs
+
+both-requires-2 : tie.Need-both-requires-2
+both-requires-2 c κs = search needs
+
+is-finite-requires : tie.Need-is-finite-requires
+is-finite-requires c κs = search needs
+
+is-finite-requires-2 : tie.Need-is-finite-requires-2
+is-finite-requires-2 c κs = search needs
+
+both-requires-3 : tie.Need-both-requires-3
+both-requires-3 c κs = search needs
+
+both-requires-4 : tie.Need-both-requires-4
+both-requires-4 c κs = search needs
+
+returns : tie.Need-returns
+unfolding epochFinite
+returns c =
+    simp (c .both4 .ensures, c .before .both3 .ensures, c .before .before .is-finite2 .ensures, c .before .before .before .is-finite .ensures, c .before .before .before .before .both2 .ensures, c .before .before .before .before .before .both .ensures, c .before .before .before .before .before .before .all-finite3 .ensures, c .before .before .before .before .before .before .before .before .all-finite2 .ensures, c .before .before .before .before .before .before .before .before .before .before .all-finite .ensures)
+
+pub epoch-finite-spec : {M : Type 1} → statement M
+epoch-finite-spec =
+    tie.close
+    (tie.spec
+    slice-aggregate-all-finite
+    all-finite-requires
+    slice-aggregate-all-finite-2
+    all-finite-requires-2
+    slice-aggregate-all-finite-3
+    all-finite-requires-3
+    both-requires
+    both-requires-2
+    is-finite-requires
+    is-finite-requires-2
+    both-requires-3
+    both-requires-4
+    returns)

@@ -1,0 +1,62 @@
+use Rattle.integrate.specs.Room.{stateIn}
+use borrow.Author.Needs.{needs}
+use Rattle.residuals.proofs.work.state_in.Statement.{statement}
+use Rattle.residuals.proofs.work.state_in.Tie as tie
+
+mul-k : tie.Need-mul-k
+mul-k c = search needs
+
+element-requires : tie.Need-element-requires
+element-requires c κs = search needs
+
+add-element : tie.Need-add-element
+add-element c = search needs
+
+element-requires-2 : tie.Need-element-requires-2
+element-requires-2 c κs = search needs
+
+add-element-2 : tie.Need-add-element-2
+add-element-2 c = search needs
+
+element-requires-3 : tie.Need-element-requires-3
+element-requires-3 c κs = search needs
+
+add-element-3 : tie.Need-add-element-3
+add-element-3 c = search needs
+
+element-requires-4 : tie.Need-element-requires-4
+element-requires-4 c κs = search needs
+
+add-element-4 : tie.Need-add-element-4
+add-element-4 c = search needs
+
+element-requires-5 : tie.Need-element-requires-5
+element-requires-5 c κs = search needs
+
+add-element-5 : tie.Need-add-element-5
+add-element-5 c = search needs
+
+element-requires-6 : tie.Need-element-requires-6
+element-requires-6 c κs = search needs
+
+returns : tie.Need-returns
+unfolding stateIn
+returns c = simp (c .element6 .ensures, c .before .element5 .ensures, c .before .before .element4 .ensures, c .before .before .before .element3 .ensures, c .before .before .before .before .element2 .ensures, c .before .before .before .before .before .element .ensures)
+
+pub state-in-spec : {M : Type 1} → statement M
+state-in-spec =
+    tie.close
+    (tie.spec
+    mul-k
+    element-requires
+    add-element
+    element-requires-2
+    add-element-2
+    element-requires-3
+    add-element-3
+    element-requires-4
+    add-element-4
+    element-requires-5
+    add-element-5
+    element-requires-6
+    returns)
