@@ -1,1 +1,4 @@
 pub mod Lawful
+pub mod Wholes
+pub mod Times
+pub mod Shelves

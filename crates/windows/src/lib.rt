@@ -1,1 +1,2 @@
-// Fitted orbits, window by window: the definitions, and the law that crate `finality` asks of a fit.
+// Fitted orbits, window by window (document 01, module 4).
+pub mod kernel;

@@ -1,0 +1,160 @@
+// The states that fitted windows leave, each window in a slot of one lent slice: their count, then for each its second and six numbers.
+ghost use mathlib.Core.Path.{_≡_};
+ghost use Prim.Native.Nat.{ℕ, _+_, _*_, _≤_, _<_};
+ghost use lib.Dec.{T};
+ghost use lib.Ieee.{Float, le, lt};
+ghost use lib.ListN.{length};
+ghost use Rattle.laws.specs.Floats.{zero64, _⊖_};
+ghost use Rattle.laws.specs.WholeNumbers.{ceil, floor};
+ghost use Rattle.laws.specs.Times.{Time, secondTime};
+ghost use Rattle.numbers.specs.Seconds.{wholeSecond};
+ghost use Rattle.finality.specs.Arcs.{start, steps, longest, inside};
+ghost use Rattle.finality.specs.Fitting.{tab};
+ghost use Rattle.integrate.specs.Room.{Run, stateIn};
+ghost use Rattle.integrate.specs.Steps.{timeOf};
+ghost use Rattle.integrate.specs.Work.{Placed, Stored};
+ghost use Rattle.windows.specs.Slots.{lowest, highest, within, Entered, Keeping, Keeps};
+
+// The least whole number that is not below x.
+fn ceil(x: f64) -> u64
+    requires { ⌜ T (le zero64 x) × T (le x highest) ⌝ }
+    ensures { λ r. ⌜ r ≡ ceil x ⌝ }
+{
+    let n = std::num::truncating_f64_to_u64(x);
+    if std::num::nearest_u64_to_f64(n) < x {
+        return n + 1;
+    }
+    n
+}
+
+// The greatest whole number that is not above x; a zero keeps its sign.
+fn floor(x: f64) -> f64
+    requires { ⌜ T (le lowest x) × T (le x highest) ⌝ }
+    ensures { λ r. ⌜ r ≡ floor x ⌝ }
+{
+    if x == 0.0 {
+        return 0.0 * x;
+    }
+    if x < 0.0 {
+        return -std::num::nearest_u64_to_f64(ceil(-x));
+    }
+    std::num::nearest_u64_to_f64(std::num::truncating_f64_to_u64(x))
+}
+
+// Half an hour before a node, on an even second.
+fn start(a: f64) -> f64
+    requires { ⌜ Time a ⌝ }
+    ensures { λ r. ⌜ r ≡ start a ⌝ }
+{
+    2.0 * floor((a - 1800.0) / 2.0)
+}
+
+// Steps of 2 s to half an hour after the next.
+fn steps(a: f64, b: f64) -> usize
+    requires { ⌜ Time a × Time b × T (le a b) × T (lt (b ⊖ a) longest) ⌝ }
+    ensures { λ r. ⌜ (r ≡ steps a b) × (r ≤ 5302) ⌝ }
+{
+    ceil((b + 1800.0 - start(a)) / 2.0) as usize
+}
+
+// Whether a time lies in a window.
+fn within(from: f64, to: f64, t: f64) -> bool
+    ensures { λ r. ⌜ r ≡ within from to t ⌝ }
+{
+    from <= t && t < to
+}
+
+// The second of a time, as a float.
+fn second_of(t: f64) -> f64
+    ensures { λ r. ⌜ r ≡ secondTime (wholeSecond t) ⌝ }
+{
+    let k = numbers::whole_second(numbers::GpsTime(t));
+    std::num::nearest_i64_to_f64(k.0)
+}
+
+fn state_in(l: &[f64], i: usize) -> integrate::kernel::State
+    requires { ⌜ i + 6 ≤ length (now l) ⌝ }
+    ensures { λ r. ⌜ r ≡ stateIn (now (l .entry)) i ⌝ }
+{
+    integrate::kernel::State {
+        position: vectors::Vector {
+            x: l[i],
+            y: l[i + 1],
+            z: l[i + 2],
+        },
+        velocity: vectors::Vector {
+            x: l[i + 3],
+            y: l[i + 4],
+            z: l[i + 5],
+        },
+    }
+}
+
+fn put(s: &mut [f64], at: usize, v: vectors::Vector)
+    requires { ⌜ at + 3 ≤ length (now s) ⌝ }
+    ensures { λ _. ⌜ Placed (now (s .entry)) (now (s .exit)) at v ⌝ }
+{
+    s[at] = v.x;
+    s[at + 1] = v.y;
+    s[at + 2] = v.z;
+}
+
+fn put_state(s: &mut [f64], at: usize, state: integrate::kernel::State)
+    requires { ⌜ at + 6 ≤ length (now s) ⌝ }
+    ensures { λ _. ⌜ Stored (now (s .entry)) (now (s .exit)) at state ⌝ }
+{
+    put(s, at, state.position);
+    put(s, at + 3, state.velocity);
+}
+
+// A state with its second.
+fn enter(s: &mut [f64], at: usize, t: f64, state: integrate::kernel::State)
+    requires { ⌜ at + 7 ≤ length (now s) ⌝ }
+    ensures { λ _. ⌜ Entered (now (s .entry)) (now (s .exit)) at (wholeSecond t) state ⌝ }
+{
+    s[at] = second_of(t);
+    put_state(s, at + 1, state);
+}
+
+// Step k's state, if its time lies in the window, after n others. Returns how many there are then.
+fn keep_step(
+    t0: f64,
+    from: f64,
+    to: f64,
+    k: usize,
+    s: &mut [f64],
+    base: usize,
+    at: usize,
+    n: usize,
+) -> usize
+    requires { ⌜ (k ≤ 5302) × (base + 31818 ≤ at) × (n ≤ 3500) × (at + 24599 ≤ length (now s)) ⌝ }
+    ensures { λ r. ⌜ Keeping (now (s .entry)) (now (s .exit)) at n (within from to (timeOf t0 k)) (wholeSecond (timeOf t0 k)) (stateIn (now (s .entry)) (base + 6 * k)) r ⌝ }
+{
+    let t = integrate::kernel::time(t0, k);
+    if within(from, to, t) {
+        let state = state_in(s, base + 6 * k);
+        enter(s, at + 7 * n, t, state);
+        return n + 1;
+    }
+    n
+}
+
+// The states of a run whose times lie in a window, seven numbers each, from a place on. Returns how many there are.
+fn keep(
+    t0: f64,
+    from: f64,
+    to: f64,
+    steps: usize,
+    s: &mut [f64],
+    base: usize,
+    at: usize,
+) -> usize
+    requires { ⌜ Time from × Time to × (steps ≤ 5302) × ((run : Run) → length (inside t0 from to 0 (tab run (steps + 1))) ≤ 3500) × (base + 31818 ≤ at) × (at + 24599 ≤ length (now s)) ⌝ }
+    ensures { λ r. ⌜ Keeps t0 from to steps (now (s .entry)) (now (s .exit)) base at r ⌝ }
+{
+    let mut n: usize = 0;
+    for k in 0..steps + 1 {
+        n = keep_step(t0, from, to, k, s, base, at, n);
+    }
+    n
+}
