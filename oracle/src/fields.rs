@@ -1,5 +1,6 @@
 // The fields of module 1. Answers by the source's `Legendre`, `Coefficients` and `Partials`; refusals by document 01's table. Outputs
 // stand at 3.0 and scratch at 7.0 before a call: all unchanged after refusals 1 to 4, +0.0 after 10.
+use crate::fieldlists::{coefficients, finite, places};
 use crate::list::{List, step};
 use crate::source::{Coefficients, Legendre, Partials, Rng, derive, idx};
 use std::f64::consts::{FRAC_PI_2, PI};
@@ -12,16 +13,8 @@ const DERIVE: u64 = 4;
 const COMPUTE: u64 = 5;
 const PARTIALS: u64 = 6;
 
-fn places(n: usize) -> usize {
-    (n + 1) * (n + 2) / 2
-}
-
 fn good(n: usize) -> bool {
     (2..=180).contains(&n)
-}
-
-fn finite(values: &[f64]) -> bool {
-    values.iter().all(|v| v.is_finite())
 }
 
 fn tell_some(list: &mut List, values: &[f64], between: usize) {
@@ -43,17 +36,6 @@ fn field(random: &mut Rng, n: usize) -> Vec<f64> {
         }
     }
     out[2] = 1.0;
-    out
-}
-
-fn coefficients(n: usize, field: &[f64]) -> Coefficients {
-    let l = places(n);
-    let mut out = Coefficients::zeros(field[0], field[1], n);
-    for d in 0..=n {
-        for m in 0..=d {
-            out.set(d, m, field[2 + idx(d, m)], field[2 + l + idx(d, m)]);
-        }
-    }
     out
 }
 

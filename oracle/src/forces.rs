@@ -1,6 +1,7 @@
 // The forces of module 2. Answers by the source; refusals by document 01's table: 4 for an argument that is not finite or
 // a time outside 0 to 2^31, 10 for an answer that is not finite; 1 and 3 too where a field is lent. Scratch stands at 7.0
 // before a call: +0.0 after an answer and after 10, unchanged after the others.
+use crate::fieldlists::{LAST, finite, is_time};
 use crate::list::{List, step};
 use crate::source::{Coefficients, GM_MOON, GM_SUN, Legendre, Rng, V3, empirical, fictitious, gravity, idx, j2_gravity, set_nmax, solid_tide, sun_moon, third_body, tides};
 
@@ -12,16 +13,6 @@ const FICTITIOUS: u64 = 4;
 const EMPIRICAL: u64 = 5;
 const J2_GRAVITY: u64 = 6;
 const GRAVITY: u64 = 7;
-
-const LAST: f64 = 2147483648.0;
-
-fn is_time(t: f64) -> bool {
-    (0.0..=LAST).contains(&t)
-}
-
-fn finite(values: &[f64]) -> bool {
-    values.iter().all(|v| v.is_finite())
-}
 
 fn told(list: &mut List, fine: bool, values: &[f64]) {
     if !fine {

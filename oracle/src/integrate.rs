@@ -1,25 +1,9 @@
 // `integrate` of module 4. Answers by the source's `integrate` under the force of its `fit_orbit`; refusals by document 01's
 // table. The output stands at 3.0 and the scratch at 7.0 before a call: unchanged after refusals 1 to 5, +0.0 after 10.
+use crate::fieldlists::{LAST, coefficients, places};
 use crate::list::{List, step};
 use crate::source::*;
 use std::f64::consts::PI;
-
-const LAST: f64 = 2147483648.0;
-
-fn places(n: usize) -> usize {
-    (n + 1) * (n + 2) / 2
-}
-
-fn coefficients(n: usize, field: &[f64]) -> Coefficients {
-    let l = places(n);
-    let mut out = Coefficients::zeros(field[0], field[1], n);
-    for d in 0..=n {
-        for m in 0..=d {
-            out.set(d, m, field[2 + idx(d, m)], field[2 + l + idx(d, m)]);
-        }
-    }
-    out
-}
 
 #[derive(Clone)]
 struct Asked {

@@ -1,6 +1,7 @@
 // oracle NAME SEED FOLDER: makes the fixed list NAME and writes FOLDER/stdin and FOLDER/stdout.
 #![allow(dead_code)]
 mod elementary;
+mod fieldlists;
 mod generate;
 mod list;
 mod source;

@@ -1,5 +1,6 @@
 // The model of module 3. Answers by the source's `Model`; refusals by document 01's table. Outputs stand at 3.0 and scratch
 // at 7.0 before a call: all unchanged after refusals 1 to 5, +0.0 after 6 and 10.
+use crate::fieldlists::{LAST, coefficients, is_time, places, rising};
 use crate::list::{List, step};
 use crate::source::{Coefficients, Model, Rng, idx, set_nmax};
 
@@ -7,31 +8,6 @@ const COVERS: u64 = 0;
 const AT: u64 = 1;
 const KERNEL: u64 = 2;
 const WEIGHT: u64 = 3;
-
-const LAST: f64 = 2147483648.0;
-
-fn is_time(t: f64) -> bool {
-    (0.0..=LAST).contains(&t)
-}
-
-fn rising(times: &[f64]) -> bool {
-    times.windows(2).all(|w| w[0] < w[1])
-}
-
-fn places(n: usize) -> usize {
-    (n + 1) * (n + 2) / 2
-}
-
-fn coefficients(n: usize, field: &[f64]) -> Coefficients {
-    let l = places(n);
-    let mut out = Coefficients::zeros(field[0], field[1], n);
-    for d in 0..=n {
-        for m in 0..=d {
-            out.set(d, m, field[2 + idx(d, m)], field[2 + l + idx(d, m)]);
-        }
-    }
-    out
-}
 
 #[derive(Clone)]
 struct Asked {

@@ -1,6 +1,7 @@
 // Least squares and single fits of module 4. Answers by the source's `ols` and `fit_orbit`; refusals by document 01's table. Outputs stand at 3.0 and scratch at
 // 7.0 before a call: all unchanged after refusals 1 to 5, +0.0 after 6 to 10; scratch is +0.0 after a fit as well.
 use crate::generate::{gauss, random_field, rk1, uni};
+use crate::fieldlists::{coefficients, finite, places};
 use crate::list::{List, step};
 use crate::source::*;
 use crate::submission::{FieldData, TOP};
@@ -31,10 +32,6 @@ fn tell_output(list: &mut List, values: &[f64], between: usize) {
     list.tell(kept(values, 3.0f64.to_bits()));
     list.tell(values.iter().fold(0u64, |sum, v| sum.wrapping_add(v.to_bits())));
     values.iter().step_by(between + 1).for_each(|v| list.tell_float(*v));
-}
-
-fn finite(values: &[f64]) -> bool {
-    values.iter().all(|v| v.is_finite())
 }
 
 #[derive(Clone)]
@@ -186,20 +183,8 @@ struct Asked {
     whole: bool,
 }
 
-fn places(n: usize) -> usize {
-    (n + 1) * (n + 2) / 2
-}
-
 fn flat(f: &FieldData) -> Vec<f64> {
     [vec![f.gm, f.radius], f.c.clone(), f.s.clone()].concat()
-}
-
-fn coefficients(n: usize, field: &[f64]) -> Coefficients {
-    let l = places(n);
-    let mut out = Coefficients::zeros(field[0], field[1], n);
-    out.c.copy_from_slice(&field[2..2 + l]);
-    out.s.copy_from_slice(&field[2 + l..]);
-    out
 }
 
 impl Asked {

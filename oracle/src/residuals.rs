@@ -1,39 +1,11 @@
 // Module 5, one epoch. Answers by the source's `epoch`, refusals by document 01's table. Scratch stands at 7.0 before a
 // call: unchanged after refusals 1 to 5, else +0.0.
+use crate::fieldlists::{LAST, coefficients, finite, is_time, places, rising};
 use crate::list::{List, step};
 use crate::source::{Coefficients, Epoch, Inputs, Legendre, Model, Rng, States, V3, epoch, idx, set_nmax};
 use std::collections::HashMap;
 
 const EPOCH: u64 = 0;
-
-const LAST: f64 = 2147483648.0;
-
-fn places(n: usize) -> usize {
-    (n + 1) * (n + 2) / 2
-}
-
-fn is_time(t: f64) -> bool {
-    (0.0..=LAST).contains(&t)
-}
-
-fn rising<T: PartialOrd>(list: &[T]) -> bool {
-    list.windows(2).all(|w| w[0] < w[1])
-}
-
-fn finite(list: &[f64]) -> bool {
-    list.iter().all(|v| v.is_finite())
-}
-
-fn coefficients(n: usize, field: &[f64]) -> Coefficients {
-    let l = places(n);
-    let mut out = Coefficients::zeros(field[0], field[1], n);
-    for d in 0..=n {
-        for m in 0..=d {
-            out.set(d, m, field[2 + idx(d, m)], field[2 + l + idx(d, m)]);
-        }
-    }
-    out
-}
 
 #[derive(Clone)]
 struct Keyed {
