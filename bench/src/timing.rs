@@ -55,13 +55,28 @@ impl Bench {
     /// One work: `rust` and `ours` each give the numbers that they hand out; `count` calls make a batch, and a call does `each` works.
     pub fn compare(&mut self, name: &str, count: usize, each: usize, rust: &mut dyn FnMut() -> Vec<f64>, ours: &mut dyn FnMut() -> Vec<f64>) {
         let (a, b) = (rust(), ours());
-        let equal = a.len() == b.len() && a.iter().zip(&b).all(|(x, y)| same(*x, *y));
-        self.unequal += !equal as usize;
         let (mut first, mut second) = (f64::INFINITY, f64::INFINITY);
         for _ in 0..7 {
             first = first.min(batch(count, &mut || { black_box(rust()); }) / each as f64);
             second = second.min(batch(count, &mut || { black_box(ours()); }) / each as f64);
         }
+        self.told(name, first, second, &a, &b);
+    }
+
+    /// One long work: the best of so many runs of each, whose last are compared.
+    pub fn compare_runs(&mut self, name: &str, runs: usize, rust: &mut dyn FnMut() -> Vec<f64>, ours: &mut dyn FnMut() -> Vec<f64>) {
+        let (mut first, mut second) = (f64::INFINITY, f64::INFINITY);
+        let (mut a, mut b) = (vec![], vec![]);
+        for _ in 0..runs {
+            first = first.min(batch(1, &mut || a = rust()));
+            second = second.min(batch(1, &mut || b = ours()));
+        }
+        self.told(name, first, second, &a, &b);
+    }
+
+    fn told(&mut self, name: &str, first: f64, second: f64, a: &[f64], b: &[f64]) {
+        let equal = a.len() == b.len() && a.iter().zip(b).all(|(x, y)| same(*x, *y));
+        self.unequal += !equal as usize;
         println!("{:<28} {:>12} {:>12} {:>7.2}  {}", name, readable(first), readable(second), second / first, if equal { format!("{} equal", a.len()) } else { "UNEQUAL".into() });
     }
 }

@@ -1,10 +1,14 @@
 // The static library's functions for Rust and C. Each is the call of the same name.
 ghost use mathlib.Core.Path.{_≡_};
+ghost use mathlib.Core.List.{[], _∷_};
 ghost use lib.Ieee.{binary64};
 ghost use lib.ListN.{length};
 ghost use Rattle.series.specs.Field.{partialsWith};
 ghost use Rattle.series.specs.Prepared.{prepared};
 ghost use Rattle.exports.specs.Four.{fourOf};
+ghost use Rattle.slices.specs.Calls.{left};
+ghost use Rattle.fit.specs.Calls.{fitCall};
+ghost use Rattle.exports.specs.Told.{toldOf, toldLeft};
 ghost use Rattle.root.specs.Root.{sqrt};
 ghost use Rattle.numbers.specs.Numbers.{sine as Numbers·sine, cosine as Numbers·cosine, arctangent as Numbers·arctangent, arcsine as Numbers·arcsine, power as Numbers·power};
 
@@ -80,4 +84,55 @@ pub extern "C" fn pozsmeteg_partials(
         out[2] = z.dlat;
         out[3] = z.dlon;
     }
+}
+
+// The rms, or the refusal's number below zero.
+fn told(answer: fit::kernel::Fitted) -> f64
+    ensures { λ r. ⌜ r ≡ toldOf answer ⌝ }
+{
+    match answer {
+        fit::kernel::Fitted::Fitted(rms) => rms,
+        fit::kernel::Fitted::Refused(n) => 0.0 - std::num::nearest_u64_to_f64(n as u64),
+    }
+}
+
+#[no_mangle]
+pub extern "C" fn pozsmeteg_fit_orbit(
+    degree: usize,
+    field: &[f64],
+    a: &[f64],
+    b: &[f64],
+    times: &[f64],
+    added: &[f64],
+    keys: &[i64],
+    states: &[f64],
+    t0: f64,
+    steps: usize,
+    node: f64,
+    period: f64,
+    out: &mut [f64],
+    scratch: &mut [f64],
+) -> f64
+    ensures { λ r. ⌜ left r (now (out .exit) ∷ []) (now (scratch .exit)) ≡ toldLeft (fitCall degree (now (field .entry)) (now (a .entry)) (now (b .entry)) (now (times .entry)) (now (added .entry)) (now (keys .entry)) (now (states .entry)) (record { t0 = t0; steps = steps; node = node; period = period }) (now (out .entry)) (now (scratch .entry))) ⌝ }
+{
+    let arc = integrate::kernel::Arc {
+        t0: t0,
+        steps: steps,
+        node: node,
+        period: period,
+    };
+    let answer = fit::fit_orbit(
+        degree,
+        field,
+        a,
+        b,
+        times,
+        added,
+        keys,
+        states,
+        arc,
+        out,
+        scratch,
+    );
+    told(answer)
 }

@@ -1,0 +1,82 @@
+// Module 4: the fit of one window, a revolution of 5,650 s with 30 minutes either side, to states of every second.
+use crate::elementary::sine_cosine;
+use crate::generate::{gauss, random_field, rk1, uni};
+use crate::source::*;
+use crate::submission::{FieldData, coefficients};
+use crate::timing::Bench;
+
+unsafe extern "C" {
+    fn pozsmeteg_fit_orbit(
+        degree: usize, field: *const f64, field_length: usize, a: *const f64, a_length: usize, b: *const f64, b_length: usize,
+        times: *const f64, times_length: usize, added: *const f64, added_length: usize, keys: *const i64, keys_length: usize,
+        states: *const f64, states_length: usize, t0: f64, steps: usize, node: f64, period: f64,
+        out: *mut f64, out_length: usize, scratch: *mut f64, scratch_length: usize,
+    ) -> f64;
+}
+
+fn flat(f: &FieldData) -> Vec<f64> {
+    [vec![f.gm, f.radius], f.c.clone(), f.s.clone()].concat()
+}
+
+// A low orbit under point mass and J2, with noise: the states of so many seconds.
+fn orbit(r: &mut Rng, first: i64, seconds: i64) -> (Vec<i64>, Vec<f64>) {
+    let radius = 6.871e6;
+    let speed = (GM_E / radius).sqrt();
+    let ((su, cu), (si, ci)) = (sine_cosine(-0.25), sine_cosine(1.55));
+    let mut x = [radius * cu, radius * su * ci, radius * su * si];
+    let mut v = [-speed * su + OMEGA * x[1], speed * cu * ci - OMEGA * x[0], speed * cu * si];
+    let (mut keys, mut states) = (vec![], vec![]);
+    for k in 0..=seconds {
+        keys.push(first + k);
+        states.extend(x.iter().chain(&v).enumerate().map(|(i, w)| w + 0.01 * if i < 3 { 1.0 } else { 1e-3 } * gauss(r)));
+        (x, v) = rk1(1.0, (first + k) as f64, x, v, &mut |_, x, v| add(j2_gravity(x), fictitious(x, v)));
+    }
+    (keys, states)
+}
+
+fn window(bench: &mut Bench, n: usize, runs: usize) {
+    let mut r = Rng::new(3);
+    let a = 12_345.0 + uni(&mut r);
+    let b = a + 5_650.0 + uni(&mut r);
+    let t0 = 2.0 * ((a - 1800.0) / 2.0).floor();
+    let arc = Arc { t0, steps: ((b + 1800.0 - t0) / 2.0).ceil() as usize, node: a, period: b - a };
+    let (keys, states) = orbit(&mut r, t0 as i64, 2 * arc.steps as i64);
+    let field = random_field(&mut r, n, 3.986_004_415e14, 6_378_136.3, 1e-6, true);
+    let times = [0.0, 10_800.0, 21_600.0];
+    let added: Vec<FieldData> = times.iter().map(|_| random_field(&mut r, n, GM_E, 6_378_136.6, 1e-9, false)).collect();
+    set_nmax(n);
+    let fields: Vec<(f64, Coefficients)> = times.iter().zip(&added).map(|(t, f)| (*t, coefficients(f, n))).collect();
+    let model = Model::new(&coefficients(&field, n), &fields);
+    let known: States = keys.iter().zip(states.chunks(6)).map(|(k, s)| (*k, ([s[0], s[1], s[2]], [s[3], s[4], s[5]]))).collect();
+    let mut buffer = model.fields[0].1.clone();
+    let tables = Legendre::new(n);
+    let (field, added) = (flat(&field), added.iter().flat_map(flat).collect::<Vec<f64>>());
+    let l = (n + 1) * (n + 2) / 2;
+    let mut scratch = vec![0.0; 2 * times.len() * l + 8 * l + 150_000];
+    bench.compare_runs(
+        &format!("fitted window, N = {n}"),
+        runs,
+        &mut || {
+            let (states, rms) = fit_orbit(&model, &known, arc, &mut buffer).expect("a fit");
+            states.iter().flat_map(|s| [s.0, s.1].concat()).chain([rms]).collect()
+        },
+        &mut || {
+            let mut out = vec![0.0; 6 * (arc.steps + 1)];
+            let rms = unsafe {
+                pozsmeteg_fit_orbit(
+                    n, field.as_ptr(), field.len(), tables.a.as_ptr(), l, tables.b.as_ptr(), l, times.as_ptr(), times.len(), added.as_ptr(), added.len(),
+                    keys.as_ptr(), keys.len(), states.as_ptr(), states.len(), arc.t0, arc.steps, arc.node, arc.period,
+                    out.as_mut_ptr(), out.len(), scratch.as_mut_ptr(), scratch.len(),
+                )
+            };
+            out.push(rms);
+            out
+        },
+    );
+}
+
+pub fn works(bench: &mut Bench) {
+    for (n, runs) in [(2, 3), (20, 3), (60, 2), (180, 1)] {
+        window(bench, n, runs);
+    }
+}
