@@ -3,3 +3,6 @@ pub mod Stages
 mod Lookups
 mod Making
 mod Answers
+mod Blanks
+mod Turns
+mod ListAnswers

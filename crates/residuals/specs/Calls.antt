@@ -1,21 +1,25 @@
 -- What the two calls refuse, answer and leave behind (document 01, module 5 and "Outcomes"). Assumes nothing.
-use Prim.Native.Nat.{ℕ, zero, suc}
+use Prim.Native.Nat.{ℕ, zero, suc, _-_}
 use mathlib.Core.Bool.{Bool, true, false, cond, _&&_}
 use mathlib.Core.Option.{Option, none, some}
-use mathlib.Core.List.{List, [], _∷_}
+use mathlib.Core.List.{List, [], _∷_, _++_, map}
+use lib.Dec.{leb, eqb}
 use lib.Ieee.{Float}
 use lib.Ieee.Scale.{finite}
-use lib.ListN.{length}
-use Rattle.laws.specs.Checks.{all, isTime}
+use lib.ListN.{length, replicate}
+use Rattle.laws.specs.Floats.{zero64}
+use Rattle.laws.specs.Checks.{all, isTime, rising}
 use Rattle.laws.specs.Loops.{cleared}
 use Rattle.slices.specs.Calls.{firstFailed, Left, left}
+use Rattle.slices.specs.declared.Counted.{Counted}
+use Rattle.slices.specs.declared.Counted.the-variants.{Counted as Filled, Refused as NotFilled}
 use Rattle.finality.specs.Sheet.{Observation}
 use Rattle.lent.specs.Lent.{degreeFine, countsFine, modelFits, tablesFit, scratchFits, modelFine, keyedFine, rise}
 use Rattle.epochs.specs.declared.Epoch.{Epoch}
 use Rattle.residuals.specs.declared.Verdict.{Verdict}
 use Rattle.residuals.specs.declared.Verdict.the-variants.{Kept, NotKept, Refused}
 use Rattle.residuals.specs.declared.EpochAnswer.{EpochAnswer}
-use Rattle.residuals.specs.Inputs.{Keyed, Inputs, epochOf}
+use Rattle.residuals.specs.Inputs.{Keyed, Inputs, epochOf, observations, keptOf}
 use Rattle.residuals.specs.declared.work.Made.{Made}
 use Rattle.residuals.specs.Work.{noEpoch}
 
@@ -80,3 +84,81 @@ epochLeft zero e scratch = left (answered e) [] (cleared scratch)
 -- `epoch`
 abbrev pub epochCall : Inputs → Observation → List Float → Left EpochAnswer
 epochCall inp o scratch = epochLeft (epochRefusal inp (o .at) (o .observed) (length scratch)) (epochOf inp o) scratch
+
+-- ---- all epochs
+
+-- one number for each of m observations; so many places in each output
+unfoldable pub samplesFit : ℕ → ℕ → ℕ → ℕ → ℕ → ℕ → ℕ → ℕ → Bool
+samplesFit m values good times residuals terms mids vels =
+    (eqb values m && eqb good m) && ((eqb times m && eqb residuals m) && (eqb terms m && (eqb mids m && eqb vels m)))
+
+-- the five outputs: times, residuals, terms, midpoints, velocities
+pub record Lists : Type 0 where
+  pub times : List Float
+  pub residuals : List Float
+  pub terms : List (List Float)
+  pub mids : List (List Float)
+  pub vels : List (List Float)
+
+abbrev pub lists : List Float → List Float → List (List Float) → List (List Float) → List (List Float) → Lists
+lists times residuals terms mids vels = record { times = times; residuals = residuals; terms = terms; mids = mids; vels = vels }
+
+-- the observations' times, values and good bytes
+pub record Sightings : Type 0 where
+  pub times : List Float
+  pub values : List Float
+  pub good : List ℕ
+
+abbrev pub sightings : List Float → List Float → List ℕ → Sightings
+sightings times values good = record { times = times; values = values; good = good }
+
+abbrev pub outputsFit : Sightings → Lists → Bool
+outputsFit obs outs =
+    samplesFit (length (obs .times)) (length (obs .values)) (length (obs .good)) (length (outs .times)) (length (outs .residuals)) (length (outs .terms)) (length (outs .mids)) (length (outs .vels))
+
+-- `samples`: whether the observations' lists and the outputs fit
+unfoldable pub residualsRefusal : Inputs → Sightings → Bool → ℕ → ℕ
+residualsRefusal inp obs samples scratch =
+    firstOf (degreeFine (inp .model .degree)) (inputsCounted inp && leb (length (obs .times)) 100000)
+    ((inputsFit inp && scratchFits (inp .model .degree) (length (inp .model .times)) (length (obs .times)) scratch) && samples)
+    (inputsFine inp && (all isTime (obs .times) && all finite (obs .values)))
+    (inputsRise inp && rising (obs .times))
+
+-- m places, filled up with z
+abbrev pub padded : {A : Type 0} → A → ℕ → List A → List A
+padded z m xs = xs ++ replicate (m - length xs) z
+
+-- the records' numbers, +0.0 after the last
+unfoldable pub listsOf : ℕ → List Epoch → Lists
+listsOf m es = record {
+  times = padded zero64 m (map (λ (e : Epoch). e .t) es);
+  residuals = padded zero64 m (map (λ (e : Epoch). e .residual) es);
+  terms = padded (replicate 5 zero64) m (map (λ (e : Epoch). e .terms) es);
+  mids = padded (replicate 3 zero64) m (map (λ (e : Epoch). e .mid) es);
+  vels = padded (replicate 3 zero64) m (map (λ (e : Epoch). e .vel) es);
+}
+
+pub record ListsLeft : Type 0 where
+  pub answer : Counted
+  pub outputs : Lists
+  pub scratch : List Float
+
+abbrev pub listsLeft : Counted → Lists → List Float → ListsLeft
+listsLeft answer outputs scratch = record { answer = answer; outputs = outputs; scratch = scratch }
+
+-- handed out where every number is finite, else 10 and +0.0 everywhere
+abbrev pub handedOut : Bool → ℕ → List Epoch → List Float → ListsLeft
+handedOut true m es scratch = listsLeft (Filled (length es)) (listsOf m es) (cleared scratch)
+handedOut false m es scratch = listsLeft (NotFilled 10) (listsOf m []) (cleared scratch)
+
+abbrev pub settledLists : ℕ → ℕ → List Epoch → Lists → List Float → ListsLeft
+settledLists (suc n) m es outs scratch = listsLeft (NotFilled (suc n)) outs scratch
+settledLists zero m es outs scratch = handedOut (all epochFinite es) m es scratch
+
+-- the records of the epochs that are kept
+unfoldable pub keptIn : Inputs → Sightings → List Epoch
+keptIn inp obs = keptOf (epochOf inp) (observations (obs .times) (obs .values) (obs .good))
+
+-- `residuals`
+abbrev pub residualsCall : Inputs → Sightings → Lists → List Float → ListsLeft
+residualsCall inp obs outs scratch = settledLists (residualsRefusal inp obs (outputsFit obs outs) (length scratch)) (length (obs .times)) (keptIn inp obs) outs scratch

@@ -1,4 +1,5 @@
 // Module 5 of document 01: range-acceleration residuals of the satellites C and D.
+mod filling;
 pub mod kernel;
 mod work;
 
@@ -11,7 +12,7 @@ ghost use Rattle.integrate.specs.Force.{model};
 ghost use Rattle.lent.specs.Lent.{modelFits, tablesFit};
 ghost use Rattle.residuals.specs.Inputs.{keyed, inputs, observation, epochOf};
 ghost use Rattle.residuals.specs.Work.{Ready};
-ghost use Rattle.residuals.specs.Calls.{firstOf, rowsFine, inputsFit, inputsFine, epochRefusal, epochFinite, refused as refusedOf, answered, told, epochCall};
+ghost use Rattle.residuals.specs.Calls.{firstOf, rowsFine, inputsFit, inputsFine, epochRefusal, epochFinite, refused as refusedOf, answered, told, epochCall, samplesFit, residualsRefusal, lists, sightings, listsLeft, residualsCall};
 
 pub enum Verdict {
     Kept,
@@ -167,6 +168,97 @@ fn epoch_refusal(
         lengths,
         slices::both(values, own),
         lent::rise(times, ckeys, dkeys, cacckeys, dacckeys),
+    )
+}
+
+// Lengths of the observations' lists and of the outputs.
+fn samples_fit(
+    m: usize,
+    values: usize,
+    good: usize,
+    times: usize,
+    residuals: usize,
+    terms: usize,
+    mids: usize,
+    vels: usize,
+) -> bool
+    ensures { λ r. ⌜ r ≡ samplesFit m values good times residuals terms mids vels ⌝ }
+{
+    let arrays = slices::both(terms == m, slices::both(mids == m, vels == m));
+    slices::both(
+        slices::both(values == m, good == m),
+        slices::both(slices::both(times == m, residuals == m), arrays),
+    )
+}
+
+fn residuals_refusal(
+    degree: usize,
+    field: &[f64],
+    a: &[f64],
+    b: &[f64],
+    times: &[f64],
+    added: &[f64],
+    ckeys: &[i64],
+    cstates: &[f64],
+    dkeys: &[i64],
+    dstates: &[f64],
+    cacckeys: &[i64],
+    caccs: &[f64],
+    dacckeys: &[i64],
+    daccs: &[f64],
+    obstimes: &[f64],
+    obsvalues: &[f64],
+    good: &[u8],
+    samples: bool,
+    scratch: usize,
+) -> u8
+    ensures { λ r. ⌜ r ≡ residualsRefusal (inputs (model degree (now (field .entry)) (now (times .entry)) (now (added .entry))) (now (a .entry)) (now (b .entry)) (keyed (now (ckeys .entry)) (now (cstates .entry))) (keyed (now (dkeys .entry)) (now (dstates .entry))) (keyed (now (cacckeys .entry)) (now (caccs .entry))) (keyed (now (dacckeys .entry)) (now (daccs .entry)))) (sightings (now (obstimes .entry)) (now (obsvalues .entry)) (now (good .entry))) samples scratch ⌝ }
+{
+    let fields = times.len();
+    let count = obstimes.len();
+    let counts = lent::counts_fine(
+        fields,
+        ckeys.len(),
+        dkeys.len(),
+        cacckeys.len(),
+        dacckeys.len(),
+    );
+    let lists = lists_fit(
+        degree,
+        field,
+        a,
+        b,
+        times,
+        added,
+        ckeys,
+        cstates,
+        dkeys,
+        dstates,
+        cacckeys,
+        caccs,
+        dacckeys,
+        daccs,
+    );
+    let lengths = slices::both(lists, lent::scratch_fits(degree, fields, count, scratch));
+    let rows = rows_fine(
+        ckeys,
+        cstates,
+        dkeys,
+        dstates,
+        cacckeys,
+        caccs,
+        dacckeys,
+        daccs,
+    );
+    let values = slices::both(lent::model_fine(field, a, b, times, added), rows);
+    let own = slices::both(slices::all_times(obstimes), slices::all_finite(obsvalues));
+    let rise = lent::rise(times, ckeys, dkeys, cacckeys, dacckeys);
+    first_of(
+        lent::degree_fine(degree),
+        slices::both(counts, count <= 100000),
+        slices::both(lengths, samples),
+        slices::both(values, own),
+        slices::both(rise, slices::rising(obstimes)),
     )
 }
 
@@ -335,4 +427,99 @@ pub fn epoch(
     );
     slices::clear(scratch);
     answer
+}
+
+// The records of the epochs that are kept, in order: how many, and their numbers in five lists.
+pub fn residuals(
+    degree: usize,
+    field: &[f64],
+    a: &[f64],
+    b: &[f64],
+    times: &[f64],
+    added: &[f64],
+    ckeys: &[i64],
+    cstates: &[f64],
+    dkeys: &[i64],
+    dstates: &[f64],
+    cacckeys: &[i64],
+    caccs: &[f64],
+    dacckeys: &[i64],
+    daccs: &[f64],
+    obstimes: &[f64],
+    obsvalues: &[f64],
+    good: &[u8],
+    outtimes: &mut [f64],
+    outresiduals: &mut [f64],
+    outterms: &mut [[f64; 5]],
+    outmids: &mut [[f64; 3]],
+    outvels: &mut [[f64; 3]],
+    scratch: &mut [f64],
+) -> slices::Counted
+    ensures { λ r. ⌜ listsLeft r (lists (now (outtimes .exit)) (now (outresiduals .exit)) (now (outterms .exit)) (now (outmids .exit)) (now (outvels .exit))) (now (scratch .exit)) ≡ residualsCall (inputs (model degree (now (field .entry)) (now (times .entry)) (now (added .entry))) (now (a .entry)) (now (b .entry)) (keyed (now (ckeys .entry)) (now (cstates .entry))) (keyed (now (dkeys .entry)) (now (dstates .entry))) (keyed (now (cacckeys .entry)) (now (caccs .entry))) (keyed (now (dacckeys .entry)) (now (daccs .entry)))) (sightings (now (obstimes .entry)) (now (obsvalues .entry)) (now (good .entry))) (lists (now (outtimes .entry)) (now (outresiduals .entry)) (now (outterms .entry)) (now (outmids .entry)) (now (outvels .entry))) (now (scratch .entry)) ⌝ }
+{
+    let samples = samples_fit(
+        obstimes.len(),
+        obsvalues.len(),
+        good.len(),
+        outtimes.len(),
+        outresiduals.len(),
+        outterms.len(),
+        outmids.len(),
+        outvels.len(),
+    );
+    let n = residuals_refusal(
+        degree,
+        field,
+        a,
+        b,
+        times,
+        added,
+        ckeys,
+        cstates,
+        dkeys,
+        dstates,
+        cacckeys,
+        caccs,
+        dacckeys,
+        daccs,
+        obstimes,
+        obsvalues,
+        good,
+        samples,
+        scratch.len(),
+    );
+    if n != 0 {
+        return slices::Counted::Refused(n);
+    }
+    let filled = filling::fill(
+        degree,
+        field,
+        a,
+        b,
+        times,
+        added,
+        ckeys,
+        cstates,
+        dkeys,
+        dstates,
+        cacckeys,
+        caccs,
+        dacckeys,
+        daccs,
+        obstimes,
+        obsvalues,
+        good,
+        outtimes,
+        outresiduals,
+        outterms,
+        outmids,
+        outvels,
+        scratch,
+    );
+    slices::clear(scratch);
+    if filled.fine {
+        return slices::Counted::Counted(filled.count);
+    }
+    filling::clear_lists(outtimes, outresiduals, outterms, outmids, outvels);
+    slices::Counted::Refused(10)
 }

@@ -43,7 +43,7 @@ pub struct Made {
 }
 
 // An element, NaN past the end.
-fn element(s: &[f64], i: usize) -> f64
+pub(crate) fn element(s: &[f64], i: usize) -> f64
     ensures { λ r. ⌜ r ≡ getD (now (s .entry)) i nan ⌝ }
 {
     if i < s.len() { s[i] } else { 0.0 / 0.0 }

@@ -1,0 +1,104 @@
+-- What `residuals` answers and leaves, in the cases of its code. Assumes nothing.
+use mathlib.Core.Path.{_≡_, refl, sym, ap, _∙_}
+use mathlib.Core.Bool.{Bool, true, false, _&&_}
+use mathlib.Core.List.{List}
+use Prim.Native.Nat.{ℕ, zero, suc}
+use lib.Dec.{leb, eqb}
+use lib.Ieee.{Float}
+use lib.Ieee.Scale.{finite}
+use lib.ListN.{length, replicate}
+use borrow.Author.Tests.{eqb-true}
+use Rattle.laws.specs.Floats.{zero64}
+use Rattle.laws.specs.Checks.{all, isTime, rising}
+use Rattle.lent.specs.Lent.{degreeFine, scratchFits}
+use Rattle.lent.proofs.Passed.{both-pass}
+use Rattle.slices.specs.declared.Counted.the-variants.{Counted as Filled, Refused as NotFilled}
+use Rattle.residuals.specs.declared.filling.Filled.{Filled as Count}
+use Rattle.residuals.specs.Inputs.{Inputs}
+use Rattle.residuals.specs.Work.{Ready}
+use Rattle.residuals.specs.Calls.{inputsCounted, inputsFit, inputsFine, inputsRise, Lists, Sightings, samplesFit, outputsFit, residualsRefusal, listsLeft, handedOut, settledLists, keptIn, residualsCall, epochFinite}
+use Rattle.residuals.specs.Filling.{blank, Long, Done}
+use Rattle.residuals.proofs.Answers.{Passed, first-passes, ready}
+use Rattle.residuals.proofs.Turns.{blank-is, done-long}
+
+record Samples (obs : Sightings) (l : Lists) : Type 0 where
+  pub values : length (obs .values) ≡ length (obs .times)
+  pub good : length (obs .good) ≡ length (obs .times)
+  pub long : Long (length (obs .times)) l
+
+samples-pass : (obs : Sightings) (l : Lists) → outputsFit obs l ≡ true → Samples obs l
+unfolding samplesFit
+samples-pass obs l h =
+    let m : ℕ = length (obs .times) in
+    let own = both-pass (eqb (length (obs .values)) m && eqb (length (obs .good)) m) _ h in
+    let given = both-pass (eqb (length (obs .values)) m) (eqb (length (obs .good)) m) (own .0) in
+    let outs = both-pass (eqb (length (l .times)) m && eqb (length (l .residuals)) m) (eqb (length (l .terms)) m && (eqb (length (l .mids)) m && eqb (length (l .vels)) m)) (own .1) in
+    let flat = both-pass (eqb (length (l .times)) m) (eqb (length (l .residuals)) m) (outs .0) in
+    let arrays = both-pass (eqb (length (l .terms)) m) (eqb (length (l .mids)) m && eqb (length (l .vels)) m) (outs .1) in
+    let vectors = both-pass (eqb (length (l .mids)) m) (eqb (length (l .vels)) m) (arrays .1) in
+    record {
+      values = eqb-true (length (obs .values)) m (given .0);
+      good = eqb-true (length (obs .good)) m (given .1);
+      long = record {
+        times = eqb-true (length (l .times)) m (flat .0);
+        residuals = eqb-true (length (l .residuals)) m (flat .1);
+        terms = eqb-true (length (l .terms)) m (arrays .0);
+        mids = eqb-true (length (l .mids)) m (vectors .0);
+        vels = eqb-true (length (l .vels)) m (vectors .1);
+      };
+    }
+
+module _ (inp : Inputs) (obs : Sightings) (l : Lists) (samples : Bool) (n scratch : ℕ) (b : samples ≡ outputsFit obs l) (e : n ≡ residualsRefusal inp obs samples scratch) (z : n ≡ 0) where
+  passed : Passed (degreeFine (inp .model .degree)) (inputsCounted inp && leb (length (obs .times)) 100000)
+      ((inputsFit inp && scratchFits (inp .model .degree) (length (inp .model .times)) (length (obs .times)) scratch) && samples)
+      (inputsFine inp && (all isTime (obs .times) && all finite (obs .values))) (inputsRise inp && rising (obs .times))
+  unfolding residualsRefusal
+  passed = first-passes (degreeFine (inp .model .degree)) (inputsCounted inp && leb (length (obs .times)) 100000)
+      ((inputsFit inp && scratchFits (inp .model .degree) (length (inp .model .times)) (length (obs .times)) scratch) && samples)
+      (inputsFine inp && (all isTime (obs .times) && all finite (obs .values))) (inputsRise inp && rising (obs .times)) (sym e ∙ z)
+
+  fits : Samples obs l
+  fits = samples-pass obs l (sym b ∙ both-pass (inputsFit inp && scratchFits (inp .model .degree) (length (inp .model .times)) (length (obs .times)) scratch) samples (passed .lengths) .1)
+
+  pub residuals-ready : Ready (inp .model .degree) (inp .statesC .keys) (inp .statesD .keys) (inp .accC .keys) (inp .accD .keys) scratch
+      × (length (obs .values) ≡ length (obs .times)) × (length (obs .good) ≡ length (obs .times)) × Long (length (obs .times)) l
+  residuals-ready = (
+    ready inp (length (obs .times)) scratch (inputsFine inp && (all isTime (obs .times) && all finite (obs .values)))
+        (record {
+          degree = passed .degree;
+          counts = both-pass (inputsCounted inp) (leb (length (obs .times)) 100000) (passed .counts) .0;
+          lengths = both-pass (inputsFit inp && scratchFits (inp .model .degree) (length (inp .model .times)) (length (obs .times)) scratch) samples (passed .lengths) .0;
+          values = passed .values;
+          order = both-pass (inputsRise inp) (rising (obs .times)) (passed .order) .0;
+        }),
+    fits .values,
+    fits .good,
+    fits .long,
+  )
+
+module _ (inp : Inputs) (obs : Sightings) (l : Lists) (s : List Float) (samples : Bool) (n : ℕ) (b : samples ≡ outputsFit obs l) (e : n ≡ residualsRefusal inp obs samples (length s)) where
+  settles : settledLists n (length (obs .times)) (keptIn inp obs) l s ≡ residualsCall inp obs l s
+  settles = ap (λ (k : ℕ). settledLists k (length (obs .times)) (keptIn inp obs) l s) (e ∙ ap (λ (x : Bool). residualsRefusal inp obs x (length s)) b)
+
+  pub residuals-refused : (n ≡ 0 → ⊥) → listsLeft (NotFilled n) l s ≡ residualsCall inp obs l s
+  residuals-refused z = nonzero n z ∙ settles
+    where
+      nonzero : (n : ℕ) → (n ≡ 0 → ⊥) → listsLeft (NotFilled n) l s ≡ settledLists n (length (obs .times)) (keptIn inp obs) l s
+      nonzero zero h = absurd (h refl)
+      nonzero (suc n) h = refl
+
+  handed : (x : Bool) → n ≡ 0 → x ≡ all epochFinite (keptIn inp obs) → handedOut x (length (obs .times)) (keptIn inp obs) s ≡ residualsCall inp obs l s
+  handed x z f = ap (λ (y : Bool). handedOut y (length (obs .times)) (keptIn inp obs) s) f
+      ∙ ap (λ (k : ℕ). settledLists k (length (obs .times)) (keptIn inp obs) l s) (sym z) ∙ settles
+
+  pub residuals-handed : (r : Count) (l' : Lists) (s' : List Float) (k : ℕ) → n ≡ 0 → Done inp obs r l' → k ≡ length s → s' ≡ replicate k zero64 → r .fine ≡ true →
+      listsLeft (Filled (r .count)) l' s' ≡ residualsCall inp obs l s
+  residuals-handed r l' s' k z d h g f =
+      (λ i. listsLeft (Filled (d .count i)) (d .outputs i) ((g ∙ ap (λ (k : ℕ). replicate k zero64) h) i)) ∙ handed true z (sym f ∙ d .fine)
+
+  pub residuals-unfit : (r : Count) (l' l'' : Lists) (s' : List Float) (k : ℕ) → n ≡ 0 → Done inp obs r l' → k ≡ length s → s' ≡ replicate k zero64 → r .fine ≡ false → l'' ≡ blank l' →
+      listsLeft (NotFilled 10) l'' s' ≡ residualsCall inp obs l s
+  residuals-unfit r l' l'' s' k z d h g f w =
+      let p : Samples obs l = fits inp obs l samples n (length s) b e z in
+      (λ i. listsLeft (NotFilled 10) ((w ∙ blank-is (length (obs .times)) l' (done-long inp obs r l' (p .values) (p .good) d)) i) ((g ∙ ap (λ (k : ℕ). replicate k zero64) h) i))
+      ∙ handed false z (sym f ∙ d .fine)

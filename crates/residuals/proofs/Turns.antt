@@ -1,0 +1,263 @@
+-- One turn of the loop over the observations. Assumes nothing.
+use mathlib.Core.Path.{_≡_, refl, sym, ap, _∙_, subst}
+use mathlib.Core.Bool.{Bool, true, false, _&&_}
+use mathlib.Core.Option.{Option, none, some}
+use mathlib.Core.List.{List, [], _∷_, _++_, map, append-assoc, append-nil}
+use Prim.Native.Nat.{ℕ, zero, suc, _+_, _-_, _≤_, _<_}
+use native.Mathlib.Numerals.{add-one}
+use native.Mathlib.Omega.{arith}
+use lib.Ieee.{Float, nan}
+use lib.ListN.{length, take, getD, set, replicate, length-append, length-map, length-replicate}
+use lib.Seq.{take-suc, take-all, length-take-le, set-append-seam}
+use Rattle.laws.specs.Floats.{zero64}
+use Rattle.laws.specs.Checks.{all}
+use Rattle.laws.specs.Lists.{map-append}
+use Rattle.finality.specs.Sheet.{Observation}
+use Rattle.epochs.specs.declared.Epoch.{Epoch}
+use Rattle.residuals.specs.declared.work.Made.{Made}
+use Rattle.residuals.specs.declared.filling.Filled.{Filled}
+use Rattle.residuals.specs.Inputs.{Inputs, epochOf, observation, observations, keep, keptOf}
+use Rattle.residuals.specs.Work.{madeOf, Tried}
+use Rattle.residuals.specs.Calls.{Lists, lists, Sightings, padded, listsOf, epochFinite, keptIn}
+use Rattle.residuals.specs.Filling.{keptTo, stored, blank, Long, Added, SoFar, Begun, Done}
+
+-- ---- kept of a longer list
+
+keep-append : {A : Type 0} (o : Option A) (xs ys : List A) → keep o (xs ++ ys) ≡ keep o xs ++ ys
+keep-append none xs ys = refl
+keep-append (some x) xs ys = refl
+
+kept-append : {X Y : Type 0} (f : X → Option Y) (xs ys : List X) → keptOf f (xs ++ ys) ≡ keptOf f xs ++ keptOf f ys
+unfolding keptOf
+kept-append f [] ys = refl
+kept-append f (x ∷ xs) ys = ap (keep (f x)) (kept-append f xs ys) ∙ keep-append (f x) (keptOf f xs) (keptOf f ys)
+
+keep-length : {A : Type 0} (o : Option A) (xs : List A) (n : ℕ) → length xs ≤ n → length (keep o xs) ≤ suc n
+keep-length none xs n h = omega arith
+keep-length (some x) xs n h = omega arith
+
+kept-length : {X Y : Type 0} (f : X → Option Y) (xs : List X) → length (keptOf f xs) ≤ length xs
+unfolding keptOf
+kept-length f [] = omega arith
+kept-length f (x ∷ xs) = keep-length (f x) (keptOf f xs) (length xs) (kept-length f xs)
+
+-- ---- the observations as one list
+
+observations-length : (ts vs : List Float) (bs : List ℕ) → length vs ≡ length ts → length bs ≡ length ts → length (observations ts vs bs) ≡ length ts
+unfolding observations
+observations-length [] vs bs h k = refl
+observations-length (t ∷ ts) [] bs h k = absurd (omega arith)
+observations-length (t ∷ ts) (v ∷ vs) [] h k = absurd (omega arith)
+observations-length (t ∷ ts) (v ∷ vs) (b ∷ bs) h k = ap suc (observations-length ts vs bs (omega arith) (omega arith))
+
+observations-at : (ts vs : List Float) (bs : List ℕ) (i : ℕ) (d : Observation) → length vs ≡ length ts → length bs ≡ length ts → i < length ts →
+    getD (observations ts vs bs) i d ≡ observation (getD ts i nan) (getD vs i nan) (getD bs i 0)
+unfolding observations
+observations-at [] vs bs i d h k l = absurd (omega arith)
+observations-at (t ∷ ts) [] bs i d h k l = absurd (omega arith)
+observations-at (t ∷ ts) (v ∷ vs) [] i d h k l = absurd (omega arith)
+observations-at (t ∷ ts) (v ∷ vs) (b ∷ bs) zero d h k l = refl
+observations-at (t ∷ ts) (v ∷ vs) (b ∷ bs) (suc i) d h k l = observations-at ts vs bs i d (omega arith) (omega arith) (omega arith)
+
+module _ (inp : Inputs) (obs : Sightings) (hv : length (obs .values) ≡ length (obs .times)) (hg : length (obs .good) ≡ length (obs .times)) where
+  abbrev os : List Observation
+  os = observations (obs .times) (obs .values) (obs .good)
+
+  abbrev seen : ℕ → Observation
+  seen i = observation (getD (obs .times) i nan) (getD (obs .values) i nan) (getD (obs .good) i 0)
+
+  kept-more : (i : ℕ) → i < length (obs .times) → keptTo inp obs (i + 1) ≡ keptTo inp obs i ++ keep (epochOf inp (seen i)) []
+  unfolding keptTo keptOf
+  kept-more i h =
+      let l : length os ≡ length (obs .times) = observations-length (obs .times) (obs .values) (obs .good) hv hg in
+      let e : take (i + 1) os ≡ take i os ++ (seen i ∷ []) =
+      ap (λ (k : ℕ). take k os) (add-one i) ∙ take-suc os i (seen i) (omega arith)
+      ∙ ap (λ (o : Observation). take i os ++ (o ∷ [])) (observations-at (obs .times) (obs .values) (obs .good) i (seen i) hv hg h) in
+      ap (keptOf (epochOf inp)) e ∙ kept-append (epochOf inp) (take i os) (seen i ∷ [])
+
+  kept-few : (i : ℕ) → i ≤ length (obs .times) → length (keptTo inp obs i) ≤ i
+  unfolding keptTo
+  kept-few i h =
+      let l : length os ≡ length (obs .times) = observations-length (obs .times) (obs .values) (obs .good) hv hg in
+      omega (arith, kept-length (epochOf inp) (take i os), length-take-le i os (omega arith))
+
+  pub kept-all : keptTo inp obs (length (obs .times)) ≡ keptIn inp obs
+  unfolding keptTo keptIn
+  kept-all =
+      let l : length os ≡ length (obs .times) = observations-length (obs .times) (obs .values) (obs .good) hv hg in
+      ap (keptOf (epochOf inp)) (take-all (length (obs .times)) os (omega arith))
+
+-- ---- lists filled up
+
+padded-set : {A : Type 0} (z v : A) (m : ℕ) (xs : List A) → length xs < m → set (padded z m xs) (length xs) v ≡ padded z m (xs ++ (v ∷ []))
+padded-set {A} z v m xs h =
+    let r : ℕ = m - suc (length xs) in
+    let e : m - length xs ≡ suc r = omega arith in
+    let g : m - length (xs ++ (v ∷ [])) ≡ r = omega (arith, length-append xs (v ∷ [])) in
+    ap (λ (k : ℕ). set (xs ++ replicate k z) (length xs) v) e ∙ set-append-seam xs z (replicate r z) v
+    ∙ sym (ap (λ (k : ℕ). (xs ++ (v ∷ [])) ++ replicate k z) g ∙ append-assoc xs (v ∷ []) (replicate r z))
+
+-- one more record's number at the place after the last
+set-more : {A : Type 0} (z : A) (g : Epoch → A) (m : ℕ) (es : List Epoch) (e : Epoch) → length es < m →
+    set (padded z m (map g es)) (length es) (g e) ≡ padded z m (map g (es ++ (e ∷ [])))
+set-more z g m es e h =
+    let l : length (map g es) ≡ length es = length-map es g in
+    ap (λ (k : ℕ). set (padded z m (map g es)) k (g e)) (sym l)
+    ∙ padded-set z (g e) m (map g es) (omega arith)
+    ∙ ap (padded z m) (sym (map-append g es (e ∷ [])))
+
+stored-more : (m : ℕ) (es : List Epoch) (e : Epoch) → length es < m → stored (length es) e (listsOf m es) ≡ listsOf m (es ++ (e ∷ []))
+unfolding listsOf
+stored-more m es e h = λ i. lists
+    (set-more zero64 (λ (e : Epoch). e .t) m es e h i)
+    (set-more zero64 (λ (e : Epoch). e .residual) m es e h i)
+    (set-more (replicate 5 zero64) (λ (e : Epoch). e .terms) m es e h i)
+    (set-more (replicate 3 zero64) (λ (e : Epoch). e .mid) m es e h i)
+    (set-more (replicate 3 zero64) (λ (e : Epoch). e .vel) m es e h i)
+
+padded-length : {A : Type 0} (z : A) (g : Epoch → A) (m : ℕ) (es : List Epoch) → length es ≤ m → length (padded z m (map g es)) ≡ m
+padded-length z g m es h = length-append (map g es) (replicate (m - length (map g es)) z) ∙ omega (arith, length-map es g, length-replicate (m - length (map g es)) z)
+
+lists-long : (m : ℕ) (es : List Epoch) → length es ≤ m → Long m (listsOf m es)
+unfolding listsOf
+lists-long m es h = record {
+  times = padded-length zero64 (λ (e : Epoch). e .t) m es h;
+  residuals = padded-length zero64 (λ (e : Epoch). e .residual) m es h;
+  terms = padded-length (replicate 5 zero64) (λ (e : Epoch). e .terms) m es h;
+  mids = padded-length (replicate 3 zero64) (λ (e : Epoch). e .mid) m es h;
+  vels = padded-length (replicate 3 zero64) (λ (e : Epoch). e .vel) m es h;
+}
+
+all-snoc : {A : Type 0} (p : A → Bool) (xs : List A) (x : A) → all p (xs ++ (x ∷ [])) ≡ (all p xs && p x)
+all-snoc p [] x = and-true (p x)
+  where
+    and-true : (b : Bool) → (b && true) ≡ b
+    and-true true = refl
+    and-true false = refl
+all-snoc p (y ∷ xs) x = ap (λ (b : Bool). p y && b) (all-snoc p xs x) ∙ and-assoc (p y) (all p xs) (p x)
+  where
+    and-assoc : (a b d : Bool) → (a && (b && d)) ≡ ((a && b) && d)
+    and-assoc true b d = refl
+    and-assoc false b d = refl
+
+-- ---- a turn
+
+record After (m : ℕ) (es : List Epoch) (r : Filled) (l : Lists) : Type 0 where
+  pub count : r .count ≡ length es
+  pub fine : r .fine ≡ all epochFinite es
+  pub outputs : l ≡ listsOf m es
+
+module _ (m : ℕ) (es es' : List Epoch) (f r : Filled) (l l' : Lists) (made : Made) (h : length es < m)
+    (ec : f .count ≡ length es) (ef : f .fine ≡ all epochFinite es) (el : l ≡ listsOf m es) (ad : Added made f r l l') where
+  advance : (o : Option Epoch) → es' ≡ es ++ keep o [] → made ≡ madeOf o → After m es' r l'
+  advance none e k =
+      let no : made .kept ≡ false = ap (λ (x : Made). x .kept) k in
+      let same : es' ≡ es = e ∙ append-nil es in
+      record {
+        count = ap (λ (x : Filled). x .count) (ad .same no) ∙ ec ∙ ap length (sym same);
+        fine = ap (λ (x : Filled). x .fine) (ad .same no) ∙ ef ∙ ap (all epochFinite) (sym same);
+        outputs = ad .still no ∙ el ∙ ap (listsOf m) (sym same);
+      }
+  advance (some x) e k =
+      let yes : made .kept ≡ true = ap (λ (x : Made). x .kept) k in
+      let is : made .epoch ≡ x = ap (λ (x : Made). x .epoch) k in
+      record {
+        count = ap (λ (x : Filled). x .count) (ad .counted yes) ∙ omega (arith, ec, ap length e, length-append es (x ∷ []));
+        fine = ap (λ (x : Filled). x .fine) (ad .counted yes) ∙ (λ i. ef i && epochFinite (is i)) ∙ sym (all-snoc epochFinite es x) ∙ ap (all epochFinite) (sym e);
+        outputs = ad .put yes ∙ (λ i. stored (ec i) (is i) (el i)) ∙ stored-more m es x h ∙ ap (listsOf m) (sym e);
+      }
+
+module _ (inp : Inputs) (obs : Sightings) (base i : ℕ) (f : Filled) (l : Lists) (w : List Float)
+    (hi : i < length (obs .times)) (hv : length (obs .values) ≡ length (obs .times)) (hg : length (obs .good) ≡ length (obs .times)) (s : SoFar inp obs base i f l w) where
+  pub turned : (r : Filled) (l' : Lists) (w' : List Float) (made : Made) → Tried inp (seen inp obs hv hg i) base w w' made → Added made f r l l' → SoFar inp obs base (i + 1) r l' w'
+  turned r l' w' made t ad =
+      let few : length (keptTo inp obs i) ≤ i = kept-few inp obs hv hg i (omega arith) in
+      let a : After (length (obs .times)) (keptTo inp obs (i + 1)) r l' =
+      advance (length (obs .times)) (keptTo inp obs i) (keptTo inp obs (i + 1)) f r l l' made (omega arith) (s .count) (s .fine) (s .outputs) ad
+      (epochOf inp (seen inp obs hv hg i)) (kept-more inp obs hv hg i hi) (t .is) in
+      record { count = a .count; fine = a .fine; outputs = a .outputs; room = omega (arith, t .long, s .room); usable = t .usable }
+
+  pub turned-at : (t v : Float) (byte : ℕ) → t ≡ getD (obs .times) i nan → v ≡ getD (obs .values) i nan → byte ≡ getD (obs .good) i 0 →
+      (r : Filled) (l' : Lists) (w' : List Float) (made : Made) → Tried inp (observation t v byte) base w w' made → Added made f r l l' → SoFar inp obs base (i + 1) r l' w'
+  turned-at t v byte et ev eb r l' w' made tried =
+      turned r l' w' made (subst (λ (o : Observation). Tried inp o base w w' made) (λ j. observation (et j) (ev j) (eb j)) tried)
+
+  -- there is a place for one more
+  pub room-left : (f .count < length (l .times)) × (f .count < length (l .residuals)) × (f .count < length (l .terms)) × (f .count < length (l .mids)) × (f .count < length (l .vels))
+  room-left =
+      let few : length (keptTo inp obs i) ≤ i = kept-few inp obs hv hg i (omega arith) in
+      let g : Long (length (obs .times)) (listsOf (length (obs .times)) (keptTo inp obs i)) = lists-long (length (obs .times)) (keptTo inp obs i) (omega arith) in
+      let ec : f .count ≡ length (keptTo inp obs i) = s .count in
+      let n : ℕ = length (obs .times) in (
+        omega (arith, g .times, ap (λ (x : Lists). length (x .times)) (s .outputs)),
+        omega (arith, g .residuals, ap (λ (x : Lists). length (x .residuals)) (s .outputs)),
+        omega (arith, g .terms, ap (λ (x : Lists). length (x .terms)) (s .outputs)),
+        omega (arith, g .mids, ap (λ (x : Lists). length (x .mids)) (s .outputs)),
+        omega (arith, g .vels, ap (λ (x : Lists). length (x .vels)) (s .outputs)),
+      )
+
+-- ---- what was made is stored
+
+clash : {X : Type 0} (b : Bool) → b ≡ true → b ≡ false → X
+clash true h e = absurd (let z : _≡_ {A = ℕ} 0 1 = cc in omega arith)
+clash false h e = absurd (let z : _≡_ {A = ℕ} 0 1 = cc in omega arith)
+
+pub added-kept : (m : Made) (f : Filled) (l : Lists) (fine good : Bool) → m .kept ≡ true → good ≡ epochFinite (m .epoch) → fine ≡ (f .fine && good) →
+    Added m f (record { count = f .count + 1; fine = fine }) l (stored (f .count) (m .epoch) l)
+added-kept m f l fine good k e g = record {
+  counted = λ h. λ i. record { count = f .count + 1; fine = (g ∙ ap (λ (b : Bool). f .fine && b) e) i };
+  put = λ h. refl;
+  same = λ h. clash (m .kept) k h;
+  still = λ h. clash (m .kept) k h;
+}
+
+pub added-not : (m : Made) (f : Filled) (l : Lists) → m .kept ≡ false → Added m f f l l
+added-not m f l k = record {
+  counted = λ h. clash (m .kept) h k;
+  put = λ h. clash (m .kept) h k;
+  same = λ h. refl;
+  still = λ h. refl;
+}
+
+-- ---- the beginning and the end
+
+pub begins : (inp : Inputs) (obs : Sightings) (base : ℕ) (l : Lists) (w : List Float) → Begun inp obs base l w → SoFar inp obs base 0 (record { count = 0; fine = true }) l w
+unfolding keptTo keptOf
+begins inp obs base l w b = record { count = refl; fine = refl; outputs = b .outputs; room = b .room; usable = b .usable }
+
+pub ends : (inp : Inputs) (obs : Sightings) (base i : ℕ) (f : Filled) (l : Lists) (w : List Float) → length (obs .values) ≡ length (obs .times) → length (obs .good) ≡ length (obs .times) →
+    i ≤ length (obs .times) → length (obs .times) ≤ i → SoFar inp obs base i f l w → Done inp obs f l
+ends inp obs base i f l w hv hg h k s =
+    let n : i ≡ length (obs .times) = omega arith in
+    let e : keptTo inp obs i ≡ keptIn inp obs = ap (keptTo inp obs) n ∙ kept-all inp obs hv hg in
+    record {
+      count = s .count ∙ ap length e;
+      fine = s .fine ∙ ap (all epochFinite) e;
+      outputs = s .outputs ∙ ap (listsOf (length (obs .times))) e;
+    }
+
+replicate-like : {A : Type 0} (z : A) (n m : ℕ) → n ≡ m → replicate n z ≡ replicate (m - 0) z
+replicate-like z n m e = let g : n ≡ m - 0 = omega arith in ap (λ (k : ℕ). replicate k z) g
+
+pub blank-is : (m : ℕ) (l : Lists) → Long m l → blank l ≡ listsOf m []
+unfolding listsOf
+blank-is m l h = λ i. lists
+    (replicate-like zero64 _ m (h .times) i)
+    (replicate-like zero64 _ m (h .residuals) i)
+    (replicate-like (replicate 5 zero64) _ m (h .terms) i)
+    (replicate-like (replicate 3 zero64) _ m (h .mids) i)
+    (replicate-like (replicate 3 zero64) _ m (h .vels) i)
+
+-- the outputs are as long as there are observations
+pub done-long : (inp : Inputs) (obs : Sightings) (r : Filled) (l : Lists) → length (obs .values) ≡ length (obs .times) → length (obs .good) ≡ length (obs .times) → Done inp obs r l → Long (length (obs .times)) l
+done-long inp obs r l hv hg d =
+    let e : length (keptTo inp obs (length (obs .times))) ≡ length (keptIn inp obs) = ap length (kept-all inp obs hv hg) in
+    let few : length (keptTo inp obs (length (obs .times))) ≤ length (obs .times) = kept-few inp obs hv hg (length (obs .times)) (omega arith) in
+    let g : Long (length (obs .times)) (listsOf (length (obs .times)) (keptIn inp obs)) = lists-long (length (obs .times)) (keptIn inp obs) (omega arith) in
+    record {
+      times = ap (λ (x : Lists). length (x .times)) (d .outputs) ∙ g .times;
+      residuals = ap (λ (x : Lists). length (x .residuals)) (d .outputs) ∙ g .residuals;
+      terms = ap (λ (x : Lists). length (x .terms)) (d .outputs) ∙ g .terms;
+      mids = ap (λ (x : Lists). length (x .mids)) (d .outputs) ∙ g .mids;
+      vels = ap (λ (x : Lists). length (x .vels)) (d .outputs) ∙ g .vels;
+    }
