@@ -19,9 +19,10 @@ start-requires c κs = c .pre .0
 ceil-requires : tie.Need-ceil-requires
 ceil-requires c κs =
     let a = c .before .args in
-    let pre = c .before .pre in
-    (subst (λ (t : Float). T (le zero64 ((a .b ⊕ halfHour ⊖ t) ⊘ step))) (sym (c .start .ensures)) (steps-low (a .a) (a .b) (pre .0) (pre .1) (pre .2)),
-    subst (λ (t : Float). T (le ((a .b ⊕ halfHour ⊖ t) ⊘ step) highest)) (sym (c .start .ensures)) (steps-high (a .a) (a .b) (pre .0) (pre .1) (pre .2)))
+    let pre = c .before .pre in (
+      subst (λ (t : Float). T (le zero64 ((a .b ⊕ halfHour ⊖ t) ⊘ step))) (sym (c .start .ensures)) (steps-low (a .a) (a .b) (pre .0) (pre .1) (pre .2)),
+      subst (λ (t : Float). T (le ((a .b ⊕ halfHour ⊖ t) ⊘ step) highest)) (sym (c .start .ensures)) (steps-high (a .a) (a .b) (pre .0) (pre .1) (pre .2)),
+    )
 
 returns : tie.Need-returns
 unfolding steps
