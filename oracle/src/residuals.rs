@@ -1,11 +1,12 @@
-// Module 5, one epoch. Answers by the source's `epoch`, refusals by document 01's table. Scratch stands at 7.0 before a
-// call: unchanged after refusals 1 to 5, else +0.0.
+// Module 5. Answers by the source's `epoch` and `residuals`, refusals by document 01's table. Scratch and outputs stand at
+// 7.0 before a call: unchanged after refusals 1 to 5; else the scratch is +0.0, and so are outputs after the count.
 use crate::fieldlists::{LAST, coefficients, finite, is_time, places, rising};
 use crate::list::{List, step};
-use crate::source::{Coefficients, Epoch, Inputs, Legendre, Model, Rng, States, V3, epoch, idx, set_nmax};
+use crate::source::{Coefficients, Epoch, Inputs, Legendre, Model, Rng, States, V3, epoch, idx, residuals, set_nmax};
 use std::collections::HashMap;
 
 const EPOCH: u64 = 0;
+const RESIDUALS: u64 = 1;
 
 #[derive(Clone)]
 struct Keyed {
@@ -44,6 +45,8 @@ struct Asked {
     obs: Vec<f64>,
     values: Vec<f64>,
     good: Vec<u8>,
+    // lengths of the five outputs
+    outs: [usize; 5],
     scratch: usize,
 }
 
@@ -69,12 +72,13 @@ impl Asked {
         work(&Inputs { model: &model, c: &c, d: &d, c_acc: &ca, d_acc: &da })
     }
 
-    // causes 1 to 5, in order
-    fn refusal(&self) -> u64 {
+    // causes 1 to 5, in order; of one epoch, or of all
+    fn refusal(&self, all: bool) -> u64 {
         let fields = self.times.len();
         if !(2..=180).contains(&self.degree) {
             return 1;
         }
+        let m = if all { self.obs.len() } else { 0 };
         if !(2..=32).contains(&fields) || self.lists.iter().any(|l| l.keys.len() > 200_000) {
             return 2;
         }
@@ -82,7 +86,8 @@ impl Asked {
         let width = [6, 6, 1, 1];
         if self.field.len() != size || self.added.len() != fields * size || self.a.len() != l || self.b.len() != l
             || (0..4).any(|k| self.lists[k].values.len() != width[k] * self.lists[k].keys.len())
-            || self.scratch < 2 * fields * l + 8 * l + 150_000 {
+            || self.scratch < 2 * fields * l + 8 * l + 150_000 + 10 * m
+            || all && (self.values.len() != m || self.good.len() != m || self.outs.iter().any(|n| *n != m)) {
             return 3;
         }
         let keys = |l: &Keyed| l.keys.iter().all(|k| (0..=2147483648).contains(k));
@@ -90,7 +95,7 @@ impl Asked {
             || !self.times.iter().chain(&self.obs).all(|t| is_time(*t)) {
             return 4;
         }
-        if !rising(&self.times) || self.lists.iter().any(|l| !rising(&l.keys)) {
+        if all && !rising(&self.obs) || !rising(&self.times) || self.lists.iter().any(|l| !rising(&l.keys)) {
             return 5;
         }
         0
@@ -112,7 +117,7 @@ impl Asked {
     }
 
     fn tell_epoch(&self, list: &mut List) {
-        let early = self.refusal();
+        let early = self.refusal(false);
         let kept = if early != 0 || self.good[0] == 0 { vec![] } else {
             let mut buf = coefficients(self.degree, &self.field);
             self.answer(|inp| epoch(inp, &mut buf.clone(), self.obs[0], self.values[0]).into_iter().collect())
@@ -128,6 +133,50 @@ impl Asked {
             Some(_) => told(list, 10, 0, &zeros),
             None => told(list, early, 0, &zeros),
         }
+        self.tell_scratch(list, early != 0);
+    }
+}
+
+impl Asked {
+    // all epochs: what was asked for one, with room for each observation
+    fn with(&self, obs: &[f64], random: &mut Rng) -> Asked {
+        let m = obs.len();
+        let mut out = self.clone();
+        out.obs = obs.to_vec();
+        out.values = obs.iter().map(|_| 1e-3 * (unit(random) - 0.5)).collect();
+        out.good = vec![1; m];
+        out.outs = [m; 5];
+        out.scratch += 10 * m;
+        out
+    }
+
+    fn all(&self, list: &mut List) {
+        self.ask(list, RESIDUALS);
+        list.ask(self.scratch as u64);
+        for part in [&self.obs, &self.values] {
+            list.ask(part.len() as u64);
+            list.ask_all(part);
+        }
+        list.ask(self.good.len() as u64);
+        self.good.iter().for_each(|b| list.ask(*b as u64));
+        self.outs.iter().for_each(|n| list.ask(*n as u64));
+        let early = self.refusal(true);
+        let obs: Vec<(f64, f64, bool)> = if early != 0 { vec![] } else { (0..self.obs.len()).map(|i| (self.obs[i], self.values[i], self.good[i] != 0)).collect() };
+        let kept = if obs.is_empty() { vec![] } else { self.answer(|inp| residuals(inp, &obs)) };
+        let late = if kept.iter().all(fine) { 0 } else { 10 };
+        let kept = if late == 0 { kept } else { vec![] };
+        list.tell(if early != 0 { early } else { late });
+        list.tell(kept.len() as u64);
+        let rest = if early != 0 { 7.0 } else { 0.0 };
+        let told = |list: &mut List, places: usize, width: usize, number: &dyn Fn(&Epoch) -> Vec<f64>| {
+            kept.iter().for_each(|e| list.tell_all(&number(e)));
+            list.tell_all(&vec![rest; (places - kept.len()) * width]);
+        };
+        told(list, self.outs[0], 1, &|e| vec![e.t]);
+        told(list, self.outs[1], 1, &|e| vec![e.residual]);
+        told(list, self.outs[2], 5, &|e| e.terms.to_vec());
+        told(list, self.outs[3], 3, &|e| e.mid.to_vec());
+        told(list, self.outs[4], 3, &|e| e.vel.to_vec());
         self.tell_scratch(list, early != 0);
     }
 }
@@ -181,7 +230,7 @@ fn asked(random: &mut Rng, n: usize, fields: usize, keys: &[i64], obs: &[f64]) -
     Asked {
         degree: n, field: field(random, n, 3.986_004_415e14, 6_378_136.3, 1.0, 1e-5), a: tables.a[..l].to_vec(), b: tables.b[..l].to_vec(), times, added,
         lists: [states(keys, 0.0), states(keys, -0.032), accs(random), accs(random)],
-        obs: obs.to_vec(), values: obs.iter().map(|_| 1e-3 * (unit(random) - 0.5)).collect(), good: vec![1; m],
+        obs: obs.to_vec(), values: obs.iter().map(|_| 1e-3 * (unit(random) - 0.5)).collect(), good: vec![1; m], outs: [0; 5],
         scratch: 2 * fields * l + 8 * l + 150_000,
     }
 }
@@ -260,6 +309,72 @@ fn refusals(list: &mut List, base: &Asked) {
     said(&|a| a.field[0] = 1e308);
 }
 
+// all epochs: refusals, and lists of which some are kept
+fn lists(list: &mut List, random: &mut Rng, base: &Asked) {
+    let obs = [0.0, 0.999, 1.0, 2.0, step(3.0, -1), 3.0, 4.5, 5.0, 100.75, 5400.5, 10800.0, 21599.5, step(21600.0, -1), 21600.0, 21600.5];
+    let all = base.with(&obs, random);
+    let few = base.with(&obs[2..5], random);
+    let mut said = |asked: &Asked, change: &dyn Fn(&mut Asked)| changed(asked, |a| change(a)).all(list);
+    said(&all, &|_| ());
+    said(&all, &|a| a.good = (0..15).map(|i| [0, 1, 255][i % 3]).collect());
+    said(&all, &|a| a.good.fill(0));
+    said(&all, &|a| a.good[14] = 0);
+    said(&all, &|a| a.scratch += 77);
+    said(&base.with(&[], random), &|_| ());
+    for t in [0.0, 1.0, 5e-324, 21600.5] {
+        said(&base.with(&[t], random), &|_| ());
+    }
+    for k in 0..4 {
+        said(&all, &|a| { a.lists[k].keys.remove(1); let w = if k < 2 { 6 } else { 1 }; a.lists[k].values.drain(w..2 * w); });
+        said(&all, &|a| { a.lists[k].keys.clear(); a.lists[k].values.clear(); });
+    }
+    for n in [3, 5] {
+        let a = asked(random, n, 3, &base.lists[0].keys, &[0.0]);
+        said(&a.with(&obs[..9], random), &|_| ());
+    }
+    // 1 and 2
+    for n in [1, 181] {
+        said(&few, &|a| { a.degree = n; a.times.clear(); a.outs[0] = 2 });
+    }
+    said(&few, &|a| { a.times.truncate(1); a.good.pop(); });
+    // 3
+    said(&few, &|a| { a.values.pop(); });
+    said(&few, &|a| a.values.push(f64::NAN));
+    said(&few, &|a| { a.good.pop(); });
+    said(&few, &|a| a.good.push(1));
+    for k in 0..5 {
+        said(&few, &|a| { a.outs[k] -= 1; a.obs[0] = -1.0 });
+        said(&few, &|a| a.outs[k] += 1);
+    }
+    said(&few, &|a| { a.scratch -= 1; a.obs[0] = a.obs[1] });
+    said(&few, &|a| a.scratch -= 30);
+    said(&few, &|a| { a.field.pop(); });
+    said(&few, &|a| { a.lists[3].values.pop(); });
+    // 4, also of an observation that is not good
+    for w in [f64::NAN, f64::INFINITY, f64::NEG_INFINITY] {
+        said(&few, &|a| a.obs[2] = w);
+        said(&few, &|a| { a.values[1] = w; a.obs.reverse() });
+        said(&few, &|a| { a.values[0] = w; a.good[0] = 0 });
+        said(&few, &|a| { a.obs[1] = w; a.good.fill(0) });
+        said(&few, &|a| a.lists[0].values[7] = w);
+    }
+    for t in [-5e-324, step(LAST, 1)] {
+        said(&few, &|a| { a.obs[0] = t; a.good[0] = 0 });
+    }
+    // 5
+    said(&few, &|a| a.obs.reverse());
+    said(&few, &|a| { a.obs[1] = a.obs[0]; a.good[0] = 0 });
+    said(&few, &|a| { a.obs[0] = -0.0; a.obs[1] = 0.0 });
+    said(&few, &|a| a.times.reverse());
+    said(&few, &|a| a.lists[2].keys.reverse());
+    // 10: one record, the first, one between and the last; and none where its epoch is not kept
+    for k in [0, 1, 4, 8] {
+        let same = |a: &mut Asked| { let w = a.lists[0].values[6 * k..6 * k + 6].to_vec(); a.lists[1].values[6 * k..6 * k + 6].copy_from_slice(&w); };
+        said(&all, &|a| same(a));
+        said(&all, &|a| { same(a); let key = a.lists[0].keys[k] as f64; for i in 0..15 { if a.obs[i].floor() == key { a.good[i] = 0; } } });
+    }
+}
+
 pub fn make(list: &mut List, seed: u64) {
     let mut random = Rng::new(seed);
     let keys: Vec<i64> = vec![0, 2, 4, 5, 100, 5400, 10799, 10800, 21599];
@@ -294,4 +409,5 @@ pub fn make(list: &mut List, seed: u64) {
     changed(&base, |a| a.values[0] = 0.0).epoch(list);
     changed(&base, |a| { a.values[0] = -0.0; a.lists[2].values.fill(0.0); a.lists[3].values.fill(-0.0) }).epoch(list);
     changed(&base, |a| { a.lists[2].values.fill(-0.0); a.lists[3].values.fill(0.0) }).epoch(list);
+    lists(list, &mut random, &base);
 }

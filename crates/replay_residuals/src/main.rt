@@ -1,5 +1,5 @@
 // Replays the oracle's list of module 5: each call is its number and its arguments, a word a line; a slice is preceded by
-// its length. Scratch stands at 7.0 before a call.
+// its length. Scratch and outputs stand at 7.0 before a call.
 ghost use Prim.Native.Nat.{_≤_};
 ghost use lib.ListN.{length};
 use replay::Item;
@@ -24,6 +24,14 @@ fn keys(out: &mut [i64]) -> usize
 {
     let count = at_most(replay::number(), out.len());
     replay::fill_keys(out, count);
+    count
+}
+
+fn bytes(out: &mut [u8]) -> usize
+    ensures { λ r. ⌜ r ≤ length (now (out .exit)) ⌝ }
+{
+    let count = at_most(replay::number(), out.len());
+    replay::fill_bytes(out, count);
     count
 }
 
@@ -122,8 +130,210 @@ fn run_epoch(
     say_scratch(&scratch[..]);
 }
 
+fn say_terms(rows: &[[f64; 5]]) {
+    let mut i = 0;
+    while i < rows.len() {
+        let row = rows[i];
+        replay::say_float(row[0]);
+        replay::say_float(row[1]);
+        replay::say_float(row[2]);
+        replay::say_float(row[3]);
+        replay::say_float(row[4]);
+        i += 1;
+    }
+}
+
+fn say_vectors(rows: &[[f64; 3]]) {
+    let mut i = 0;
+    while i < rows.len() {
+        let row = rows[i];
+        replay::say_float(row[0]);
+        replay::say_float(row[1]);
+        replay::say_float(row[2]);
+        i += 1;
+    }
+}
+
+// The refusal's number, and the count.
+fn say_counted(answer: slices::Counted) {
+    match answer {
+        slices::Counted::Counted(n) => {
+            replay::say(0);
+            replay::say(n as u64);
+        }
+        slices::Counted::Refused(n) => {
+            replay::say(n as u64);
+            replay::say(0);
+        }
+    }
+}
+
+fn answer_all(
+    degree: usize,
+    field: &[f64],
+    a: &[f64],
+    b: &[f64],
+    times: &[f64],
+    added: &[f64],
+    ckeys: &[i64],
+    cstates: &[f64],
+    dkeys: &[i64],
+    dstates: &[f64],
+    cacckeys: &[i64],
+    caccs: &[f64],
+    dacckeys: &[i64],
+    daccs: &[f64],
+    obstimes: &[f64],
+    obsvalues: &[f64],
+    good: &[u8],
+    outtimes: &mut [f64],
+    outresiduals: &mut [f64],
+    outterms: &mut [[f64; 5]],
+    outmids: &mut [[f64; 3]],
+    outvels: &mut [[f64; 3]],
+    scratch: &mut [f64],
+) {
+    let answer = residuals::residuals(
+        degree,
+        field,
+        a,
+        b,
+        times,
+        added,
+        ckeys,
+        cstates,
+        dkeys,
+        dstates,
+        cacckeys,
+        caccs,
+        dacckeys,
+        daccs,
+        obstimes,
+        obsvalues,
+        good,
+        outtimes,
+        outresiduals,
+        outterms,
+        outmids,
+        outvels,
+        scratch,
+    );
+    say_counted(answer);
+    replay::say_all(&outtimes[..]);
+    replay::say_all(&outresiduals[..]);
+    say_terms(&outterms[..]);
+    say_vectors(&outmids[..]);
+    say_vectors(&outvels[..]);
+    say_scratch(&scratch[..]);
+}
+
+// The lengths of the five outputs come next.
+fn run_all(
+    degree: usize,
+    field: &[f64],
+    a: &[f64],
+    b: &[f64],
+    times: &[f64],
+    added: &[f64],
+    ckeys: &[i64],
+    cstates: &[f64],
+    dkeys: &[i64],
+    dstates: &[f64],
+    cacckeys: &[i64],
+    caccs: &[f64],
+    dacckeys: &[i64],
+    daccs: &[f64],
+    obstimes: &[f64],
+    obsvalues: &[f64],
+    good: &[u8],
+    scratch: &mut [f64],
+) {
+    let mut outtimes = [7.0; 20];
+    let mut outresiduals = [7.0; 20];
+    let mut outterms = [[7.0; 5]; 20];
+    let mut outmids = [[7.0; 3]; 20];
+    let mut outvels = [[7.0; 3]; 20];
+    let p = at_most(replay::number(), 20);
+    let q = at_most(replay::number(), 20);
+    let r = at_most(replay::number(), 20);
+    let s = at_most(replay::number(), 20);
+    let u = at_most(replay::number(), 20);
+    answer_all(
+        degree,
+        field,
+        a,
+        b,
+        times,
+        added,
+        ckeys,
+        cstates,
+        dkeys,
+        dstates,
+        cacckeys,
+        caccs,
+        dacckeys,
+        daccs,
+        obstimes,
+        obsvalues,
+        good,
+        &mut outtimes[0..p],
+        &mut outresiduals[0..q],
+        &mut outterms[0..r],
+        &mut outmids[0..s],
+        &mut outvels[0..u],
+        scratch,
+    );
+}
+
+// The observations' times, values and bytes come next.
+fn run_list(
+    degree: usize,
+    field: &[f64],
+    a: &[f64],
+    b: &[f64],
+    times: &[f64],
+    added: &[f64],
+    ckeys: &[i64],
+    cstates: &[f64],
+    dkeys: &[i64],
+    dstates: &[f64],
+    cacckeys: &[i64],
+    caccs: &[f64],
+    dacckeys: &[i64],
+    daccs: &[f64],
+    scratch: &mut [f64],
+) {
+    let mut obstimes = [0.0; 20];
+    let mut obsvalues = [0.0; 20];
+    let mut good = [0u8; 20];
+    let p = list(&mut obstimes);
+    let q = list(&mut obsvalues);
+    let r = bytes(&mut good);
+    run_all(
+        degree,
+        field,
+        a,
+        b,
+        times,
+        added,
+        ckeys,
+        cstates,
+        dkeys,
+        dstates,
+        cacckeys,
+        caccs,
+        dacckeys,
+        daccs,
+        &obstimes[0..p],
+        &obsvalues[0..q],
+        &good[0..r],
+        scratch,
+    );
+}
+
 // The length of the scratch comes next.
 fn run(
+    which: u64,
     degree: usize,
     field: &[f64],
     a: &[f64],
@@ -141,26 +351,47 @@ fn run(
 ) {
     let mut scratch = [7.0; 160000];
     let n = at_most(replay::number(), 160000);
-    run_epoch(
-        degree,
-        field,
-        a,
-        b,
-        times,
-        added,
-        ckeys,
-        cstates,
-        dkeys,
-        dstates,
-        cacckeys,
-        caccs,
-        dacckeys,
-        daccs,
-        &mut scratch[0..n],
-    );
+    if which == 0 {
+        run_epoch(
+            degree,
+            field,
+            a,
+            b,
+            times,
+            added,
+            ckeys,
+            cstates,
+            dkeys,
+            dstates,
+            cacckeys,
+            caccs,
+            dacckeys,
+            daccs,
+            &mut scratch[0..n],
+        );
+    } else {
+        run_list(
+            degree,
+            field,
+            a,
+            b,
+            times,
+            added,
+            ckeys,
+            cstates,
+            dkeys,
+            dstates,
+            cacckeys,
+            caccs,
+            dacckeys,
+            daccs,
+            &mut scratch[0..n],
+        );
+    }
 }
 
 fn with_accelerometers(
+    which: u64,
     degree: usize,
     field: &[f64],
     a: &[f64],
@@ -181,6 +412,7 @@ fn with_accelerometers(
     let r = keys(&mut dacckeys);
     let s = list(&mut daccs);
     run(
+        which,
         degree,
         field,
         a,
@@ -198,7 +430,15 @@ fn with_accelerometers(
     );
 }
 
-fn with_states(degree: usize, field: &[f64], a: &[f64], b: &[f64], times: &[f64], added: &[f64]) {
+fn with_states(
+    which: u64,
+    degree: usize,
+    field: &[f64],
+    a: &[f64],
+    b: &[f64],
+    times: &[f64],
+    added: &[f64],
+) {
     let mut ckeys = [0i64; 32];
     let mut cstates = [0.0; 200];
     let mut dkeys = [0i64; 32];
@@ -208,6 +448,7 @@ fn with_states(degree: usize, field: &[f64], a: &[f64], b: &[f64], times: &[f64]
     let r = keys(&mut dkeys);
     let s = list(&mut dstates);
     with_accelerometers(
+        which,
         degree,
         field,
         a,
@@ -221,7 +462,7 @@ fn with_states(degree: usize, field: &[f64], a: &[f64], b: &[f64], times: &[f64]
     );
 }
 
-fn epoch() {
+fn call(which: u64) {
     let mut field = [0.0; 80];
     let mut a = [0.0; 40];
     let mut b = [0.0; 40];
@@ -234,6 +475,7 @@ fn epoch() {
     let n = list(&mut times);
     let k = list(&mut added);
     with_states(
+        which,
         degree,
         &field[0..f],
         &a[0..p],
@@ -247,8 +489,8 @@ fn epoch() {
 fn answer() -> bool {
     match replay::next() {
         Item::End => false,
-        Item::Value(_) => {
-            epoch();
+        Item::Value(which) => {
+            call(which);
             true
         }
     }
