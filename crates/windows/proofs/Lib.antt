@@ -2,3 +2,4 @@ pub mod Lawful
 pub mod Wholes
 pub mod Times
 pub mod Shelves
+pub mod Filling

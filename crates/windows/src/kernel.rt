@@ -1,18 +1,24 @@
 // The states that fitted windows leave, each window in a slot of one lent slice: their count, then for each its second and six numbers.
 ghost use mathlib.Core.Path.{_≡_};
-ghost use Prim.Native.Nat.{ℕ, _+_, _*_, _≤_, _<_};
+ghost use mathlib.Core.Bool.{true};
+ghost use Prim.Native.Nat.{ℕ, _+_, _-_, _*_, _≤_, _<_};
 ghost use lib.Dec.{T};
-ghost use lib.Ieee.{Float, le, lt};
-ghost use lib.ListN.{length};
+ghost use lib.Ieee.{Float, nan, le, lt};
+ghost use lib.ListN.{length, getD};
+ghost use Rattle.laws.specs.Checks.{risingSeconds};
 ghost use Rattle.laws.specs.Floats.{zero64, _⊖_};
 ghost use Rattle.laws.specs.WholeNumbers.{ceil, floor};
 ghost use Rattle.laws.specs.Times.{Time, secondTime};
 ghost use Rattle.numbers.specs.Seconds.{wholeSecond};
 ghost use Rattle.finality.specs.Arcs.{start, steps, longest, inside};
 ghost use Rattle.finality.specs.Fitting.{tab};
+ghost use Rattle.finality.specs.Brackets.{covers};
+ghost use Rattle.integrate.specs.Force.{model, frontSize, fullForce};
 ghost use Rattle.integrate.specs.Room.{Run, stateIn};
 ghost use Rattle.integrate.specs.Steps.{timeOf};
 ghost use Rattle.integrate.specs.Work.{Placed, Stored};
+ghost use Rattle.fit.specs.Fit.{stateFor};
+ghost use Rattle.windows.specs.Windows.{windowBy, roomFor, windowsServe, Leaves, Windowed, Ends, Filled, WindowsFit};
 ghost use Rattle.windows.specs.Slots.{lowest, highest, within, Entered, Keeping, Keeps};
 
 // The least whole number that is not below x.
@@ -149,4 +155,236 @@ fn keep(t0: f64, from: f64, to: f64, steps: usize, s: &mut [f64], base: usize, a
         n = keep_step(t0, from, to, k, s, base, at, n);
     }
     n
+}
+
+// The fit of a window shorter than 7,000 s: its states from a place on. Returns how many there are.
+fn fit_between(
+    degree: usize,
+    field: &[f64],
+    a: &[f64],
+    b: &[f64],
+    times: &[f64],
+    added: &[f64],
+    keys: &[i64],
+    states: &[f64],
+    from: f64,
+    to: f64,
+    s: &mut [f64],
+    base: usize,
+    at: usize,
+) -> usize
+    requires { ⌜ (degree ≤ 180) × (base ≡ frontSize degree) × (risingSeconds (now keys) ≡ true) × (length (now states) ≡ 6 * length (now keys)) × Ends from to × T (lt (to ⊖ from) longest) × (base + 150000 ≤ at) × (at + 24599 ≤ length (now s)) ⌝ }
+    ensures { λ r. ⌜ Leaves (windowBy (covers (now (times .entry))) (fullForce (model degree (now (field .entry)) (now (times .entry)) (now (added .entry))) (now (a .entry)) (now (b .entry))) (stateFor (now (keys .entry)) (now (states .entry))) from to) (now (s .entry)) (now (s .exit)) base at r ⌝ }
+{
+    let t0 = start(from);
+    let n = steps(from, to);
+    let arc = integrate::kernel::Arc {
+        t0: t0,
+        steps: n,
+        node: from,
+        period: to - from,
+    };
+    let fitted = fit::kernel::fit_arc(
+        degree,
+        field,
+        a,
+        b,
+        times,
+        added,
+        keys,
+        states,
+        arc,
+        s,
+    );
+    match fitted {
+        fit::kernel::Fitted::Fitted(_) => keep(t0, from, to, n, s, base, at),
+        fit::kernel::Fitted::Refused(_) => 0,
+    }
+}
+
+// The states of a window, none where it is 7,000 s or longer.
+fn leave(
+    degree: usize,
+    field: &[f64],
+    a: &[f64],
+    b: &[f64],
+    times: &[f64],
+    added: &[f64],
+    keys: &[i64],
+    states: &[f64],
+    from: f64,
+    to: f64,
+    s: &mut [f64],
+    base: usize,
+    at: usize,
+) -> usize
+    requires { ⌜ (degree ≤ 180) × (base ≡ frontSize degree) × (risingSeconds (now keys) ≡ true) × (length (now states) ≡ 6 * length (now keys)) × Ends from to × (base + 150000 ≤ at) × (at + 24599 ≤ length (now s)) ⌝ }
+    ensures { λ r. ⌜ Leaves (windowBy (covers (now (times .entry))) (fullForce (model degree (now (field .entry)) (now (times .entry)) (now (added .entry))) (now (a .entry)) (now (b .entry))) (stateFor (now (keys .entry)) (now (states .entry))) from to) (now (s .entry)) (now (s .exit)) base at r ⌝ }
+{
+    if to - from < 7000.0 {
+        return fit_between(
+            degree,
+            field,
+            a,
+            b,
+            times,
+            added,
+            keys,
+            states,
+            from,
+            to,
+            s,
+            base,
+            at,
+        );
+    }
+    0
+}
+
+// One window's slot.
+fn window(
+    degree: usize,
+    field: &[f64],
+    a: &[f64],
+    b: &[f64],
+    times: &[f64],
+    added: &[f64],
+    keys: &[i64],
+    states: &[f64],
+    from: f64,
+    to: f64,
+    s: &mut [f64],
+    base: usize,
+    at: usize,
+)
+    requires { ⌜ (degree ≤ 180) × (base ≡ frontSize degree) × (risingSeconds (now keys) ≡ true) × (length (now states) ≡ 6 * length (now keys)) × Ends from to × (base + 150000 ≤ at) × (at + 24600 ≤ length (now s)) ⌝ }
+    ensures { λ _. ⌜ Windowed (windowBy (covers (now (times .entry))) (fullForce (model degree (now (field .entry)) (now (times .entry)) (now (added .entry))) (now (a .entry)) (now (b .entry))) (stateFor (now (keys .entry)) (now (states .entry))) from to) (now (s .entry)) (now (s .exit)) base at ⌝ }
+{
+    let n = leave(
+        degree,
+        field,
+        a,
+        b,
+        times,
+        added,
+        keys,
+        states,
+        from,
+        to,
+        s,
+        base,
+        at + 1,
+    );
+    s[at] = std::num::nearest_u64_to_f64(n as u64);
+}
+
+// The windows between neighbouring nodes, a slot at every 49,200 numbers.
+fn fit_each(
+    degree: usize,
+    field: &[f64],
+    a: &[f64],
+    b: &[f64],
+    times: &[f64],
+    added: &[f64],
+    keys: &[i64],
+    states: &[f64],
+    nodes: &[f64],
+    s: &mut [f64],
+    base: usize,
+    first: usize,
+)
+    requires { ⌜ (degree ≤ 180) × (base ≡ frontSize degree) × (risingSeconds (now keys) ≡ true) × (length (now states) ≡ 6 * length (now keys)) × ((w : ℕ) → w + 1 < length (now nodes) → Ends (getD (now nodes) w nan) (getD (now nodes) (w + 1) nan)) × (base + 150000 ≤ first) × (first + 49200 * length (now nodes) ≤ length (now s) + 73800) ⌝ }
+    ensures { λ _. ⌜ Filled (windowBy (covers (now (times .entry))) (fullForce (model degree (now (field .entry)) (now (times .entry)) (now (added .entry))) (now (a .entry)) (now (b .entry))) (stateFor (now (keys .entry)) (now (states .entry)))) (now (nodes .entry)) (length (now (nodes .entry)) - 1) (now (s .entry)) (now (s .exit)) base first ⌝ }
+{
+    let mut w: usize = 0;
+    while w + 1 < nodes.len() {
+        window(
+            degree,
+            field,
+            a,
+            b,
+            times,
+            added,
+            keys,
+            states,
+            nodes[w],
+            nodes[w + 1],
+            s,
+            base,
+            first + 49200 * w,
+        );
+        w += 1;
+    }
+}
+
+// Whether there is room for a fit and for all slots.
+fn room_for(degree: usize, nodes: usize, room: usize) -> bool
+    ensures { λ r. ⌜ r ≡ roomFor degree nodes room ⌝ }
+{
+    if degree > 180 {
+        return false;
+    }
+    let base = integrate::kernel::front_size(degree) + 150000;
+    if base > room {
+        return false;
+    }
+    nodes <= (room - base) / 49200 + 1
+}
+
+fn windows_serve(
+    degree: usize,
+    keys: &[i64],
+    states: usize,
+    nodes: &[f64],
+    satellite: usize,
+    room: usize,
+) -> bool
+    ensures { λ r. ⌜ r ≡ windowsServe degree (now (keys .entry)) states (now (nodes .entry)) satellite room ⌝ }
+{
+    let shape = slices::both(
+        room_for(degree, nodes.len(), room),
+        slices::both(satellite <= 1, states == 6 * keys.len()),
+    );
+    let order = slices::both(
+        slices::rising_keys(keys),
+        slices::both(slices::all_times(nodes), slices::rising(nodes)),
+    );
+    slices::both(shape, order)
+}
+
+// The fitted states of every window of one satellite, each in its slot. False, and nothing is done, where the slices do not serve.
+pub fn fit_windows(
+    degree: usize,
+    field: &[f64],
+    a: &[f64],
+    b: &[f64],
+    times: &[f64],
+    added: &[f64],
+    keys: &[i64],
+    states: &[f64],
+    nodes: &[f64],
+    satellite: usize,
+    s: &mut [f64],
+) -> bool
+    ensures { λ r. ⌜ WindowsFit (windowsServe degree (now (keys .entry)) (length (now (states .entry))) (now (nodes .entry)) satellite (length (now (s .entry)))) (windowBy (covers (now (times .entry))) (fullForce (model degree (now (field .entry)) (now (times .entry)) (now (added .entry))) (now (a .entry)) (now (b .entry))) (stateFor (now (keys .entry)) (now (states .entry)))) (now (nodes .entry)) (now (s .entry)) (now (s .exit)) (frontSize degree) satellite r ⌝ }
+{
+    if windows_serve(degree, keys, states.len(), nodes, satellite, s.len()) {
+        let base = integrate::kernel::front_size(degree);
+        fit_each(
+            degree,
+            field,
+            a,
+            b,
+            times,
+            added,
+            keys,
+            states,
+            nodes,
+            s,
+            base,
+            base + 150000 + 24600 * satellite,
+        );
+        return true;
+    }
+    false
 }

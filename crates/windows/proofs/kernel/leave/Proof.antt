@@ -1,0 +1,27 @@
+use mathlib.Core.Path.{_≡_, refl, sym, ap, _∙_, subst}
+use mathlib.Core.Bool.{Bool, true, false}
+use Prim.Native.Nat.{ℕ, suc, _+_, _*_, _-_, _≤_, _<_}
+use native.Mathlib.Omega.{arith}
+use lib.Dec.{T}
+use lib.ListN.{length, getD}
+use lib.Ieee.{Float, nan, lt}
+use Rattle.laws.specs.Order.{lt→le}
+use Rattle.finality.specs.Brackets.{covers}
+use Rattle.integrate.specs.Force.{model, fullForce}
+use Rattle.fit.specs.Fit.{stateFor}
+use Rattle.windows.specs.Windows.{windowBy, Filled}
+use Rattle.windows.proofs.Filling.{long-leaves}
+use borrow.Author.Needs.{needs}
+use Rattle.windows.proofs.kernel.leave.Statement.{statement}
+use Rattle.windows.proofs.kernel.leave.Tie as tie
+
+returns-2 : tie.Need-returns-2
+returns-2 c =
+    let a = c .before .before .before .before .before .before .before .before .args in
+    long-leaves (covers (a .times .now)) (fullForce (model (a .degree) (a .field .now) (a .times .now) (a .added .now)) (a .a .now) (a .b .now)) (stateFor (a .keys .now) (a .states .now)) (a .from) (a .to) (c .before .before .before .before .before .before .before .before .pre .4) (a .s .now) (a .base) (a .at) (c .if1 .left)
+
+fit-between-requires : tie.Need-fit-between-requires
+fit-between-requires c κs = let pre = c .before .before .before .before .before .before .before .before .before .pre in (pre .0, pre .1, pre .2, pre .3, pre .4, subst T (sym (c .before .if1 .taken)) tt, pre .5, pre .6)
+
+pub leave-spec : {M : Type 1} → statement M
+leave-spec = tie.close (tie.spec fit-between-requires (λ c. search needs) (λ c. search needs) returns-2)

@@ -1,0 +1,28 @@
+use mathlib.Core.Path.{_≡_, refl, sym, ap, _∙_, subst}
+use mathlib.Core.Bool.{Bool, true, false}
+use Prim.Native.Nat.{ℕ, suc, _+_, _*_, _-_, _≤_, _<_}
+use native.Mathlib.Omega.{arith}
+use lib.Dec.{T}
+use lib.ListN.{length, getD}
+use lib.Ieee.{Float, nan, lt}
+use Rattle.laws.specs.Order.{lt→le}
+use Rattle.finality.specs.Brackets.{covers}
+use Rattle.integrate.specs.Force.{model, fullForce}
+use Rattle.fit.specs.Fit.{stateFor}
+use Rattle.windows.specs.Windows.{windowBy, Filled}
+use Rattle.windows.proofs.Filling.{room-degree, room-none, room-all}
+use borrow.Author.Needs.{needs}
+use Rattle.windows.proofs.kernel.room_for.Statement.{statement}
+use Rattle.windows.proofs.kernel.room_for.Tie as tie
+
+returns : tie.Need-returns
+returns c = room-degree (c .before .args .degree) (c .before .args .nodes) (c .before .args .room) (c .if1 .taken)
+
+returns-2 : tie.Need-returns-2
+returns-2 c = room-none (c .before .before .before .args .degree) (c .before .before .before .args .nodes) (c .before .before .before .args .room) _ (c .before .before .if1 .left) (c .before .front-size .ensures .0 (c .before .before .if1 .left)) (c .if2 .taken)
+
+returns-3 : tie.Need-returns-3
+returns-3 c = room-all (c .before .before .before .args .degree) (c .before .before .before .args .nodes) (c .before .before .before .args .room) _ (c .before .before .if1 .left) (c .before .front-size .ensures .0 (c .before .before .if1 .left)) (c .if2 .left)
+
+pub room-for-spec : {M : Type 1} → statement M
+room-for-spec = tie.close (tie.spec returns (λ c κs. search needs) (λ c. search needs) returns-2 (λ c. search needs) returns-3)
