@@ -3,3 +3,4 @@ pub mod Wholes
 pub mod Times
 pub mod Shelves
 pub mod Filling
+pub mod Meaning
