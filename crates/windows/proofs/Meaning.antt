@@ -26,7 +26,14 @@ use Rattle.model.specs.Calls.{atFits, atLeft}
 use Rattle.integrate.specs.Force.{Model, model, frontSize, frontAt, fullForce}
 use Rattle.integrate.specs.Room.{stateIn}
 use Rattle.integrate.specs.declared.kernel.State.{State}
-use Rattle.windows.specs.Stage.{Setting, front, gravityOf, fullOf}
+use Rattle.integrate.proofs.Places.{by}
+use Rattle.finality.specs.Tables.{sameSecond, find}
+use Rattle.slices.specs.Slices.{lookup, lookupFrom}
+use Rattle.fit.specs.Fit.{heldAt, stateFor}
+use Rattle.fit.specs.declared.kernel.Held.the-variants.{Known}
+use lib.Seq.{drop-drop, getD-drop}
+use borrow.Author.Tests.{eqb-true, eqb-false, ltb-false, lt-ltb, le-ltb}
+use Rattle.windows.specs.Stage.{Setting, front, gravityOf, fullOf, heldOf, lookOf, statesIn}
 
 abbrev pub settingOf : ℕ → List Float → List Float → List Float → Setting
 settingOf N field a b = record { degree = N; static = field; a = a; b = b }
@@ -42,3 +49,47 @@ pub full-is : (N : ℕ) (field a b ts added : List Float) → atFits N (length f
 unfolding fullForce gravityOf
 full-is N field a b ts added e t x =
     ap (λ (l : List Float). plus (gravityWith N (gm field) (radius field) a b l x) (tidesOf t x)) (front-is N field ts added t e)
+
+-- ---- the look-up of states
+
+same-natural : (i j : ℕ) → eqb i j ≡ not (ltb i j || ltb j i)
+same-natural i j =
+    by (eqb i j)
+    (λ e. let q : i ≡ j = eqb-true i j e in e ∙ sym (simp (le-ltb i j (omega (arith, q)), le-ltb j i (omega (arith, q)))))
+    (λ e. let ne = eqb-false i j e in
+    by (ltb i j) (λ l. e ∙ sym (simp l)) (λ l. let q : j < i = omega (arith, ltb-false i j l, ne) in e ∙ sym (simp (l, lt-ltb j i q))))
+
+same-second : (k key : ℤ) → sameSecond k key ≡ not (ltZ k key || ltZ key k)
+same-second (pos i) (pos j) = same-natural i j
+same-second (pos i) (negsuc j) = refl
+same-second (negsuc i) (pos j) = refl
+same-second (negsuc i) (negsuc j) =
+    by (eqb i j)
+    (λ e. let q : i ≡ j = eqb-true i j e in e ∙ sym (simp (le-ltb i j (omega (arith, q)), le-ltb j i (omega (arith, q)))))
+    (λ e. let ne = eqb-false i j e in
+    by (ltb j i) (λ l. e ∙ sym (simp l)) (λ l. let q : i < j = omega (arith, ltb-false j i l, ne) in e ∙ sym (simp (l, lt-ltb i j q))))
+
+state-after : (numbers : List Float) (n : ℕ) → stateIn (drop n numbers) 0 ≡ stateIn numbers n
+unfolding stateIn
+state-after numbers n = λ i. record {
+  position = record { x = read 0 n (omega arith) i; y = read 1 (n + 1) refl i; z = read 2 (n + 2) refl i };
+  velocity = record { x = read 3 (n + 3) refl i; y = read 4 (n + 4) refl i; z = read 5 (n + 5) refl i };
+}
+  where
+    read : (k m : ℕ) → n + k ≡ m → getD (drop n numbers) k nan ≡ getD numbers m nan
+    read k m e = getD-drop n numbers k nan ∙ ap (λ (j : ℕ). getD numbers j nan) e
+
+held-from : (i : ℕ) (keys : List ℤ) (numbers : List Float) (key : ℤ) → heldAt numbers (lookupFrom i keys key) ≡ heldOf (find key (statesIn keys (drop (6 * i) numbers)))
+unfolding lookupFrom find statesIn
+held-from i [] numbers key = refl
+held-from i (k ∷ keys) numbers key =
+    let six : 6 * i + 6 ≡ 6 * suc i = omega arith in
+    let next : drop 6 (drop (6 * i) numbers) ≡ drop (6 * suc i) numbers = drop-drop 6 (6 * i) numbers ∙ ap (λ (m : ℕ). drop m numbers) six in
+    let rest = held-from (suc i) keys numbers key ∙ ap (λ (l : List Float). heldOf (find key (statesIn keys l))) (sym next) in
+    by (ltZ k key || ltZ key k)
+    (λ e. let d : sameSecond k key ≡ false = same-second k key ∙ ap not e in rw (e, d) rest)
+    (λ e. let d : sameSecond k key ≡ true = same-second k key ∙ ap not e in rw (e, d) (ap Known (sym (state-after numbers (6 * i)))))
+
+pub look-is : (keys : List ℤ) (states : List Float) (t : Float) → isHeld t ≡ true → stateFor keys states t ≡ lookOf (λ (k : ℤ). find k (statesIn keys states)) t
+unfolding stateFor lookup wholeSecond
+look-is keys states t e = rw e (held-from 0 keys states (second t))
