@@ -46,7 +46,7 @@ states-length : (r : Fitted) (run : Run) (n : ℕ) → length (statesOf r run n)
 states-length (Rms rms) run n = le-of-eq (tab-length run (suc n))
 states-length (Refused k) run n = omega arith
 
-states-same : (r r' : Fitted) (run run' : Run) (n : ℕ) → r ≡ r' → ((k : ℕ) → k < suc n → run k ≡ run' k) → statesOf r run n ≡ statesOf r' run' n
+pub states-same : (r r' : Fitted) (run run' : Run) (n : ℕ) → r ≡ r' → ((k : ℕ) → k < suc n → run k ≡ run' k) → statesOf r run n ≡ statesOf r' run' n
 states-same r r' run run' n e h = each r ∙ ap (λ (q : Fitted). statesOf q run' n) e
   where
     each : (q : Fitted) → statesOf q run n ≡ statesOf q run' n

@@ -4,3 +4,4 @@ pub mod Times
 pub mod Shelves
 pub mod Filling
 pub mod Meaning
+pub mod Whole

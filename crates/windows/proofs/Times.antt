@@ -66,7 +66,7 @@ module _ (a : Float) (at : Time a) where
       (is-le ((bound ⊖ halfHour) ⊘ step) highest 1073741824 900 8589934592 0 (half-int (bound ⊖ halfHour) 1073741824 900 e (omega arith) (omega arith)) highest-is (omega arith))
 
 module _ (a b : Float) (at : Time a) (bt : Time b) (ab : T (le a b)) where
-  start-is : Is (start a) (P a b at bt ab) (N a b at bt ab)
+  pub start-is : Is (start a) (P a b at bt ab) (N a b at bt ab)
   unfolding start
   start-is =
       let f = floored a b at bt ab in
