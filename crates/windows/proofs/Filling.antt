@@ -143,6 +143,7 @@ module _ (covered : Float → Bool) (full : Float → Vector → Vector) (look :
     where
       run : Run
       run = orbitOf full look arc
+
       is : table ≡ inside t0 a b 0 (tab run (n + 1))
       is =
           short-table short (Rms x) (sym e ∙ f .said)

@@ -96,12 +96,12 @@ unfolding windowBy windowOf fitStage
 window-is M field ta tb ts added keys states fit a b e =
     by (lt (b ⊖ a) longest)
     (λ t.
-        let short : T (lt (b ⊖ a) longest) = subst T (sym t) tt in
-        let few : steps a b ≤ 5302 = let h = steps-short a b (e .from) (e .to) (lt→le a b (e .order)) short in omega (arith, h) in
-        let within : leb (steps a b) 5302 ≡ true = le-leb (steps a b) 5302 few in
-        let full : Float → Vector → Vector = fullOf (settingOf M field ta tb) (fieldAt M field ts added) in
-        let look' : Float → Held = lookOf (λ (key : ℤ). find key (statesIn keys states)) in
-        rw (t, within) (ap (λ (l : List State). inside (start a) a b 0 l)
-        ((λ i. statesOf (fitOf (covers ts) (λ u x. full-is M field ta tb ts added fit u x i) (stateFor keys states) (arcStruct (arcOf a b))) (orbitOf (λ u x. full-is M field ta tb ts added fit u x i) (stateFor keys states) (arcStruct (arcOf a b))) (steps a b))
-        ∙ look-same a b e (covers ts) full (stateFor keys states) look' (λ i h. look-is keys states (timeOf (start a) i) (held-step a b e i h)) (look-is keys states (start a) (held-start a b e)) few)))
+    let short : T (lt (b ⊖ a) longest) = subst T (sym t) tt in
+    let few : steps a b ≤ 5302 = let h = steps-short a b (e .from) (e .to) (lt→le a b (e .order)) short in omega (arith, h) in
+    let within : leb (steps a b) 5302 ≡ true = le-leb (steps a b) 5302 few in
+    let full : Float → Vector → Vector = fullOf (settingOf M field ta tb) (fieldAt M field ts added) in
+    let look' : Float → Held = lookOf (λ (key : ℤ). find key (statesIn keys states)) in
+    rw (t, within) (ap (λ (l : List State). inside (start a) a b 0 l)
+    ((λ i. statesOf (fitOf (covers ts) (λ u x. full-is M field ta tb ts added fit u x i) (stateFor keys states) (arcStruct (arcOf a b))) (orbitOf (λ u x. full-is M field ta tb ts added fit u x i) (stateFor keys states) (arcStruct (arcOf a b))) (steps a b))
+    ∙ look-same a b e (covers ts) full (stateFor keys states) look' (λ i h. look-is keys states (timeOf (start a) i) (held-step a b e i h)) (look-is keys states (start a) (held-start a b e)) few)))
     (λ t. rw t refl)

@@ -184,18 +184,7 @@ fn fit_between(
         node: from,
         period: to - from,
     };
-    let fitted = fit::kernel::fit_arc(
-        degree,
-        field,
-        a,
-        b,
-        times,
-        added,
-        keys,
-        states,
-        arc,
-        s,
-    );
+    let fitted = fit::kernel::fit_arc(degree, field, a, b, times, added, keys, states, arc, s);
     match fitted {
         fit::kernel::Fitted::Fitted(_) => keep(t0, from, to, n, s, base, at),
         fit::kernel::Fitted::Refused(_) => 0,
