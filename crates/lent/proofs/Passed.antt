@@ -2,7 +2,7 @@
 use mathlib.Core.Path.{_≡_, refl, sym, ap, _∙_}
 use mathlib.Core.Bool.{Bool, true, false, cond, _&&_}
 use mathlib.Core.List.{List}
-use Prim.Native.Nat.{ℕ, _+_, _*_, _≤_, _<_}
+use Prim.Native.Nat.{ℕ, _+_, _-_, _*_, _≤_, _<_}
 use native.Mathlib.Nat.{mul-le-mul}
 use native.Mathlib.Omega.{arith}
 use lib.Dec.{leb, eqb}
@@ -10,7 +10,7 @@ use lib.IntN.{ℤ}
 use lib.Ieee.{Float}
 use borrow.Author.Tests.{leb-true, le-leb, lt-leb}
 use Rattle.laws.specs.Checks.{rising, risingSeconds}
-use Rattle.lent.specs.Lent.{kind, size, few, frontSize, degreeFine, countsFine, modelFits, statesFit, leastScratch, scratchFits, rise}
+use Rattle.lent.specs.Lent.{kind, size, few, frontSize, degreeFine, countsFine, modelFits, statesFit, leastScratch, scratchFits, wholeScratchFits, rise}
 
 no : {X : Type 0} → false ≡ true → X
 no e = absurd (let z : _≡_ {A = ℕ} 0 1 = cc in omega arith)
@@ -121,3 +121,24 @@ module _ (N fields count scratch : ℕ) where
   pub scratch-within : (r : ℕ) → N ≤ 180 → fields ≤ 32 → count ≤ 100000 → r ≡ leastScratch N fields count → leb r scratch ≡ scratchFits N fields count scratch
   unfolding scratchFits
   scratch-within r h k l e = rw (le-leb N 180 h, le-leb fields 32 k, le-leb count 100000 l) (ap (λ (i : ℕ). leb i scratch) e)
+
+module _ (N fields nodes count scratch : ℕ) where
+  pub whole-degree : 180 < N → false ≡ wholeScratchFits N fields nodes count scratch
+  unfolding wholeScratchFits
+  whole-degree h = rw (lt-leb N 180 h)
+
+  pub whole-fields : N ≤ 180 → 32 < fields → false ≡ wholeScratchFits N fields nodes count scratch
+  unfolding wholeScratchFits
+  whole-fields h k = rw (le-leb N 180 h, lt-leb fields 32 k)
+
+  pub whole-nodes : N ≤ 180 → fields ≤ 32 → 64 < nodes → false ≡ wholeScratchFits N fields nodes count scratch
+  unfolding wholeScratchFits
+  whole-nodes h k n = rw (le-leb N 180 h, le-leb fields 32 k, lt-leb nodes 64 n)
+
+  pub whole-count : N ≤ 180 → fields ≤ 32 → nodes ≤ 64 → 100000 < count → false ≡ wholeScratchFits N fields nodes count scratch
+  unfolding wholeScratchFits
+  whole-count h k n l = rw (le-leb N 180 h, le-leb fields 32 k, le-leb nodes 64 n, lt-leb count 100000 l)
+
+  pub whole-within : (r : ℕ) → N ≤ 180 → fields ≤ 32 → nodes ≤ 64 → count ≤ 100000 → r ≡ leastScratch N fields count + 49200 * (nodes - 1) → leb r scratch ≡ wholeScratchFits N fields nodes count scratch
+  unfolding wholeScratchFits
+  whole-within r h k n l e = rw (le-leb N 180 h, le-leb fields 32 k, le-leb nodes 64 n, le-leb count 100000 l) (ap (λ (i : ℕ). leb i scratch) e)

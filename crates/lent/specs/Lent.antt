@@ -1,14 +1,19 @@
 -- What is tested of the lists that the calls of module 5 and the whole path are lent (document 01, "Outcomes" and "Bounds"): the time-variable model with its Legendre
 -- tables, both satellites' states and accelerometer values by second. Assumes nothing.
-use Prim.Native.Nat.{ℕ, _+_, _*_}
+use Prim.Native.Nat.{ℕ, _+_, _-_, _*_}
 use mathlib.Core.Bool.{Bool, cond, _&&_}
-use mathlib.Core.List.{List}
+use mathlib.Core.List.{List, [], _∷_}
 use lib.Dec.{leb, eqb}
 use lib.IntN.{ℤ}
 use lib.Ieee.{Float}
 use lib.Ieee.Scale.{finite}
 use Rattle.laws.specs.Checks.{all, isTime, isKey, rising, risingSeconds}
 use Rattle.laws.specs.Tables.{tri}
+use Rattle.slices.specs.Calls.{firstFailed}
+
+-- the number of the first of five tests that fails
+abbrev pub firstOf : Bool → Bool → Bool → Bool → Bool → ℕ
+firstOf degree counts lengths values order = firstFailed ((degree, 1) ∷ (counts, 2) ∷ (lengths, 3) ∷ (values, 4) ∷ (order, 5) ∷ [])
 
 -- how many coefficients of one kind a field of degree N has, and how many numbers
 abbrev pub kind : ℕ → ℕ
@@ -55,6 +60,11 @@ leastScratch N fields count = 2 * (fields * kind N) + 8 * kind N + 150000 + 10 *
 
 unfoldable pub scratchFits : ℕ → ℕ → ℕ → ℕ → Bool
 scratchFits N fields count scratch = leb N 180 && (leb fields 32 && (leb count 100000 && leb (leastScratch N fields count) scratch))
+
+-- and of the whole path, with 49,200 numbers more for each pair of neighbouring nodes
+unfoldable pub wholeScratchFits : ℕ → ℕ → ℕ → ℕ → ℕ → Bool
+wholeScratchFits N fields nodes count scratch =
+    leb N 180 && (leb fields 32 && (leb nodes 64 && (leb count 100000 && leb (leastScratch N fields count + 49200 * (nodes - 1)) scratch)))
 
 -- ---- 4: finite numbers, times and keys within their bounds
 

@@ -1,9 +1,10 @@
 // Tests of the lists that the calls of module 5 and the whole path are lent.
 ghost use mathlib.Core.Path.{_≡_};
 ghost use mathlib.Core.Bool.{_&&_};
-ghost use Prim.Native.Nat.{_+_, _*_, _≤_};
+ghost use Prim.Native.Nat.{_+_, _-_, _*_, _≤_};
+ghost use lib.ListN.{length};
 ghost use lib.Dec.{leb, eqb};
-ghost use Rattle.lent.specs.Lent.{kind, size, degreeFine, countsFine, modelFits, statesFit, tablesFit, frontSize, leastScratch, scratchFits, modelFine, keyedFine, rise as riseOf};
+ghost use Rattle.lent.specs.Lent.{kind, size, firstOf, degreeFine, countsFine, modelFits, statesFit, tablesFit, frontSize, leastScratch, scratchFits, wholeScratchFits, modelFine, keyedFine, rise as riseOf};
 use slices;
 
 // Places for the coefficients of one kind.
@@ -18,6 +19,18 @@ pub fn degree_fine(degree: usize) -> bool
     ensures { λ r. ⌜ r ≡ degreeFine degree ⌝ }
 {
     slices::both(2 <= degree, degree <= 180)
+}
+
+// The number of the first test that fails.
+pub fn first_of(degree: bool, counts: bool, lengths: bool, values: bool, order: bool) -> u8
+    ensures { λ r. ⌜ r ≡ firstOf degree counts lengths values order ⌝ }
+{
+    let last = slices::unless(values, 4, slices::unless(order, 5, 0));
+    slices::unless(
+        degree,
+        1,
+        slices::unless(counts, 2, slices::unless(lengths, 3, last)),
+    )
 }
 
 // How many numbers stand before a run's states; none for a degree above 180.
@@ -109,9 +122,49 @@ pub fn tables_fit(
     )
 }
 
+// Lengths of the model and of both satellites' states and accelerometer values.
+pub fn lists_fit(
+    degree: usize,
+    field: &[f64],
+    a: &[f64],
+    b: &[f64],
+    times: &[f64],
+    added: &[f64],
+    ckeys: &[i64],
+    cstates: &[f64],
+    dkeys: &[i64],
+    dstates: &[f64],
+    cacckeys: &[i64],
+    caccs: &[f64],
+    dacckeys: &[i64],
+    daccs: &[f64],
+) -> bool
+    ensures { λ r. ⌜ r ≡ modelFits degree (length (now (times .entry))) (length (now (field .entry))) (length (now (added .entry))) (length (now (a .entry))) (length (now (b .entry))) && tablesFit (length (now (ckeys .entry))) (length (now (cstates .entry))) (length (now (dkeys .entry))) (length (now (dstates .entry))) (length (now (cacckeys .entry))) (length (now (caccs .entry))) (length (now (dacckeys .entry))) (length (now (daccs .entry))) ⌝ }
+{
+    let model = model_fits(
+        degree,
+        times.len(),
+        field.len(),
+        added.len(),
+        a.len(),
+        b.len(),
+    );
+    let tables = tables_fit(
+        ckeys.len(),
+        cstates.len(),
+        dkeys.len(),
+        dstates.len(),
+        cacckeys.len(),
+        caccs.len(),
+        dacckeys.len(),
+        daccs.len(),
+    );
+    slices::both(model, tables)
+}
+
 fn least_scratch(degree: usize, fields: usize, count: usize) -> usize
     requires { ⌜ (degree ≤ 180) × (fields ≤ 32) × (count ≤ 100000) ⌝ }
-    ensures { λ r. ⌜ r ≡ leastScratch degree fields count ⌝ }
+    ensures { λ r. ⌜ (r ≡ leastScratch degree fields count) × (r ≤ 4000000) ⌝ }
 {
     let l = places(degree);
     2 * (fields * l) + 8 * l + 150000 + 10 * count
@@ -132,6 +185,42 @@ pub fn scratch_fits(degree: usize, fields: usize, count: usize, scratch: usize) 
     least_scratch(degree, fields, count) <= scratch
 }
 
+fn whole_scratch(degree: usize, fields: usize, nodes: usize, count: usize) -> usize
+    requires { ⌜ (degree ≤ 180) × (fields ≤ 32) × (nodes ≤ 64) × (count ≤ 100000) ⌝ }
+    ensures { λ r. ⌜ r ≡ leastScratch degree fields count + 49200 * (nodes - 1) ⌝ }
+{
+    let least = least_scratch(degree, fields, count);
+    if nodes == 0 {
+        return least;
+    }
+    least + 49200 * (nodes - 1)
+}
+
+// The scratch of the whole path.
+pub fn whole_scratch_fits(
+    degree: usize,
+    fields: usize,
+    nodes: usize,
+    count: usize,
+    scratch: usize,
+) -> bool
+    ensures { λ r. ⌜ r ≡ wholeScratchFits degree fields nodes count scratch ⌝ }
+{
+    if 180 < degree {
+        return false;
+    }
+    if 32 < fields {
+        return false;
+    }
+    if 64 < nodes {
+        return false;
+    }
+    if 100000 < count {
+        return false;
+    }
+    whole_scratch(degree, fields, nodes, count) <= scratch
+}
+
 // The model's numbers and times.
 pub fn model_fine(field: &[f64], a: &[f64], b: &[f64], times: &[f64], added: &[f64]) -> bool
     ensures { λ r. ⌜ r ≡ modelFine (now (field .entry)) (now (a .entry)) (now (b .entry)) (now (times .entry)) (now (added .entry)) ⌝ }
@@ -145,6 +234,24 @@ pub fn keyed_fine(keys: &[i64], values: &[f64]) -> bool
     ensures { λ r. ⌜ r ≡ keyedFine (now (keys .entry)) (now (values .entry)) ⌝ }
 {
     slices::both(slices::all_keys(keys), slices::all_finite(values))
+}
+
+// Both satellites' states and accelerometer values.
+pub fn rows_fine(
+    ckeys: &[i64],
+    cstates: &[f64],
+    dkeys: &[i64],
+    dstates: &[f64],
+    cacckeys: &[i64],
+    caccs: &[f64],
+    dacckeys: &[i64],
+    daccs: &[f64],
+) -> bool
+    ensures { λ r. ⌜ r ≡ (keyedFine (now (ckeys .entry)) (now (cstates .entry)) && keyedFine (now (dkeys .entry)) (now (dstates .entry))) && (keyedFine (now (cacckeys .entry)) (now (caccs .entry)) && keyedFine (now (dacckeys .entry)) (now (daccs .entry))) ⌝ }
+{
+    let states = slices::both(keyed_fine(ckeys, cstates), keyed_fine(dkeys, dstates));
+    let accs = slices::both(keyed_fine(cacckeys, caccs), keyed_fine(dacckeys, daccs));
+    slices::both(states, accs)
 }
 
 // The field times and the keys of C and D.

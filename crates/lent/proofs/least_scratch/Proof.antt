@@ -36,8 +36,10 @@ add-result-3 c =
     omega (arith, product-small (c .before .args .fields) (c .places .result) (omega arith) (omega arith))
 
 returns : tie.Need-returns
-returns c =
-    ap (λ (l : ℕ). 2 * (c .before .args .fields * l) + 8 * l + 150000 + 10 * c .before .args .count) (c .places .ensures .0)
+returns c = (
+  ap (λ (l : ℕ). 2 * (c .before .args .fields * l) + 8 * l + 150000 + 10 * c .before .args .count) (c .places .ensures .0),
+  omega (arith, product-small (c .before .args .fields) (c .places .result) (omega arith) (omega arith)),
+)
 
 pub least-scratch-spec : {M : Type 1} → statement M
 least-scratch-spec =
