@@ -1,4 +1,6 @@
 -- The theorem is in Final.
 pub mod Grown
 pub mod Lawful
+pub mod Orbits
+pub mod Tests
 pub mod Final
