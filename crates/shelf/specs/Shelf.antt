@@ -10,12 +10,12 @@ use lib.ListN.{length, getD}
 use lib.Ieee.{Float, nan}
 use Rattle.laws.specs.Lists.{All}
 use Rattle.laws.specs.Checks.{isKey}
-use Rattle.laws.specs.Times.{RisingSeconds}
+use Rattle.laws.specs.Times.{RisingSeconds, secondTime}
 use Rattle.finality.specs.Tables.{Table, find, keyOf}
 use Rattle.integrate.specs.declared.kernel.State.{State}
 use Rattle.fit.specs.declared.kernel.Held.{Held}
 use Rattle.windows.specs.Stage.{heldOf}
-use Rattle.windows.specs.Slots.{Slot}
+use Rattle.windows.specs.Slots.{Entries, Slot}
 use Rattle.windows.specs.Windows.{slotAt}
 
 -- the tables of the windows 0, 1 and so on below n, end to end
@@ -38,6 +38,29 @@ pub record Shelved (s : List Float) (first : ℕ) (tables : ℕ → Table State)
 -- the first state at a second, over all windows
 pub record Looked (s : List Float) (first windows : ℕ) (k : ℤ) (r : Held) : Type 0 where
   pub is : (tables : ℕ → Table State) → isKey k ≡ true → Shelved s first tables windows → r ≡ heldOf (find k (joined tables windows))
+
+-- ---- what the parts of the search give, where t is a second as a float
+
+-- k is sought in a table of n states, end to end from a place on
+pub record Sought (s : List Float) (at n : ℕ) (t : Float) (table : Table State) (k : ℤ) : Type 0 where
+  pub key : isKey k ≡ true
+  pub time : t ≡ secondTime k
+  pub count : length table ≡ n
+  pub orderly : Orderly table
+  pub entries : Entries s at table
+
+pub record Searched (s : List Float) (at n : ℕ) (t : Float) (r : Held) : Type 0 where
+  pub is : (table : Table State) (k : ℤ) → Sought s at n t table k → r ≡ heldOf (find k table)
+
+-- in one slot
+pub record InSlot (s : List Float) (at : ℕ) (t : Float) (r : Held) : Type 0 where
+  pub is : (table : Table State) (k : ℤ) → isKey k ≡ true → t ≡ secondTime k → Orderly table → Slot s at table → r ≡ heldOf (find k table)
+
+-- in all slots
+pub record InSlots (s : List Float) (first windows : ℕ) (t : Float) (r : Held) : Type 0 where
+  pub is : (tables : ℕ → Table State) (k : ℤ) → isKey k ≡ true → t ≡ secondTime k → Shelved s first tables windows → r ≡ heldOf (find k (joined tables windows))
+
+-- ---- the fits
 
 -- the windows of both satellites, C in the even slots and D in the odd ones, where the slices serve both
 pub record BothFit (serves : Bool) (windowC windowD : Float → Float → Table State) (nodes s s' : List Float) (base : ℕ) (answer : Bool) : Type 0 where

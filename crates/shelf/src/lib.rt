@@ -1,1 +1,108 @@
 // The fitted states of both satellites in one lent slice, and the look-up of a second over all windows.
+ghost use mathlib.Core.Path.{_≡_};
+ghost use Prim.Native.Nat.{ℕ, _+_, _*_, _≤_};
+ghost use lib.ListN.{length};
+ghost use Rattle.laws.specs.WholeNumbers.{number};
+ghost use Rattle.integrate.specs.Room.{stateIn};
+ghost use Rattle.shelf.specs.Shelf.{Looked, Searched, InSlot, InSlots};
+
+// How many states a slot holds, none where its number is no such count.
+fn count_of(x: f64) -> usize
+    ensures { λ r. ⌜ (r ≤ 3500) × ((n : ℕ) → n ≤ 3500 → x ≡ number n → r ≡ n) ⌝ }
+{
+    if x > -1.0 {
+        if x < 18446744073709551616.0 {
+            let n = std::num::truncating_f64_to_u64(x);
+            if n <= 3500 {
+                return n as usize;
+            }
+        }
+    }
+    0
+}
+
+fn state_in(l: &[f64], i: usize) -> integrate::kernel::State
+    requires { ⌜ i + 6 ≤ length (now l) ⌝ }
+    ensures { λ r. ⌜ r ≡ stateIn (now (l .entry)) i ⌝ }
+{
+    integrate::kernel::State {
+        position: vectors::Vector {
+            x: l[i],
+            y: l[i + 1],
+            z: l[i + 2],
+        },
+        velocity: vectors::Vector {
+            x: l[i + 3],
+            y: l[i + 4],
+            z: l[i + 5],
+        },
+    }
+}
+
+// The state at a second among the n of a slot, by halving.
+fn search(s: &[f64], at: usize, n: usize, second: f64) -> fit::kernel::Held
+    requires { ⌜ (n ≤ 3500) × (at + 24599 ≤ length (now s)) ⌝ }
+    ensures { λ r. ⌜ Searched (now (s .entry)) at n second r ⌝ }
+{
+    let mut lo: usize = 0;
+    let mut hi: usize = n;
+    while lo < hi {
+        let mid = lo + (hi - lo) / 2;
+        let x = s[at + 7 * mid];
+        if x < second {
+            lo = mid + 1;
+        } else if second < x {
+            hi = mid;
+        } else {
+            let state = state_in(s, at + 7 * mid + 1);
+            return fit::kernel::Held::Known(state);
+        }
+    }
+    fit::kernel::Held::Missing
+}
+
+fn in_slot(s: &[f64], at: usize, second: f64) -> fit::kernel::Held
+    requires { ⌜ at + 24600 ≤ length (now s) ⌝ }
+    ensures { λ r. ⌜ InSlot (now (s .entry)) at second r ⌝ }
+{
+    let n = count_of(s[at]);
+    search(s, at + 1, n, second)
+}
+
+// Slot after slot.
+fn in_slots(s: &[f64], first: usize, windows: usize, second: f64) -> fit::kernel::Held
+    requires { ⌜ first + 49200 * windows ≤ length (now s) + 24600 ⌝ }
+    ensures { λ r. ⌜ InSlots (now (s .entry)) first windows second r ⌝ }
+{
+    let mut w: usize = 0;
+    while w < windows {
+        let found = in_slot(s, first + 49200 * w, second);
+        match found {
+            fit::kernel::Held::Known(state) => {
+                return fit::kernel::Held::Known(state);
+            }
+            fit::kernel::Held::Missing => {
+                w += 1;
+            }
+        }
+    }
+    fit::kernel::Held::Missing
+}
+
+// The first state at a second, over all windows of a satellite.
+pub fn held(
+    s: &[f64],
+    first: usize,
+    windows: usize,
+    second: numbers::GpsSecond,
+) -> fit::kernel::Held
+    ensures { λ r. ⌜ Looked (now (s .entry)) first windows (second .0) r ⌝ }
+{
+    if first > s.len() {
+        return fit::kernel::Held::Missing;
+    }
+    if windows > (s.len() - first + 24600) / 49200 {
+        return fit::kernel::Held::Missing;
+    }
+    in_slots(s, first, windows, std::num::nearest_i64_to_f64(second.0))
+}
