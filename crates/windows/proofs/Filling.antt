@@ -56,7 +56,7 @@ entries-same at s s' table e h = record {
       };
 }
 
-slot-same : (at : ℕ) (s s' : List Float) (table : Table State) → length table ≤ 3500 → ((k : ℕ) → at ≤ k → k < at + 24600 → getD s' k nan ≡ getD s k nan) → Slot s at table → Slot s' at table
+pub slot-same : (at : ℕ) (s s' : List Float) (table : Table State) → length table ≤ 3500 → ((k : ℕ) → at ≤ k → k < at + 24600 → getD s' k nan ≡ getD s k nan) → Slot s at table → Slot s' at table
 slot-same at s s' table few e h = record {
   count = e at (omega arith) (omega arith) ∙ h .count;
   entries = entries-same (at + 1) s s' table (λ k p q. e k (omega arith) (omega arith)) (h .entries);
