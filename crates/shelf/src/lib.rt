@@ -1,10 +1,15 @@
 // The fitted states of both satellites in one lent slice, and the look-up of a second over all windows.
 ghost use mathlib.Core.Path.{_≡_};
+ghost use mathlib.Core.Bool.{_&&_};
 ghost use Prim.Native.Nat.{ℕ, _+_, _*_, _≤_};
 ghost use lib.ListN.{length};
 ghost use Rattle.laws.specs.WholeNumbers.{number};
+ghost use Rattle.finality.specs.Brackets.{covers};
+ghost use Rattle.integrate.specs.Force.{model, frontSize, fullForce};
 ghost use Rattle.integrate.specs.Room.{stateIn};
-ghost use Rattle.shelf.specs.Shelf.{Looked, Searched, InSlot, InSlots};
+ghost use Rattle.fit.specs.Fit.{stateFor};
+ghost use Rattle.windows.specs.Windows.{windowBy, windowsServe};
+ghost use Rattle.shelf.specs.Shelf.{Looked, Searched, InSlot, InSlots, BothFit};
 
 // How many states a slot holds, none where its number is no such count.
 fn count_of(x: f64) -> usize
@@ -105,4 +110,50 @@ pub fn held(
         return fit::kernel::Held::Missing;
     }
     in_slots(s, first, windows, std::num::nearest_i64_to_f64(second.0))
+}
+
+// The fitted states of both satellites, C in the even slots and D in the odd ones. True where the slices serve both.
+pub fn fill(
+    degree: usize,
+    field: &[f64],
+    a: &[f64],
+    b: &[f64],
+    times: &[f64],
+    added: &[f64],
+    ckeys: &[i64],
+    cstates: &[f64],
+    dkeys: &[i64],
+    dstates: &[f64],
+    nodes: &[f64],
+    s: &mut [f64],
+) -> bool
+    ensures { λ r. ⌜ BothFit (windowsServe degree (now (ckeys .entry)) (length (now (cstates .entry))) (now (nodes .entry)) 0 (length (now (s .entry))) && windowsServe degree (now (dkeys .entry)) (length (now (dstates .entry))) (now (nodes .entry)) 1 (length (now (s .entry)))) (windowBy (covers (now (times .entry))) (fullForce (model degree (now (field .entry)) (now (times .entry)) (now (added .entry))) (now (a .entry)) (now (b .entry))) (stateFor (now (ckeys .entry)) (now (cstates .entry)))) (windowBy (covers (now (times .entry))) (fullForce (model degree (now (field .entry)) (now (times .entry)) (now (added .entry))) (now (a .entry)) (now (b .entry))) (stateFor (now (dkeys .entry)) (now (dstates .entry)))) (now (nodes .entry)) (now (s .entry)) (now (s .exit)) (frontSize degree) r ⌝ }
+{
+    let c = windows::kernel::fit_windows(
+        degree,
+        field,
+        a,
+        b,
+        times,
+        added,
+        ckeys,
+        cstates,
+        nodes,
+        0,
+        s,
+    );
+    let d = windows::kernel::fit_windows(
+        degree,
+        field,
+        a,
+        b,
+        times,
+        added,
+        dkeys,
+        dstates,
+        nodes,
+        1,
+        s,
+    );
+    slices::both(c, d)
 }
