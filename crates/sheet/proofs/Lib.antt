@@ -4,3 +4,4 @@ pub mod Lawful
 pub mod Orbits
 pub mod Tests
 pub mod Final
+pub mod Demand

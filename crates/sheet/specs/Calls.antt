@@ -9,7 +9,7 @@ use lib.ListN.{length}
 use Rattle.laws.specs.Checks.{all, isTime, rising}
 use Rattle.slices.specs.Calls.{Left, settled}
 use Rattle.finality.specs.Kernels.{stagesOf}
-use Rattle.finality.specs.Sheet.{times, raws, detrended, passedValues, published, kept, final}
+use Rattle.finality.specs.Sheet.{sheet, kept, final}
 use Rattle.lent.specs.Lent.{firstOf, degreeFine, countsFine, modelFits, tablesFit, wholeScratchFits, modelFine, keyedFine, rise}
 use Rattle.windows.specs.Stage.{Setting}
 use Rattle.sheet.specs.Stages.{kernels}
@@ -51,11 +51,8 @@ sheetRefusal S l outputs room = firstOf (degreeFine (S .degree)) (countsAllowed 
 
 unfoldable pub columnsOf : Setting → Lists → List (List Float)
 columnsOf S l =
-    published (length (l .times)) (times (stagesOf (kernels S)) (submissionOf S l))
-    ∷ published (length (l .times)) (raws (stagesOf (kernels S)) (submissionOf S l))
-    ∷ published (length (l .times)) (detrended (stagesOf (kernels S)) (submissionOf S l))
-    ∷ published (length (l .times)) (passedValues (stagesOf (kernels S)) (submissionOf S l))
-    ∷ []
+    let columns = sheet (stagesOf (kernels S)) (submissionOf S l) in
+    columns .time ∷ columns .raw ∷ columns .detrended ∷ columns .passed ∷ []
 
 -- how many epochs are kept, and how many of them are final
 unfoldable pub keptCount : Setting → Lists → ℕ

@@ -39,7 +39,7 @@ abbrev pub settingOf : ℕ → List Float → List Float → List Float → Sett
 settingOf N field a b = record { degree = N; static = field; a = a; b = b }
 
 -- the numbers before a run's states are the field at t and what the degree gives, where the lengths fit
-front-is : (N : ℕ) (field ts added : List Float) (t : Float) → atFits N (length field) (length ts) (length added) (length (prepared N (replicate (frontSize N) zero64))) ≡ true →
+pub front-is : (N : ℕ) (field ts added : List Float) (t : Float) → atFits N (length field) (length ts) (length added) (length (prepared N (replicate (frontSize N) zero64))) ≡ true →
     frontAt (model N field ts added) t ≡ front N (fieldAt N field ts added t)
 unfolding frontAt atLeft front
 front-is N field ts added t e = rw e (ap (λ (m : ℕ). fieldAt N field ts added t ++ drop (2 * tri m) (prepared N (replicate (frontSize N) zero64))) (add-one N))
