@@ -3,5 +3,6 @@ pub mod Grown
 pub mod Lawful
 pub mod Orbits
 pub mod Tests
+pub mod Columns
 pub mod Final
 pub mod Demand

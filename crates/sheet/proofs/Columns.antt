@@ -1,0 +1,66 @@
+-- The detrended and the passed column, and the ends of the lists that the horizon looks at, from the code's lists to the submission's. Assumes nothing.
+use mathlib.Core.Path.{_≡_, refl, sym, ap, _∙_}
+use mathlib.Core.Option.{Option}
+use mathlib.Core.List.{List, [], _∷_, map}
+use lib.IntN.{ℤ}
+use lib.Ieee.{Float}
+use lib.ListN.{length, length-map}
+use Rattle.laws.specs.Times.{end, secondTime}
+use Rattle.finality.specs.Tables.{Table, keyOf, rowTime}
+use Rattle.finality.specs.Stages.{timeOf}
+use Rattle.finality.specs.Kernels.{stagesOf}
+use Rattle.finality.specs.Sheet.{Ends, obsTime, kept, times, raws, detrended, passedValues, sampleOf, endsOf as submissionEnds}
+use Rattle.finality.specs.Detrending.{Sample, detrend}
+use Rattle.epochs.specs.declared.Epoch.{Epoch}
+use Rattle.epochs.specs.Epochs.{time, residual}
+use Rattle.detrend.specs.Revolutions.{revolvedOf, removedOf}
+use Rattle.detrend.proofs.Split.{samplesOf, removed-split}
+use Rattle.filter.specs.Filter.{pass, bandPass}
+use Rattle.horizon.specs.Horizon.{endsOf}
+use Rattle.model.specs.Stages.{timed}
+use Rattle.model.proofs.Stages.{timed-times}
+use Rattle.windows.specs.Stage.{Setting, statesIn}
+use Rattle.sheet.specs.Stages.{kernels}
+use Rattle.sheet.specs.Submission.{Lists, submissionOf, valuesIn, observationsIn}
+use Rattle.sheet.proofs.Grown.{states-keys, values-keys, observed-times}
+
+-- ---- the last entry of a list is that of its keys or times
+
+end-map : {A B : Type 0} (moment : B → Float) (g : A → B) (xs : List A) → end moment (map g xs) ≡ end (λ (x : A). moment (g x)) xs
+unfolding end
+end-map moment g [] = refl
+end-map moment g (x ∷ []) = refl
+end-map moment g (x ∷ y ∷ xs) = end-map moment g (y ∷ xs)
+
+end-is : {A B : Type 0} (moment : B → Float) (g : A → B) (xs : List A) (ys : List B) → map g xs ≡ ys → end moment ys ≡ end (λ (x : A). moment (g x)) xs
+end-is moment g xs ys e = ap (end moment) (sym e) ∙ end-map moment g xs
+
+-- ---- the columns of kept epochs
+
+samples-are : (es : List Epoch) → samplesOf (map time es) (map residual es) ≡ map (λ (e : Epoch). (time e, residual e)) es
+samples-are [] = refl
+samples-are (e ∷ es) = ap (λ (l : List Sample). (time e, residual e) ∷ l) (samples-are es)
+
+module _ (S : Setting) (l : Lists) where
+  abbrev es : List Epoch
+  es = kept (stagesOf (kernels S)) (submissionOf S l)
+
+  pub detrended-is : removedOf (l .nodes) (map time es) (map residual es) ≡ detrended (stagesOf (kernels S)) (submissionOf S l)
+  detrended-is =
+      removed-split (l .nodes) (map time es) (map residual es) (length-map es time ∙ sym (length-map es residual))
+      ∙ ap (detrend revolvedOf (l .nodes)) (samples-are es)
+
+  pub passed-is : bandPass (map time es) (removedOf (l .nodes) (map time es) (map residual es)) ≡ passedValues (stagesOf (kernels S)) (submissionOf S l)
+  passed-is = ap (bandPass (map time es)) detrended-is
+
+  -- ---- the ends
+
+  pub ends-are : endsOf (l .keysC) (l .keysD) (l .accKeysC) (l .accKeysD) (l .fieldTimes) (l .times) ≡ submissionEnds (stagesOf (kernels S)) (submissionOf S l)
+  ends-are = λ i. record {
+    statesC = end-is secondTime keyOf (statesIn (l .keysC) (l .statesC)) (l .keysC) (states-keys (l .keysC) (l .statesC)) i;
+    statesD = end-is secondTime keyOf (statesIn (l .keysD) (l .statesD)) (l .keysD) (states-keys (l .keysD) (l .statesD)) i;
+    accC = end-is secondTime keyOf (valuesIn (l .accKeysC) (l .accC)) (l .accKeysC) (values-keys (l .accKeysC) (l .accC)) i;
+    accD = end-is secondTime keyOf (valuesIn (l .accKeysD) (l .accD)) (l .accKeysD) (values-keys (l .accKeysD) (l .accD)) i;
+    fields = end-is (λ (t : Float). t) timeOf (timed (S .degree) (l .fieldTimes) (l .added)) (l .fieldTimes) (timed-times (S .degree) (l .fieldTimes) (l .added)) i;
+    obs = end-is (λ (t : Float). t) obsTime (observationsIn (l .times) (l .values) (l .good)) (l .times) (observed-times (l .times) (l .values) (l .good)) i;
+  }
