@@ -105,9 +105,9 @@ final-sheet S l l' outputs outputs' scratch scratch' k f k' f' h h' g =
     let e = final-entries S l l' p p' g in
     record {
       same-entries =
-      (λ i. map (take (a .final i)) (a .columns i))
-      ∙ (λ i. e .same-times i ∷ e .same-raws i ∷ e .same-detrended i ∷ e .same-passed i ∷ [])
-      ∙ (λ i. map (take (sym (a .final) i)) (sym (a' .columns) i));
+          (λ i. map (take (a .final i)) (a .columns i))
+          ∙ (λ i. e .same-times i ∷ e .same-raws i ∷ e .same-detrended i ∷ e .same-passed i ∷ [])
+          ∙ (λ i. map (take (sym (a .final) i)) (sym (a' .columns) i));
       never-falls = omega (arith, a .final, a' .final, e .count-never-falls);
       first = counts S l outputs scratch k f h;
       second = counts S l' outputs' scratch' k' f' h';

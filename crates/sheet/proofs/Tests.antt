@@ -24,7 +24,7 @@ use Rattle.integrate.proofs.Front.{prepared-length}
 use Rattle.windows.specs.Stage.{Setting}
 use Rattle.windows.specs.Windows.{roomFor, windowsServe}
 use Rattle.sheet.specs.Submission.{Lists, Passed}
-use Rattle.sheet.specs.Calls.{countsAllowed, columnsFit, lengthsAgree, numbersFine, listsRise, sheetRefusal}
+use Rattle.sheet.specs.Calls.{countsAllowed, lengthsAgree, numbersFine, listsRise, refusalOf, placesFit, sheetRefusal}
 use Rattle.sheet.proofs.Orbits.{ModelFits}
 
 -- ---- five tests
@@ -62,7 +62,7 @@ pub record Accepts (S : Setting) (l : Lists) (outputs : List (List Float)) (room
   pub accD : length (l .accD) ≡ length (l .accKeysD)
   pub values : length (l .values) ≡ length (l .times)
   pub good : length (l .good) ≡ length (l .times)
-  pub outputs-fit : all (λ (o : List Float). eqb (length o) (length (l .times))) outputs ≡ true
+  pub outputs-fit : placesFit l outputs ≡ true
   pub scratch : leastScratch (S .degree) (length (l .fieldTimes)) (length (l .times)) + 49200 * (length (l .nodes) - 1) ≤ room
   pub field-times : all isTime (l .fieldTimes) ≡ true
   pub node-times : all isTime (l .nodes) ≡ true
@@ -80,7 +80,7 @@ record Lengths (S : Setting) (l : Lists) (outputs : List (List Float)) (room : �
   pub accD : length (l .accD) ≡ length (l .accKeysD)
   pub values : length (l .values) ≡ length (l .times)
   pub good : length (l .good) ≡ length (l .times)
-  pub outputs-fit : all (λ (o : List Float). eqb (length o) (length (l .times))) outputs ≡ true
+  pub outputs-fit : placesFit l outputs ≡ true
   pub scratch : leastScratch (S .degree) (length (l .fieldTimes)) (length (l .times)) + 49200 * (length (l .nodes) - 1) ≤ room
 
 model-says : (N fields field added a b : ℕ) → modelFits N fields field added a b ≡ true → (field ≡ size N) × (added ≡ fields * size N)
@@ -120,8 +120,8 @@ scratch-says N fields nodes count room h =
     leb-true (leastScratch N fields count + 49200 * (nodes - 1)) room f
 
 module _ (S : Setting) (l : Lists) (outputs : List (List Float)) (room : ℕ) where
-  lengths-say : lengthsAgree S l outputs room ≡ true → Lengths S l outputs room
-  unfolding lengthsAgree columnsFit
+  lengths-say : lengthsAgree S l (placesFit l outputs) room ≡ true → Lengths S l outputs room
+  unfolding lengthsAgree
   lengths-say h =
       let M : ℕ = length (l .times) in
       let a = both-pass
@@ -130,8 +130,8 @@ module _ (S : Setting) (l : Lists) (outputs : List (List Float)) (room : ℕ) wh
       let b = both-pass (modelFits (S .degree) (length (l .fieldTimes)) (length (S .static)) (length (l .added)) (length (S .a)) (length (S .b))) _ (a .0) in
       let m = model-says (S .degree) (length (l .fieldTimes)) (length (S .static)) (length (l .added)) (length (S .a)) (length (S .b)) (b .0) in
       let t = tables-say (length (l .keysC)) (length (l .statesC)) (length (l .keysD)) (length (l .statesD)) (length (l .accKeysC)) (length (l .accC)) (length (l .accKeysD)) (length (l .accD)) (b .1) in
-      let e = both-pass (columnsFit l outputs) _ (a .1) in
-      let f = both-pass (eqb (length (l .values)) M && eqb (length (l .good)) M) (all (λ (o : List Float). eqb (length o) M) outputs) (e .0) in
+      let e = both-pass ((eqb (length (l .values)) M && eqb (length (l .good)) M) && placesFit l outputs) _ (a .1) in
+      let f = both-pass (eqb (length (l .values)) M && eqb (length (l .good)) M) (placesFit l outputs) (e .0) in
       let g = both-pass (eqb (length (l .values)) M) (eqb (length (l .good)) M) (f .0) in
       record {
         static = m .0;
@@ -187,9 +187,9 @@ module _ (S : Setting) (l : Lists) (outputs : List (List Float)) (room : ℕ) wh
       record { field-times = both-pass (all isTime (l .fieldTimes)) (all finite (S .a) && all finite (S .b)) (e .1) .0; node-times = f .0; times = g .0 }
 
   pub accepts : sheetRefusal S l outputs room ≡ 0 → Accepts S l outputs room
-  unfolding sheetRefusal listsRise
+  unfolding refusalOf listsRise
   accepts h =
-      let t = five-pass (degreeFine (S .degree)) (countsAllowed l) (lengthsAgree S l outputs room) (numbersFine S l) (listsRise l) h in
+      let t = five-pass (degreeFine (S .degree)) (countsAllowed l) (lengthsAgree S l (placesFit l outputs) room) (numbersFine S l) (listsRise l) h in
       let k = counts-say (t .counts) in
       let n = lengths-say (t .lengths) in
       let v = values-say (t .values) in

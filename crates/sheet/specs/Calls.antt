@@ -1,8 +1,10 @@
 -- The whole path as a call (document 01, module 8, "Outcomes" and "Bounds"): which refusal, what is published, what is left behind. Assumes nothing.
+use mathlib.Core.Path.{_≡_}
 use Prim.Native.Nat.{ℕ}
 use mathlib.Core.Bool.{Bool, _&&_}
 use mathlib.Core.List.{List, [], _∷_}
 use lib.Dec.{leb, eqb}
+use lib.IntN.{ℤ}
 use lib.Ieee.{Float}
 use lib.Ieee.Scale.{finite}
 use lib.ListN.{length}
@@ -24,16 +26,13 @@ countsAllowed l =
     countsFine (length (l .fieldTimes)) (length (l .keysC)) (length (l .keysD)) (length (l .accKeysC)) (length (l .accKeysD))
     && (leb (length (l .nodes)) 64 && leb (length (l .times)) 100000)
 
--- a value, a byte and a place in each output for each observation
-unfoldable pub columnsFit : Lists → List (List Float) → Bool
-columnsFit l outputs =
-    (eqb (length (l .values)) (length (l .times)) && eqb (length (l .good)) (length (l .times))) && all (λ (o : List Float). eqb (length o) (length (l .times))) outputs
-
-unfoldable pub lengthsAgree : Setting → Lists → List (List Float) → ℕ → Bool
+-- a value and a byte for each observation, and the outputs as long, as `outputs` says
+unfoldable pub lengthsAgree : Setting → Lists → Bool → ℕ → Bool
 lengthsAgree S l outputs room =
     (modelFits (S .degree) (length (l .fieldTimes)) (length (S .static)) (length (l .added)) (length (S .a)) (length (S .b))
     && tablesFit (length (l .keysC)) (length (l .statesC)) (length (l .keysD)) (length (l .statesD)) (length (l .accKeysC)) (length (l .accC)) (length (l .accKeysD)) (length (l .accD)))
-    && (columnsFit l outputs && wholeScratchFits (S .degree) (length (l .fieldTimes)) (length (l .nodes)) (length (l .times)) room)
+    && (((eqb (length (l .values)) (length (l .times)) && eqb (length (l .good)) (length (l .times))) && outputs)
+    && wholeScratchFits (S .degree) (length (l .fieldTimes)) (length (l .nodes)) (length (l .times)) room)
 
 unfoldable pub numbersFine : Setting → Lists → Bool
 numbersFine S l =
@@ -44,8 +43,15 @@ numbersFine S l =
 unfoldable pub listsRise : Lists → Bool
 listsRise l = rise (l .fieldTimes) (l .keysC) (l .keysD) (l .accKeysC) (l .accKeysD) && (rising (l .nodes) && rising (l .times))
 
-unfoldable pub sheetRefusal : Setting → Lists → List (List Float) → ℕ → ℕ
-sheetRefusal S l outputs room = firstOf (degreeFine (S .degree)) (countsAllowed l) (lengthsAgree S l outputs room) (numbersFine S l) (listsRise l)
+unfoldable pub refusalOf : Setting → Lists → Bool → ℕ → ℕ
+refusalOf S l outputs room = firstOf (degreeFine (S .degree)) (countsAllowed l) (lengthsAgree S l outputs room) (numbersFine S l) (listsRise l)
+
+-- a place for each observation in each output
+abbrev pub placesFit : Lists → List (List Float) → Bool
+placesFit l outputs = all (λ (o : List Float). eqb (length o) (length (l .times))) outputs
+
+abbrev pub sheetRefusal : Setting → Lists → List (List Float) → ℕ → ℕ
+sheetRefusal S l outputs room = refusalOf S l (placesFit l outputs) room
 
 -- ---- what is published: for each kept epoch its time, raw residual, detrended residual and passed value, +0.0 after the last
 
@@ -60,6 +66,35 @@ keptCount S l = length (kept (stagesOf (kernels S)) (submissionOf S l))
 
 unfoldable pub finalCount : Setting → Lists → ℕ
 finalCount S l = final (stagesOf (kernels S)) (submissionOf S l)
+
+-- ---- the arguments of the call
+
+abbrev pub setting : ℕ → List Float → List Float → List Float → Setting
+setting N field a b = record { degree = N; static = field; a = a; b = b }
+
+abbrev pub lists : List Float → List Float → List ℤ → List Float → List ℤ → List Float → List ℤ → List Float → List ℤ → List Float → List Float → List Float → List Float → List ℕ → Lists
+lists fieldTimes added keysC statesC keysD statesD accKeysC accC accKeysD accD nodes times values good = record {
+  fieldTimes = fieldTimes;
+  added = added;
+  keysC = keysC;
+  statesC = statesC;
+  keysD = keysD;
+  statesD = statesD;
+  accKeysC = accKeysC;
+  accC = accC;
+  accKeysD = accKeysD;
+  accD = accD;
+  nodes = nodes;
+  times = times;
+  values = values;
+  good = good;
+}
+
+-- ---- what the work leaves: all epochs that are kept, and the columns
+pub record Worked (S : Setting) (l : Lists) (kept : ℕ) (columns : List (List Float)) (s s' : List Float) : Type 0 where
+  pub count : kept ≡ keptCount S l
+  pub columns-are : columns ≡ columnsOf S l
+  pub long : length s' ≡ length s
 
 -- ---- the call; its outputs are the four columns, in this order
 abbrev pub sheetCall : Setting → Lists → List (List Float) → List Float → Left SheetAnswer
