@@ -1,28 +1,28 @@
 -- What `epoch` answers and leaves, in the cases of its code. Assumes nothing.
 use mathlib.Core.Path.{_≡_, refl, sym, ap, _∙_}
-use mathlib.Core.Bool.{Bool, true, false, cond, _&&_}
+use mathlib.Core.Bool.{Bool, true, _&&_}
 use mathlib.Core.Option.{Option, none, some}
 use mathlib.Core.List.{List, []}
-use Prim.Native.Nat.{ℕ, zero, suc, _+_, _*_, _≤_}
+use Prim.Native.Nat.{ℕ, zero, suc, _≤_}
 use native.Mathlib.Omega.{arith}
 use lib.Ieee.{Float}
 use lib.Ieee.Scale.{finite}
 use lib.ListN.{length, replicate}
 use Rattle.laws.specs.Floats.{zero64}
 use Rattle.laws.specs.Checks.{isTime}
-use Rattle.laws.specs.Loops.{cleared}
 use Rattle.slices.specs.Calls.{left}
 use Rattle.slices.proofs.Calls.{cond-passes}
 use Rattle.integrate.specs.Force.{frontSize}
-use Rattle.lent.specs.Lent.{frontSize as frontRoom, kind, degreeFine, countsFine, scratchFits, rise, leastScratch}
-use Rattle.lent.proofs.Passed.{both-pass, degree-passes, Few, counts-pass, Rise, rise-passes, scratch-passes, front-is}
+use Rattle.lent.specs.Lent.{frontSize as frontRoom, degreeFine, scratchFits}
+use Rattle.lent.proofs.Passed.{both-pass, degree-passes, counts-pass, rise-passes, scratch-passes, front-is}
 use Rattle.finality.specs.Sheet.{Observation}
 use Rattle.epochs.specs.declared.Epoch.{Epoch}
 use Rattle.residuals.specs.declared.EpochAnswer.{EpochAnswer}
-use Rattle.residuals.specs.declared.work.Made.{Made}
+use Rattle.sighting.specs.declared.Made.{Made}
+use Rattle.sighting.specs.Work.{madeOf}
 use Rattle.residuals.specs.Inputs.{Inputs, epochOf}
-use Rattle.residuals.specs.Work.{madeOf, Searchable, Ready}
-use Rattle.residuals.specs.Calls.{inputsCounted, inputsFit, inputsFine, inputsRise, firstOf, epochRefusal, epochFinite, refused, answered, told, epochLeft, epochCall}
+use Rattle.residuals.specs.Work.{Ready}
+use Rattle.residuals.specs.Calls.{inputsCounted, inputsFit, inputsFine, inputsRise, firstOf, epochRefusal, refused, answered, told, epochLeft, epochCall}
 
 -- ---- five tests passed
 

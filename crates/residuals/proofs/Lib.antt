@@ -1,6 +1,3 @@
-pub mod Records
-pub mod Stages
-mod Lookups
 mod Making
 mod Answers
 mod Blanks

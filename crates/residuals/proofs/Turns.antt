@@ -2,109 +2,42 @@
 use mathlib.Core.Path.{_≡_, refl, sym, ap, _∙_, subst}
 use mathlib.Core.Bool.{Bool, true, false, _&&_}
 use mathlib.Core.Option.{Option, none, some}
-use mathlib.Core.List.{List, [], _∷_, _++_, map, append-assoc, append-nil}
-use Prim.Native.Nat.{ℕ, zero, suc, _+_, _-_, _≤_, _<_}
-use native.Mathlib.Numerals.{add-one}
+use mathlib.Core.List.{List, [], _∷_, _++_, append-nil}
+use Prim.Native.Nat.{ℕ, _+_, _-_, _≤_, _<_}
 use native.Mathlib.Omega.{arith}
 use lib.Ieee.{Float, nan}
-use lib.ListN.{length, take, getD, set, replicate, length-append, length-map, length-replicate}
-use lib.Seq.{take-suc, take-all, length-take-le, set-append-seam}
+use lib.ListN.{length, getD, replicate, length-append}
 use Rattle.laws.specs.Floats.{zero64}
 use Rattle.laws.specs.Checks.{all}
-use Rattle.laws.specs.Lists.{map-append}
 use Rattle.finality.specs.Sheet.{Observation}
 use Rattle.epochs.specs.declared.Epoch.{Epoch}
-use Rattle.residuals.specs.declared.work.Made.{Made}
+use Rattle.sighting.specs.declared.Made.{Made}
+use Rattle.sighting.specs.Kept.{observation, keep, keptOf}
+use Rattle.sighting.specs.Work.{madeOf}
+use Rattle.sighting.proofs.Kept.{seen as seenAt, kept-more as more-kept, kept-few as few-kept, kept-all as all-kept, set-more, padded-length, replicate-like}
 use Rattle.residuals.specs.declared.filling.Filled.{Filled}
-use Rattle.residuals.specs.Inputs.{Inputs, epochOf, observation, observations, keep, keptOf}
-use Rattle.residuals.specs.Work.{madeOf, Tried}
-use Rattle.residuals.specs.Calls.{Lists, lists, Sightings, padded, listsOf, epochFinite, keptIn}
+use Rattle.residuals.specs.Inputs.{Inputs, epochOf}
+use Rattle.residuals.specs.Work.{Tried}
+use Rattle.residuals.specs.Calls.{Lists, lists, Sightings, listsOf, epochFinite, keptIn}
 use Rattle.residuals.specs.Filling.{keptTo, stored, blank, Long, Added, SoFar, Begun, Done}
 
--- ---- kept of a longer list
-
-keep-append : {A : Type 0} (o : Option A) (xs ys : List A) → keep o (xs ++ ys) ≡ keep o xs ++ ys
-keep-append none xs ys = refl
-keep-append (some x) xs ys = refl
-
-kept-append : {X Y : Type 0} (f : X → Option Y) (xs ys : List X) → keptOf f (xs ++ ys) ≡ keptOf f xs ++ keptOf f ys
-unfolding keptOf
-kept-append f [] ys = refl
-kept-append f (x ∷ xs) ys = ap (keep (f x)) (kept-append f xs ys) ∙ keep-append (f x) (keptOf f xs) (keptOf f ys)
-
-keep-length : {A : Type 0} (o : Option A) (xs : List A) (n : ℕ) → length xs ≤ n → length (keep o xs) ≤ suc n
-keep-length none xs n h = omega arith
-keep-length (some x) xs n h = omega arith
-
-kept-length : {X Y : Type 0} (f : X → Option Y) (xs : List X) → length (keptOf f xs) ≤ length xs
-unfolding keptOf
-kept-length f [] = omega arith
-kept-length f (x ∷ xs) = keep-length (f x) (keptOf f xs) (length xs) (kept-length f xs)
-
--- ---- the observations as one list
-
-observations-length : (ts vs : List Float) (bs : List ℕ) → length vs ≡ length ts → length bs ≡ length ts → length (observations ts vs bs) ≡ length ts
-unfolding observations
-observations-length [] vs bs h k = refl
-observations-length (t ∷ ts) [] bs h k = absurd (omega arith)
-observations-length (t ∷ ts) (v ∷ vs) [] h k = absurd (omega arith)
-observations-length (t ∷ ts) (v ∷ vs) (b ∷ bs) h k = ap suc (observations-length ts vs bs (omega arith) (omega arith))
-
-observations-at : (ts vs : List Float) (bs : List ℕ) (i : ℕ) (d : Observation) → length vs ≡ length ts → length bs ≡ length ts → i < length ts →
-    getD (observations ts vs bs) i d ≡ observation (getD ts i nan) (getD vs i nan) (getD bs i 0)
-unfolding observations
-observations-at [] vs bs i d h k l = absurd (omega arith)
-observations-at (t ∷ ts) [] bs i d h k l = absurd (omega arith)
-observations-at (t ∷ ts) (v ∷ vs) [] i d h k l = absurd (omega arith)
-observations-at (t ∷ ts) (v ∷ vs) (b ∷ bs) zero d h k l = refl
-observations-at (t ∷ ts) (v ∷ vs) (b ∷ bs) (suc i) d h k l = observations-at ts vs bs i d (omega arith) (omega arith) (omega arith)
-
 module _ (inp : Inputs) (obs : Sightings) (hv : length (obs .values) ≡ length (obs .times)) (hg : length (obs .good) ≡ length (obs .times)) where
-  abbrev os : List Observation
-  os = observations (obs .times) (obs .values) (obs .good)
-
   abbrev seen : ℕ → Observation
-  seen i = observation (getD (obs .times) i nan) (getD (obs .values) i nan) (getD (obs .good) i 0)
+  seen i = seenAt (obs .times) (obs .values) (obs .good) i
 
   kept-more : (i : ℕ) → i < length (obs .times) → keptTo inp obs (i + 1) ≡ keptTo inp obs i ++ keep (epochOf inp (seen i)) []
-  unfolding keptTo keptOf
-  kept-more i h =
-      let l : length os ≡ length (obs .times) = observations-length (obs .times) (obs .values) (obs .good) hv hg in
-      let e : take (i + 1) os ≡ take i os ++ (seen i ∷ []) =
-      ap (λ (k : ℕ). take k os) (add-one i) ∙ take-suc os i (seen i) (omega arith)
-      ∙ ap (λ (o : Observation). take i os ++ (o ∷ [])) (observations-at (obs .times) (obs .values) (obs .good) i (seen i) hv hg h) in
-      ap (keptOf (epochOf inp)) e ∙ kept-append (epochOf inp) (take i os) (seen i ∷ [])
+  unfolding keptTo
+  kept-more = more-kept (epochOf inp) (obs .times) (obs .values) (obs .good) hv hg
 
   kept-few : (i : ℕ) → i ≤ length (obs .times) → length (keptTo inp obs i) ≤ i
   unfolding keptTo
-  kept-few i h =
-      let l : length os ≡ length (obs .times) = observations-length (obs .times) (obs .values) (obs .good) hv hg in
-      omega (arith, kept-length (epochOf inp) (take i os), length-take-le i os (omega arith))
+  kept-few = few-kept (epochOf inp) (obs .times) (obs .values) (obs .good) hv hg
 
   pub kept-all : keptTo inp obs (length (obs .times)) ≡ keptIn inp obs
   unfolding keptTo keptIn
-  kept-all =
-      let l : length os ≡ length (obs .times) = observations-length (obs .times) (obs .values) (obs .good) hv hg in
-      ap (keptOf (epochOf inp)) (take-all (length (obs .times)) os (omega arith))
+  kept-all = all-kept (epochOf inp) (obs .times) (obs .values) (obs .good) hv hg
 
 -- ---- lists filled up
-
-padded-set : {A : Type 0} (z v : A) (m : ℕ) (xs : List A) → length xs < m → set (padded z m xs) (length xs) v ≡ padded z m (xs ++ (v ∷ []))
-padded-set {A} z v m xs h =
-    let r : ℕ = m - suc (length xs) in
-    let e : m - length xs ≡ suc r = omega arith in
-    let g : m - length (xs ++ (v ∷ [])) ≡ r = omega (arith, length-append xs (v ∷ [])) in
-    ap (λ (k : ℕ). set (xs ++ replicate k z) (length xs) v) e ∙ set-append-seam xs z (replicate r z) v
-    ∙ sym (ap (λ (k : ℕ). (xs ++ (v ∷ [])) ++ replicate k z) g ∙ append-assoc xs (v ∷ []) (replicate r z))
-
--- one more record's number at the place after the last
-set-more : {A : Type 0} (z : A) (g : Epoch → A) (m : ℕ) (es : List Epoch) (e : Epoch) → length es < m →
-    set (padded z m (map g es)) (length es) (g e) ≡ padded z m (map g (es ++ (e ∷ [])))
-set-more z g m es e h =
-    let l : length (map g es) ≡ length es = length-map es g in
-    ap (λ (k : ℕ). set (padded z m (map g es)) k (g e)) (sym l)
-    ∙ padded-set z (g e) m (map g es) (omega arith)
-    ∙ ap (padded z m) (sym (map-append g es (e ∷ [])))
 
 stored-more : (m : ℕ) (es : List Epoch) (e : Epoch) → length es < m → stored (length es) e (listsOf m es) ≡ listsOf m (es ++ (e ∷ []))
 unfolding listsOf
@@ -114,9 +47,6 @@ stored-more m es e h = λ i. lists
     (set-more (replicate 5 zero64) (λ (e : Epoch). e .terms) m es e h i)
     (set-more (replicate 3 zero64) (λ (e : Epoch). e .mid) m es e h i)
     (set-more (replicate 3 zero64) (λ (e : Epoch). e .vel) m es e h i)
-
-padded-length : {A : Type 0} (z : A) (g : Epoch → A) (m : ℕ) (es : List Epoch) → length es ≤ m → length (padded z m (map g es)) ≡ m
-padded-length z g m es h = length-append (map g es) (replicate (m - length (map g es)) z) ∙ omega (arith, length-map es g, length-replicate (m - length (map g es)) z)
 
 lists-long : (m : ℕ) (es : List Epoch) → length es ≤ m → Long m (listsOf m es)
 unfolding listsOf
@@ -235,9 +165,6 @@ ends inp obs base i f l w hv hg h k s =
       fine = s .fine ∙ ap (all epochFinite) e;
       outputs = s .outputs ∙ ap (listsOf (length (obs .times))) e;
     }
-
-replicate-like : {A : Type 0} (z : A) (n m : ℕ) → n ≡ m → replicate n z ≡ replicate (m - 0) z
-replicate-like z n m e = let g : n ≡ m - 0 = omega arith in ap (λ (k : ℕ). replicate k z) g
 
 pub blank-is : (m : ℕ) (l : Lists) → Long m l → blank l ≡ listsOf m []
 unfolding listsOf

@@ -1,8 +1,8 @@
 -- What the two calls refuse, answer and leave behind (document 01, module 5 and "Outcomes"). Assumes nothing.
-use Prim.Native.Nat.{ℕ, zero, suc, _-_}
+use Prim.Native.Nat.{ℕ, zero, suc}
 use mathlib.Core.Bool.{Bool, true, false, cond, _&&_}
 use mathlib.Core.Option.{Option, none, some}
-use mathlib.Core.List.{List, [], _∷_, _++_, map}
+use mathlib.Core.List.{List, [], _∷_, map}
 use lib.Dec.{leb, eqb}
 use lib.Ieee.{Float}
 use lib.Ieee.Scale.{finite}
@@ -16,12 +16,12 @@ use Rattle.slices.specs.declared.Counted.the-variants.{Counted as Filled, Refus
 use Rattle.finality.specs.Sheet.{Observation}
 use Rattle.lent.specs.Lent.{degreeFine, countsFine, modelFits, tablesFit, scratchFits, modelFine, keyedFine, rise}
 use Rattle.epochs.specs.declared.Epoch.{Epoch}
-use Rattle.residuals.specs.declared.Verdict.{Verdict}
 use Rattle.residuals.specs.declared.Verdict.the-variants.{Kept, NotKept, Refused}
 use Rattle.residuals.specs.declared.EpochAnswer.{EpochAnswer}
-use Rattle.residuals.specs.Inputs.{Keyed, Inputs, epochOf, observations, keptOf}
-use Rattle.residuals.specs.declared.work.Made.{Made}
-use Rattle.residuals.specs.Work.{noEpoch}
+use Rattle.residuals.specs.Inputs.{Inputs, epochOf}
+use Rattle.sighting.specs.declared.Made.{Made}
+use Rattle.sighting.specs.Kept.{Keyed, observations, keptOf, padded}
+use Rattle.sighting.specs.Work.{noEpoch}
 
 -- ---- refusals 1 to 5
 
@@ -123,10 +123,6 @@ residualsRefusal inp obs samples scratch =
     ((inputsFit inp && scratchFits (inp .model .degree) (length (inp .model .times)) (length (obs .times)) scratch) && samples)
     (inputsFine inp && (all isTime (obs .times) && all finite (obs .values)))
     (inputsRise inp && rising (obs .times))
-
--- m places, filled up with z
-abbrev pub padded : {A : Type 0} → A → ℕ → List A → List A
-padded z m xs = xs ++ replicate (m - length xs) z
 
 -- the records' numbers, +0.0 after the last
 unfoldable pub listsOf : ℕ → List Epoch → Lists

@@ -9,10 +9,11 @@ use Rattle.laws.specs.Checks.{all}
 use Rattle.laws.specs.Floats.{zero64}
 use Rattle.laws.specs.Loops.{cleared}
 use Rattle.epochs.specs.declared.Epoch.{Epoch}
-use Rattle.residuals.specs.declared.work.Made.{Made}
+use Rattle.sighting.specs.declared.Made.{Made}
+use Rattle.sighting.specs.Kept.{observations, keptOf}
+use Rattle.sighting.specs.Work.{Usable}
 use Rattle.residuals.specs.declared.filling.Filled.{Filled}
-use Rattle.residuals.specs.Inputs.{Inputs, epochOf, observations, keptOf}
-use Rattle.residuals.specs.Work.{Usable}
+use Rattle.residuals.specs.Inputs.{Inputs, epochOf}
 use Rattle.residuals.specs.Calls.{Lists, Sightings, lists, listsOf, epochFinite, keptIn}
 
 -- +0.0 in each of the arrays

@@ -3,7 +3,8 @@ ghost use mathlib.Core.Path.{_≡_};
 ghost use Prim.Native.Nat.{_+_, _<_};
 ghost use lib.ListN.{length};
 ghost use Rattle.integrate.specs.Force.{model, frontSize};
-ghost use Rattle.residuals.specs.Inputs.{keyed, inputs};
+ghost use Rattle.sighting.specs.Kept.{keyed};
+ghost use Rattle.residuals.specs.Inputs.{inputs};
 ghost use Rattle.residuals.specs.Work.{Searchable, Ready};
 ghost use Rattle.residuals.specs.Calls.{lists, sightings};
 ghost use Rattle.residuals.specs.Filling.{zeros, blank, Long, Added, SoFar, Begun, Done};
@@ -38,7 +39,7 @@ fn clear_vectors(list: &mut [[f64; 3]])
 
 // Stores a record at the next place, where it is kept.
 fn add(
-    made: crate::work::Made,
+    made: sighting::Made,
     filled: Filled,
     outtimes: &mut [f64],
     outresiduals: &mut [f64],
@@ -113,8 +114,8 @@ fn turn(
         caccs,
         dacckeys,
         daccs,
-        crate::work::element(obstimes, i),
-        crate::work::element(obsvalues, i),
+        sighting::element(obstimes, i),
+        sighting::element(obsvalues, i),
         good[i],
         base,
         w,
@@ -247,7 +248,7 @@ pub(crate) fn fill(
 {
     let base = lent::front_size(degree);
     clear_lists(outtimes, outresiduals, outterms, outmids, outvels);
-    crate::work::open(degree, base, w);
+    sighting::open(degree, base, w);
     fill_from(
         degree,
         field,

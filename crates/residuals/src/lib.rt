@@ -1,6 +1,5 @@
 // Module 5 of document 01: range-acceleration residuals of the satellites C and D.
 mod filling;
-pub mod kernel;
 mod work;
 
 ghost use mathlib.Core.Path.{_≡_};
@@ -9,10 +8,10 @@ ghost use mathlib.Core.List.{[]};
 ghost use lib.ListN.{length};
 ghost use Rattle.slices.specs.Calls.{left};
 ghost use Rattle.integrate.specs.Force.{model};
-ghost use Rattle.lent.specs.Lent.{modelFits, tablesFit};
-ghost use Rattle.residuals.specs.Inputs.{keyed, inputs, observation, epochOf};
+ghost use Rattle.sighting.specs.Kept.{keyed, observation};
+ghost use Rattle.residuals.specs.Inputs.{inputs, epochOf};
 ghost use Rattle.residuals.specs.Work.{Ready};
-ghost use Rattle.residuals.specs.Calls.{firstOf, rowsFine, inputsFit, inputsFine, epochRefusal, epochFinite, refused as refusedOf, answered, told, epochCall, samplesFit, residualsRefusal, lists, sightings, listsLeft, residualsCall};
+ghost use Rattle.residuals.specs.Calls.{firstOf, rowsFine, inputsFit, epochRefusal, epochFinite, refused as refusedOf, answered, told, epochCall, samplesFit, residualsRefusal, lists, sightings, listsLeft, residualsCall};
 
 pub enum Verdict {
     Kept,
@@ -283,13 +282,13 @@ fn epoch_finite(e: epochs::Epoch) -> bool
 fn refused(number: u8) -> EpochAnswer
     ensures { λ r. ⌜ r ≡ refusedOf number ⌝ }
 {
-    let nothing = work::no_epoch();
+    let nothing = sighting::no_epoch();
     let epoch = nothing.epoch;
     let verdict = Verdict::Refused(number);
     EpochAnswer { verdict, epoch }
 }
 
-fn judged(made: work::Made) -> EpochAnswer
+fn judged(made: sighting::Made) -> EpochAnswer
     ensures { λ r. ⌜ r ≡ told made ⌝ }
 {
     let epoch = made.epoch;
@@ -300,7 +299,7 @@ fn judged(made: work::Made) -> EpochAnswer
         }
         return refused(10);
     }
-    let nothing = work::no_epoch();
+    let nothing = sighting::no_epoch();
     let zeros = nothing.epoch;
     let verdict = Verdict::NotKept;
     EpochAnswer {
@@ -335,7 +334,7 @@ fn epoch_work(
     ensures { λ r. ⌜ (r ≡ answered (epochOf (inputs (model degree (now (field .entry)) (now (times .entry)) (now (added .entry))) (now (a .entry)) (now (b .entry)) (keyed (now (ckeys .entry)) (now (cstates .entry))) (keyed (now (dkeys .entry)) (now (dstates .entry))) (keyed (now (cacckeys .entry)) (now (caccs .entry))) (keyed (now (dacckeys .entry)) (now (daccs .entry)))) (observation t observed good))) × (length (now (scratch .exit)) ≡ length (now (scratch .entry))) ⌝ }
 {
     let base = lent::front_size(degree);
-    work::open(degree, base, scratch);
+    sighting::open(degree, base, scratch);
     let made = work::try_epoch(
         degree,
         field,

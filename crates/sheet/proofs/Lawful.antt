@@ -6,7 +6,7 @@ use Rattle.finality.proofs.Assembled.{LawfulKernels}
 use Rattle.integrate.specs.declared.kernel.State.{State}
 use Rattle.windows.specs.Stage.{Setting, gravityOf}
 use Rattle.windows.proofs.Lawful.{lawful-fit}
-use Rattle.residuals.proofs.Records.{epoch-time}
+use Rattle.sighting.proofs.Records.{epoch-time}
 use Rattle.detrend.proofs.Parts.{length-revolved}
 use Rattle.filter.proofs.Seam.{pass-length}
 use Rattle.sheet.specs.Stages.{epochStage, kernels}

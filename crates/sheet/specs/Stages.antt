@@ -7,7 +7,7 @@ use Rattle.integrate.specs.declared.kernel.State.{State}
 use Rattle.windows.specs.Stage.{Setting, gravityOf, fitStage}
 use Rattle.epochs.specs.declared.Epoch.{Epoch}
 use Rattle.epochs.specs.Epochs.{time, residual}
-use Rattle.residuals.specs.Epoch.{epochWith}
+use Rattle.sighting.specs.Epoch.{epochWith}
 use Rattle.detrend.specs.Revolutions.{revolvedOf}
 use Rattle.filter.specs.Filter.{pass}
 

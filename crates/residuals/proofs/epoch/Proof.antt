@@ -1,5 +1,6 @@
 use Rattle.integrate.specs.Force.{model}
-use Rattle.residuals.specs.Inputs.{keyed, inputs, observation}
+use Rattle.sighting.specs.Kept.{keyed, observation}
+use Rattle.residuals.specs.Inputs.{inputs}
 use Rattle.residuals.proofs.Answers.{epoch-refused, epoch-ready, epoch-answered}
 use borrow.Author.Needs.{needs}
 use Rattle.residuals.proofs.epoch.Statement.{statement}

@@ -1,7 +1,8 @@
 use mathlib.Core.Path.{_≡_, _∙_}
 use native.Mathlib.Omega.{arith}
 use Rattle.integrate.specs.Force.{model, frontSize}
-use Rattle.residuals.specs.Inputs.{keyed, inputs, observation}
+use Rattle.sighting.specs.Kept.{keyed, observation}
+use Rattle.residuals.specs.Inputs.{inputs}
 use Rattle.residuals.proofs.Answers.{base-is, work-answers}
 use borrow.Author.Needs.{needs}
 use Rattle.residuals.proofs.epoch_work.Statement.{statement}
@@ -11,16 +12,13 @@ front-size-requires : tie.Need-front-size-requires
 front-size-requires c κs = search needs
 
 open-requires : tie.Need-open-requires
-open-requires c κs =
-    let s = c .before .before .before .before .before .before .before .before .before .before .before .before .args in
-    let e : _ ≡ frontSize (s .degree) = base-is (s .degree) _ (c .before .before .before .before .before .before .before .before .before .before .before .before .pre .degree) (c .before .front-size .ensures) in
-    (e, omega (arith, e, c .before .before .before .before .before .before .before .before .before .before .before .before .pre .room))
+open-requires c κs = search needs
 
 try-epoch-requires : tie.Need-try-epoch-requires
 try-epoch-requires c κs =
     let s = c .before .before .before .before .before .before .before .before .before .before .before .before .before .before .before .before .args in
     let e : _ ≡ frontSize (s .degree) = base-is (s .degree) _ (c .before .before .before .before .before .before .before .before .before .before .before .before .before .before .before .before .pre .degree) (c .before .before .before .before .before .front-size .ensures) in
-    (c .before .before .before .before .before .before .before .before .before .before .before .before .before .before .before .before .pre .statesC, c .before .before .before .before .before .before .before .before .before .before .before .before .before .before .before .before .pre .statesD, c .before .before .before .before .before .before .before .before .before .before .before .before .before .before .before .before .pre .accC, c .before .before .before .before .before .before .before .before .before .before .before .before .before .before .before .before .pre .accD, e, omega (arith, e, c .before .before .before .before .before .before .before .before .before .before .before .before .before .before .before .before .pre .room, c .before .before .before .«open» .ensures .long), c .before .before .before .«open» .ensures .usable (s .field .now) (s .times .now) (s .added .now))
+    (c .before .before .before .before .before .before .before .before .before .before .before .before .before .before .before .before .pre .statesC, c .before .before .before .before .before .before .before .before .before .before .before .before .before .before .before .before .pre .statesD, c .before .before .before .before .before .before .before .before .before .before .before .before .before .before .before .before .pre .accC, c .before .before .before .before .before .before .before .before .before .before .before .before .before .before .before .before .pre .accD, omega (arith, e, c .before .before .before .before .before .before .before .before .before .before .before .before .before .before .before .before .pre .room, c .before .before .before .«open» .ensures .only .long), c .before .before .before .«open» .ensures .usable e (omega (arith, e, c .before .before .before .before .before .before .before .before .before .before .before .before .before .before .before .before .pre .room)) (s .field .now) (s .times .now) (s .added .now))
 
 judged-requires : tie.Need-judged-requires
 judged-requires c κs = search needs
@@ -31,7 +29,7 @@ same-length c = search needs
 returns : tie.Need-returns
 returns c =
     let s = c .before .before .before .before .before .before .before .before .before .before .before .before .before .before .before .before .before .before .before .before .args in
-    (work-answers (inputs (model (s .degree) (s .field .now) (s .times .now) (s .added .now)) (s .a .now) (s .b .now) (keyed (s .ckeys .now) (s .cstates .now)) (keyed (s .dkeys .now) (s .dstates .now)) (keyed (s .cacckeys .now) (s .caccs .now)) (keyed (s .dacckeys .now) (s .daccs .now))) (observation (s .t) (s .observed) (s .good)) _ _ (c .before .before .before .try-epoch .ensures .is) (c .judged .ensures), c .before .before .before .try-epoch .ensures .long ∙ c .before .before .before .before .before .before .before .«open» .ensures .long)
+    (work-answers (inputs (model (s .degree) (s .field .now) (s .times .now) (s .added .now)) (s .a .now) (s .b .now) (keyed (s .ckeys .now) (s .cstates .now)) (keyed (s .dkeys .now) (s .dstates .now)) (keyed (s .cacckeys .now) (s .caccs .now)) (keyed (s .dacckeys .now) (s .daccs .now))) (observation (s .t) (s .observed) (s .good)) _ _ (c .before .before .before .try-epoch .ensures .is) (c .judged .ensures), c .before .before .before .try-epoch .ensures .long ∙ c .before .before .before .before .before .before .before .«open» .ensures .only .long)
 
 pub epoch-work-spec : {M : Type 1} → statement M
 epoch-work-spec =

@@ -9,19 +9,12 @@ use borrow.Author.Needs.{needs}
 use Rattle.residuals.proofs.filling.fill.Statement.{statement}
 use Rattle.residuals.proofs.filling.fill.Tie as tie
 
-open-requires : tie.Need-open-requires
-open-requires c κs =
-    let s = c .before .before .before .before .before .before .before .before .before .before .before .before .before .before .before .before .before .before .before .before .before .before .before .before .before .before .before .before .before .before .args in
-    let p = c .before .before .before .before .before .before .before .before .before .before .before .before .before .before .before .before .before .before .before .before .before .before .before .before .before .before .before .before .before .before .pre in
-    let e : _ ≡ frontSize (s .degree) = base-is (s .degree) _ (p .0 .degree) (c .before .before .before .before .before .before .before .before .before .before .before .before .before .before .front-size .ensures) in
-    (e, omega (arith, e, p .0 .room))
-
 fill-from-requires : tie.Need-fill-from-requires
 fill-from-requires c κs =
     let s = c .before .before .before .before .before .before .before .before .before .before .before .before .before .before .before .before .before .before .before .before .before .before .before .before .before .before .before .before .before .before .before .before .before .before .before .before .before .before .before .args in
     let p = c .before .before .before .before .before .before .before .before .before .before .before .before .before .before .before .before .before .before .before .before .before .before .before .before .before .before .before .before .before .before .before .before .before .before .before .before .before .before .before .pre in
     let e : _ ≡ frontSize (s .degree) = base-is (s .degree) _ (p .0 .degree) (c .before .before .before .before .before .before .before .before .before .before .before .before .before .before .before .before .before .before .before .before .before .before .before .front-size .ensures) in
-    (p .0 .statesC, p .0 .statesD, p .0 .accC, p .0 .accD, e, p .1, p .2, record { outputs = c .before .before .before .before .before .before .before .before .before .before .before .before .before .before .before .before .before .clear-lists .ensures ∙ blank-is (length (s .obstimes .now)) (lists (s .outtimes .now) (s .outresiduals .now) (s .outterms .now) (s .outmids .now) (s .outvels .now)) (p .3); room = omega (arith, e, p .0 .room, c .before .before .before .before .before .before .before .before .«open» .ensures .long); usable = c .before .before .before .before .before .before .before .before .«open» .ensures .usable (s .field .now) (s .times .now) (s .added .now) })
+    (p .0 .statesC, p .0 .statesD, p .0 .accC, p .0 .accD, e, p .1, p .2, record { outputs = c .before .before .before .before .before .before .before .before .before .before .before .before .before .before .before .before .before .clear-lists .ensures ∙ blank-is (length (s .obstimes .now)) (lists (s .outtimes .now) (s .outresiduals .now) (s .outterms .now) (s .outmids .now) (s .outvels .now)) (p .3); room = omega (arith, e, p .0 .room, c .before .before .before .before .before .before .before .before .«open» .ensures .only .long); usable = c .before .before .before .before .before .before .before .before .«open» .ensures .usable e (omega (arith, e, p .0 .room)) (s .field .now) (s .times .now) (s .added .now) })
 
 returns : tie.Need-returns
 returns c =
@@ -30,4 +23,4 @@ returns c =
 pub fill-spec : {M : Type 1} → statement M
 fill-spec =
     tie.close
-    (tie.spec (λ c κs. search needs) (λ c κs. search needs) open-requires fill-from-requires (λ c. search needs) (λ c. search needs) (λ c. search needs) (λ c. search needs) (λ c. search needs) (λ c. search needs) returns)
+    (tie.spec (λ c κs. search needs) (λ c κs. search needs) (λ c κs. search needs) fill-from-requires (λ c. search needs) (λ c. search needs) (λ c. search needs) (λ c. search needs) (λ c. search needs) (λ c. search needs) returns)

@@ -1,7 +1,8 @@
 use mathlib.Core.Path.{refl}
 use lib.ListN.{getD}
 use Rattle.integrate.specs.Force.{model}
-use Rattle.residuals.specs.Inputs.{keyed, inputs}
+use Rattle.sighting.specs.Kept.{keyed}
+use Rattle.residuals.specs.Inputs.{inputs}
 use Rattle.residuals.specs.Calls.{lists, sightings}
 use Rattle.residuals.proofs.Turns.{room-left, turned-at}
 use borrow.Author.Needs.{needs}
@@ -11,7 +12,7 @@ use Rattle.residuals.proofs.filling.turn.Tie as tie
 try-epoch-requires : tie.Need-try-epoch-requires
 try-epoch-requires c κs =
     let p = c .before .before .before .before .before .before .before .before .before .before .before .before .before .before .before .before .before .before .before .pre in
-    (p .0, p .1, p .2, p .3, p .4, p .8 .room, p .8 .usable)
+    (p .0, p .1, p .2, p .3, p .8 .room, p .8 .usable)
 
 add-requires : tie.Need-add-requires
 add-requires c κs =

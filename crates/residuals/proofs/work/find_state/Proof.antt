@@ -2,14 +2,13 @@ use mathlib.Core.Path.{_≡_, sym, ap, _∙_}
 use mathlib.Core.Bool.{true}
 use Prim.Native.Nat.{ℕ}
 use native.Mathlib.Omega.{arith}
-use lib.Ieee.{Float}
 use mir.Syntax.{w64}
 use mir.Val.{toZ, ofZ}
 use mir.ValLaws.{toZ-ofZ}
 use Rattle.slices.specs.Slices.{lookup}
 use Rattle.slices.specs.declared.Found.the-variants.{At, Nothing}
 use Rattle.integrate.specs.declared.kernel.State.{State}
-use Rattle.residuals.proofs.Lookups.{found-below, state-found, state-missing}
+use Rattle.sighting.proofs.Lookups.{found-below, state-found, state-missing}
 use borrow.Author.Needs.{needs}
 use Rattle.residuals.proofs.work.find_state.Statement.{statement}
 use Rattle.residuals.proofs.work.find_state.Tie as tie

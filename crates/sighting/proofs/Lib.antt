@@ -1,0 +1,5 @@
+pub mod Records
+pub mod Stages
+pub mod Lookups
+pub mod Kept
+pub mod Making
