@@ -1,0 +1,3 @@
+mod Looks
+mod Turns
+mod Serving
