@@ -1,3 +1,3 @@
 mod Looks
 mod Turns
-mod Serving
+pub mod Serving
