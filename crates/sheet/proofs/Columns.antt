@@ -1,6 +1,7 @@
 -- The detrended and the passed column, and the ends of the lists that the horizon looks at, from the code's lists to the submission's. Assumes nothing.
 use mathlib.Core.Path.{_≡_, refl, sym, ap, _∙_}
-use mathlib.Core.Option.{Option}
+use mathlib.Core.Option.{Option, none, some}
+use Prim.Native.Nat.{ℕ}
 use mathlib.Core.List.{List, [], _∷_, map}
 use lib.IntN.{ℤ}
 use lib.Ieee.{Float}
@@ -9,14 +10,15 @@ use Rattle.laws.specs.Times.{end, secondTime}
 use Rattle.finality.specs.Tables.{Table, keyOf, rowTime}
 use Rattle.finality.specs.Stages.{timeOf}
 use Rattle.finality.specs.Kernels.{stagesOf}
-use Rattle.finality.specs.Sheet.{Ends, obsTime, kept, times, raws, detrended, passedValues, sampleOf, endsOf as submissionEnds}
+use Rattle.finality.specs.Sheet.{Ends, obsTime, kept, times, raws, detrended, passedValues, sampleOf, countTo, endsOf as submissionEnds}
 use Rattle.finality.specs.Detrending.{Sample, detrend}
 use Rattle.epochs.specs.declared.Epoch.{Epoch}
 use Rattle.epochs.specs.Epochs.{time, residual}
 use Rattle.detrend.specs.Revolutions.{revolvedOf, removedOf}
 use Rattle.detrend.proofs.Split.{samplesOf, removed-split}
 use Rattle.filter.specs.Filter.{pass, bandPass}
-use Rattle.horizon.specs.Horizon.{endsOf}
+use Rattle.horizon.specs.Horizon.{endsOf, horizonAnswer, horizonAt}
+use Rattle.horizon.specs.declared.kernel.HorizonNode.{HorizonNode}
 use Rattle.model.specs.Stages.{timed}
 use Rattle.model.proofs.Stages.{timed-times}
 use Rattle.windows.specs.Stage.{Setting, statesIn}
@@ -64,3 +66,12 @@ module _ (S : Setting) (l : Lists) where
     fields = end-is (λ (t : Float). t) timeOf (timed (S .degree) (l .fieldTimes) (l .added)) (l .fieldTimes) (timed-times (S .degree) (l .fieldTimes) (l .added)) i;
     obs = end-is (λ (t : Float). t) obsTime (observationsIn (l .times) (l .values) (l .good)) (l .times) (observed-times (l .times) (l .values) (l .good)) i;
   }
+
+-- ---- the horizon's answer and back
+
+back : (o : Option Float) → horizonAt (horizonAnswer o) ≡ o
+back none = refl
+back (some z) = refl
+
+pub final-of : (o : Option Float) (h : HorizonNode) (ts : List Float) (r : ℕ) → h ≡ horizonAnswer o → r ≡ countTo (horizonAt h) ts → r ≡ countTo o ts
+final-of o h ts r e f = f ∙ ap (λ (n : HorizonNode). countTo (horizonAt n) ts) e ∙ ap (λ (x : Option Float). countTo x ts) (back o)

@@ -22,7 +22,7 @@ use Rattle.sheet.specs.Submission.{Lists, submissionOf, ListsGrow}
 use Rattle.sheet.specs.Calls.{sheetRefusal, columnsOf, keptCount, finalCount, sheetCall}
 use Rattle.sheet.specs.declared.SheetAnswer.{SheetAnswer}
 use Rattle.sheet.specs.declared.SheetAnswer.the-variants.{Accepted, Refused}
-use Rattle.sheet.proofs.Tests.{accepts, passed}
+use Rattle.sheet.proofs.Accepted.{accepts, passed}
 use Rattle.sheet.proofs.Final.{final-entries, counted, none-counted}
 
 -- ---- an accepted call

@@ -21,10 +21,9 @@ use Rattle.sheet.specs.declared.SheetAnswer.the-variants.{Accepted, Refu
 
 -- ---- which refusal: 2, 3, 4 and 5 of all lists
 
-unfoldable pub countsAllowed : Lists → Bool
-countsAllowed l =
-    countsFine (length (l .fieldTimes)) (length (l .keysC)) (length (l .keysD)) (length (l .accKeysC)) (length (l .accKeysD))
-    && (leb (length (l .nodes)) 64 && leb (length (l .times)) 100000)
+-- of fields, of states and accelerometer values of C and D, of nodes, of observations
+unfoldable pub countsAllowed : ℕ → ℕ → ℕ → ℕ → ℕ → ℕ → ℕ → Bool
+countsAllowed fields c d accC accD nodes observations = countsFine fields c d accC accD && (leb nodes 64 && leb observations 100000)
 
 -- a value and a byte for each observation, and the outputs as long, as `outputs` says
 unfoldable pub lengthsAgree : Setting → Lists → Bool → ℕ → Bool
@@ -44,7 +43,10 @@ unfoldable pub listsRise : Lists → Bool
 listsRise l = rise (l .fieldTimes) (l .keysC) (l .keysD) (l .accKeysC) (l .accKeysD) && (rising (l .nodes) && rising (l .times))
 
 unfoldable pub refusalOf : Setting → Lists → Bool → ℕ → ℕ
-refusalOf S l outputs room = firstOf (degreeFine (S .degree)) (countsAllowed l) (lengthsAgree S l outputs room) (numbersFine S l) (listsRise l)
+refusalOf S l outputs room =
+    firstOf (degreeFine (S .degree))
+    (countsAllowed (length (l .fieldTimes)) (length (l .keysC)) (length (l .keysD)) (length (l .accKeysC)) (length (l .accKeysD)) (length (l .nodes)) (length (l .times)))
+    (lengthsAgree S l outputs room) (numbersFine S l) (listsRise l)
 
 -- a place for each observation in each output
 abbrev pub placesFit : Lists → List (List Float) → Bool

@@ -153,7 +153,7 @@ module _ (S : Setting) (l : Lists) (outputs : List (List Float)) (room : ℕ) wh
     pub nodes : length (l .nodes) ≤ 64
     pub observations : length (l .times) ≤ 100000
 
-  counts-say : countsAllowed l ≡ true → Counts
+  counts-say : countsAllowed (length (l .fieldTimes)) (length (l .keysC)) (length (l .keysD)) (length (l .accKeysC)) (length (l .accKeysD)) (length (l .nodes)) (length (l .times)) ≡ true → Counts
   unfolding countsAllowed countsFine
   counts-say h =
       let f : ℕ = length (l .fieldTimes) in
@@ -189,7 +189,7 @@ module _ (S : Setting) (l : Lists) (outputs : List (List Float)) (room : ℕ) wh
   pub accepts : sheetRefusal S l outputs room ≡ 0 → Accepts S l outputs room
   unfolding refusalOf listsRise
   accepts h =
-      let t = five-pass (degreeFine (S .degree)) (countsAllowed l) (lengthsAgree S l (placesFit l outputs) room) (numbersFine S l) (listsRise l) h in
+      let t = five-pass (degreeFine (S .degree)) _ (lengthsAgree S l (placesFit l outputs) room) (numbersFine S l) (listsRise l) h in
       let k = counts-say (t .counts) in
       let n = lengths-say (t .lengths) in
       let v = values-say (t .values) in

@@ -1,0 +1,251 @@
+// The tests 1 to 5 of the whole path, over all its lists.
+ghost use mathlib.Core.Path.{_≡_};
+ghost use mathlib.Core.List.{[], _∷_};
+ghost use lib.Dec.{eqb};
+ghost use Rattle.laws.specs.Checks.{all};
+ghost use Rattle.sheet.specs.Calls.{countsAllowed, lengthsAgree, numbersFine, listsRise, refusalOf, setting, lists};
+
+// Counts of fields, states, accelerometer values, nodes and observations.
+fn counts_allowed(
+    fields: usize,
+    c: usize,
+    d: usize,
+    cacc: usize,
+    dacc: usize,
+    nodes: usize,
+    observations: usize,
+) -> bool
+    ensures { λ r. ⌜ r ≡ countsAllowed fields c d cacc dacc nodes observations ⌝ }
+{
+    slices::both(
+        lent::counts_fine(fields, c, d, cacc, dacc),
+        slices::both(nodes <= 64, observations <= 100000),
+    )
+}
+
+// Four outputs of length m.
+pub(crate) fn outputs_fit(
+    m: usize,
+    times: usize,
+    raws: usize,
+    detrended: usize,
+    passed: usize,
+) -> bool
+    ensures { λ r. ⌜ r ≡ all (λ n. eqb n m) (times ∷ raws ∷ detrended ∷ passed ∷ []) ⌝ }
+{
+    let filtered = slices::both(detrended == m, passed == m);
+    slices::both(times == m, slices::both(raws == m, filtered))
+}
+
+fn lengths_agree(
+    degree: usize,
+    field: &[f64],
+    a: &[f64],
+    b: &[f64],
+    times: &[f64],
+    added: &[f64],
+    ckeys: &[i64],
+    cstates: &[f64],
+    dkeys: &[i64],
+    dstates: &[f64],
+    cacckeys: &[i64],
+    caccs: &[f64],
+    dacckeys: &[i64],
+    daccs: &[f64],
+    nodes: &[f64],
+    obstimes: &[f64],
+    obsvalues: &[f64],
+    good: &[u8],
+    outputs: bool,
+    room: usize,
+) -> bool
+    ensures { λ r. ⌜ r ≡ lengthsAgree (setting degree (now (field .entry)) (now (a .entry)) (now (b .entry))) (lists (now (times .entry)) (now (added .entry)) (now (ckeys .entry)) (now (cstates .entry)) (now (dkeys .entry)) (now (dstates .entry)) (now (cacckeys .entry)) (now (caccs .entry)) (now (dacckeys .entry)) (now (daccs .entry)) (now (nodes .entry)) (now (obstimes .entry)) (now (obsvalues .entry)) (now (good .entry))) outputs room ⌝ }
+{
+    let lists = lent::lists_fit(
+        degree,
+        field,
+        a,
+        b,
+        times,
+        added,
+        ckeys,
+        cstates,
+        dkeys,
+        dstates,
+        cacckeys,
+        caccs,
+        dacckeys,
+        daccs,
+    );
+    let m = obstimes.len();
+    let observed = slices::both(obsvalues.len() == m, good.len() == m);
+    let scratch = lent::whole_scratch_fits(degree, times.len(), nodes.len(), m, room);
+    slices::both(
+        lists,
+        slices::both(slices::both(observed, outputs), scratch),
+    )
+}
+
+fn numbers_fine(
+    degree: usize,
+    field: &[f64],
+    a: &[f64],
+    b: &[f64],
+    times: &[f64],
+    added: &[f64],
+    ckeys: &[i64],
+    cstates: &[f64],
+    dkeys: &[i64],
+    dstates: &[f64],
+    cacckeys: &[i64],
+    caccs: &[f64],
+    dacckeys: &[i64],
+    daccs: &[f64],
+    nodes: &[f64],
+    obstimes: &[f64],
+    obsvalues: &[f64],
+    good: &[u8],
+) -> bool
+    ensures { λ r. ⌜ r ≡ numbersFine (setting degree (now (field .entry)) (now (a .entry)) (now (b .entry))) (lists (now (times .entry)) (now (added .entry)) (now (ckeys .entry)) (now (cstates .entry)) (now (dkeys .entry)) (now (dstates .entry)) (now (cacckeys .entry)) (now (caccs .entry)) (now (dacckeys .entry)) (now (daccs .entry)) (now (nodes .entry)) (now (obstimes .entry)) (now (obsvalues .entry)) (now (good .entry))) ⌝ }
+{
+    let rows = lent::rows_fine(
+        ckeys,
+        cstates,
+        dkeys,
+        dstates,
+        cacckeys,
+        caccs,
+        dacckeys,
+        daccs,
+    );
+    let lists = slices::both(lent::model_fine(field, a, b, times, added), rows);
+    let observed = slices::both(slices::all_times(obstimes), slices::all_finite(obsvalues));
+    slices::both(lists, slices::both(slices::all_times(nodes), observed))
+}
+
+fn lists_rise(
+    degree: usize,
+    field: &[f64],
+    a: &[f64],
+    b: &[f64],
+    times: &[f64],
+    added: &[f64],
+    ckeys: &[i64],
+    cstates: &[f64],
+    dkeys: &[i64],
+    dstates: &[f64],
+    cacckeys: &[i64],
+    caccs: &[f64],
+    dacckeys: &[i64],
+    daccs: &[f64],
+    nodes: &[f64],
+    obstimes: &[f64],
+    obsvalues: &[f64],
+    good: &[u8],
+) -> bool
+    ensures { λ r. ⌜ r ≡ listsRise (lists (now (times .entry)) (now (added .entry)) (now (ckeys .entry)) (now (cstates .entry)) (now (dkeys .entry)) (now (dstates .entry)) (now (cacckeys .entry)) (now (caccs .entry)) (now (dacckeys .entry)) (now (daccs .entry)) (now (nodes .entry)) (now (obstimes .entry)) (now (obsvalues .entry)) (now (good .entry))) ⌝ }
+{
+    slices::both(
+        lent::rise(times, ckeys, dkeys, cacckeys, dacckeys),
+        slices::both(slices::rising(nodes), slices::rising(obstimes)),
+    )
+}
+
+// The number of the first of the tests 1 to 5 that fails; `outputs` is whether the outputs are as long as they must be.
+pub(crate) fn refusal(
+    degree: usize,
+    field: &[f64],
+    a: &[f64],
+    b: &[f64],
+    times: &[f64],
+    added: &[f64],
+    ckeys: &[i64],
+    cstates: &[f64],
+    dkeys: &[i64],
+    dstates: &[f64],
+    cacckeys: &[i64],
+    caccs: &[f64],
+    dacckeys: &[i64],
+    daccs: &[f64],
+    nodes: &[f64],
+    obstimes: &[f64],
+    obsvalues: &[f64],
+    good: &[u8],
+    outputs: bool,
+    room: usize,
+) -> u8
+    ensures { λ r. ⌜ r ≡ refusalOf (setting degree (now (field .entry)) (now (a .entry)) (now (b .entry))) (lists (now (times .entry)) (now (added .entry)) (now (ckeys .entry)) (now (cstates .entry)) (now (dkeys .entry)) (now (dstates .entry)) (now (cacckeys .entry)) (now (caccs .entry)) (now (dacckeys .entry)) (now (daccs .entry)) (now (nodes .entry)) (now (obstimes .entry)) (now (obsvalues .entry)) (now (good .entry))) outputs room ⌝ }
+{
+    let counts = counts_allowed(
+        times.len(),
+        ckeys.len(),
+        dkeys.len(),
+        cacckeys.len(),
+        dacckeys.len(),
+        nodes.len(),
+        obstimes.len(),
+    );
+    let lengths = lengths_agree(
+        degree,
+        field,
+        a,
+        b,
+        times,
+        added,
+        ckeys,
+        cstates,
+        dkeys,
+        dstates,
+        cacckeys,
+        caccs,
+        dacckeys,
+        daccs,
+        nodes,
+        obstimes,
+        obsvalues,
+        good,
+        outputs,
+        room,
+    );
+    let values = numbers_fine(
+        degree,
+        field,
+        a,
+        b,
+        times,
+        added,
+        ckeys,
+        cstates,
+        dkeys,
+        dstates,
+        cacckeys,
+        caccs,
+        dacckeys,
+        daccs,
+        nodes,
+        obstimes,
+        obsvalues,
+        good,
+    );
+    let order = lists_rise(
+        degree,
+        field,
+        a,
+        b,
+        times,
+        added,
+        ckeys,
+        cstates,
+        dkeys,
+        dstates,
+        cacckeys,
+        caccs,
+        dacckeys,
+        daccs,
+        nodes,
+        obstimes,
+        obsvalues,
+        good,
+    );
+    lent::first_of(lent::degree_fine(degree), counts, lengths, values, order)
+}
