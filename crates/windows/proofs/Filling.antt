@@ -192,7 +192,7 @@ filled-more window nodes w s s₁ s₂ base first l f g = record {
 
 -- ---- the guard
 
-ends-at : (nodes : List Float) → T (all isTime nodes) → T (rising nodes) → (w : ℕ) → w + 1 < length nodes → Ends (getD nodes w nan) (getD nodes (w + 1) nan)
+pub ends-at : (nodes : List Float) → T (all isTime nodes) → T (rising nodes) → (w : ℕ) → w + 1 < length nodes → Ends (getD nodes w nan) (getD nodes (w + 1) nan)
 ends-at [] t r w h = absurd (omega arith)
 ends-at (a ∷ []) t r w h = absurd (omega arith)
 ends-at (a ∷ b ∷ ns) t r zero h = record {

@@ -8,7 +8,7 @@ use lib.Dec.{T, leb, eqb}
 use lib.IntN.{ℤ}
 use lib.Ieee.{Float, nan, lt}
 use lib.ListN.{length, getD}
-use Rattle.laws.specs.Floats.{_⊖_}
+use Rattle.laws.specs.Floats.{zero64, _⊖_}
 use Rattle.laws.specs.Checks.{all, isTime, rising, risingSeconds}
 use Rattle.laws.specs.Times.{Time}
 use Rattle.finality.specs.Tables.{Table}
@@ -16,6 +16,7 @@ use Rattle.finality.specs.Arcs.{longest, start, steps, arcOf, inside}
 use Rattle.vectors.specs.declared.Vector.{Vector}
 use Rattle.integrate.specs.Force.{frontSize}
 use Rattle.integrate.specs.declared.kernel.State.{State}
+use Rattle.integrate.specs.declared.kernel.Arc.{Arc as ArcStruct}
 use Rattle.fit.specs.Fit.{fitOf, orbitOf}
 use Rattle.fit.specs.declared.kernel.Held.{Held}
 use Rattle.windows.specs.Stage.{arcStruct, statesOf}
@@ -27,6 +28,14 @@ windowBy covered full look a b =
     cond (lt (b ⊖ a) longest)
     (inside (start a) a b 0 (statesOf (fitOf covered full look (arcStruct (arcOf a b))) (orbitOf full look (arcStruct (arcOf a b))) (steps a b)))
     []
+
+-- two times, the first before the second, less than 7,000 s apart
+unfoldable pub windowFine : Float → Float → Bool
+windowFine a b = (isTime a && isTime b) && (lt a b && lt (b ⊖ a) longest)
+
+-- the arc of such a window; else one of no steps
+unfoldable pub arcBetween : Float → Float → ArcStruct
+arcBetween a b = cond (windowFine a b) (arcStruct (arcOf a b)) (record { t0 = zero64; steps = 0; node = zero64; period = zero64 })
 
 -- the slot of window w of a satellite, 0 or 1; 24,600 numbers
 abbrev pub slotAt : ℕ → ℕ → ℕ → ℕ

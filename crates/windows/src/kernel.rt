@@ -18,7 +18,7 @@ ghost use Rattle.integrate.specs.Room.{Run, stateIn};
 ghost use Rattle.integrate.specs.Steps.{timeOf};
 ghost use Rattle.integrate.specs.Work.{Placed, Stored};
 ghost use Rattle.fit.specs.Fit.{stateFor};
-ghost use Rattle.windows.specs.Windows.{windowBy, roomFor, windowsServe, Leaves, Windowed, Ends, Filled, WindowsFit};
+ghost use Rattle.windows.specs.Windows.{windowBy, windowFine, arcBetween, roomFor, windowsServe, Leaves, Windowed, Ends, Filled, WindowsFit};
 ghost use Rattle.windows.specs.Slots.{lowest, highest, within, Entered, Keeping, Keeps};
 
 // The least whole number that is not below x.
@@ -63,8 +63,38 @@ fn steps(a: f64, b: f64) -> usize
     ceil((b + 1800.0 - start(a)) / 2.0) as usize
 }
 
+// Whether two nodes have a window between them that is shorter than 7,000 s.
+fn window_fine(from: f64, to: f64) -> bool
+    ensures { λ r. ⌜ r ≡ windowFine from to ⌝ }
+{
+    slices::both(
+        slices::both(slices::is_time(from), slices::is_time(to)),
+        slices::both(from < to, to - from < 7000.0),
+    )
+}
+
+// The arc of such a window; of other nodes an arc of no steps.
+pub fn arc_between(from: f64, to: f64) -> integrate::kernel::Arc
+    ensures { λ r. ⌜ r ≡ arcBetween from to ⌝ }
+{
+    if window_fine(from, to) {
+        return integrate::kernel::Arc {
+            t0: start(from),
+            steps: steps(from, to),
+            node: from,
+            period: to - from,
+        };
+    }
+    integrate::kernel::Arc {
+        t0: 0.0,
+        steps: 0,
+        node: 0.0,
+        period: 0.0,
+    }
+}
+
 // Whether a time lies in a window.
-fn within(from: f64, to: f64, t: f64) -> bool
+pub fn within(from: f64, to: f64, t: f64) -> bool
     ensures { λ r. ⌜ r ≡ within from to t ⌝ }
 {
     from <= t && t < to
