@@ -1,0 +1,5 @@
+pub mod Guards
+pub mod Keeping
+pub mod Windows
+pub mod Meaning
+pub mod Answers

@@ -1,0 +1,3 @@
+pub mod Orbits
+pub mod Calls
+pub mod Work
