@@ -1,5 +1,5 @@
-// Least squares and single fits of module 4. Answers by the source's `ols` and `fit_orbit`; refusals by document 01's table. Outputs stand at 3.0 and scratch at
-// 7.0 before a call: all unchanged after refusals 1 to 5, +0.0 after 6 to 10; scratch is +0.0 after a fit as well.
+// Least squares, single fits and fitted windows of module 4. Answers by the source's `ols`, `fit_orbit` and `fitted_orbits`; refusals by document 01's table.
+// Outputs stand at 3.0, keys at 3, and scratch at 7.0 before a call: all unchanged after refusals 1 to 5, +0.0 after 6 to 10; scratch is +0.0 after a fit as well.
 use crate::generate::{gauss, random_field, rk1, uni};
 use crate::fieldlists::{coefficients, finite, places};
 use crate::list::{List, step};
@@ -10,6 +10,7 @@ use std::f64::consts::PI;
 
 const OLS: u64 = 0;
 const FIT: u64 = 1;
+const ORBITS: u64 = 2;
 
 // A slice: its length, how many numbers are given, and these; the program's others are +0.0.
 fn ask_words(list: &mut List, words: Vec<u64>) {
@@ -417,10 +418,234 @@ fn refusals(list: &mut List, r: &mut Rng) {
     with(&asked(r, 2, 9000.0, 130, 10, 0.01), |a| a.scratch += 99).call(list);
 }
 
+// A list of words: whether all are 0 or as they stood, their sum, the sum of its values after each word, and every so many words.
+fn tell_sums(list: &mut List, words: &[u64], stood: u64, between: usize) {
+    let all = |w: u64| words.iter().all(|v| *v == w);
+    list.tell(if all(0) { 0 } else if all(stood) { 1 } else { 2 });
+    let (mut sum, mut sums) = (0u64, 0u64);
+    for w in words {
+        sum = sum.wrapping_add(*w);
+        sums = sums.wrapping_add(sum);
+    }
+    list.tell(sum);
+    list.tell(sums);
+    words.iter().step_by(between + 1).for_each(|w| list.tell(*w));
+}
+
+// The arc of `of` plays no part.
+#[derive(Clone)]
+struct Windows {
+    of: Asked,
+    nodes: Vec<f64>,
+    keys: usize,
+    states: usize,
+    rms: usize,
+    scratch: usize,
+}
+
+impl Windows {
+    fn refusal(&self) -> u8 {
+        let of = with(&self.of, |a| { a.arc = Arc { t0: 0.0, steps: 0, node: 0.0, period: 1.0 }; a.out = 6; a.scratch = usize::MAX });
+        let first = of.refusal();
+        if first == 1 { return 1; }
+        if first == 2 || self.nodes.len() > 64 { return 2; }
+        let pairs = self.nodes.len().saturating_sub(1);
+        let l = places(of.degree);
+        let least = 2 * of.times.len() * l + 8 * l + 150_000 + 49_200 * pairs;
+        if first == 3 || self.keys != 3500 * pairs || self.states != 21_000 * pairs || self.rms != pairs || self.scratch < least { return 3; }
+        if first == 4 || !self.nodes.iter().all(|t| (0.0..=TOP).contains(t)) { return 4; }
+        if first == 5 || !self.nodes.windows(2).all(|w| w[0] < w[1]) { return 5; }
+        0
+    }
+
+    fn answer(&self) -> std::result::Result<(Vec<i64>, Vec<f64>, Vec<f64>), u8> {
+        let refused = self.refusal();
+        if refused != 0 { return Err(refused); }
+        let known: States = self.of.keys.iter().zip(self.of.states.chunks(6)).map(|(k, s)| (*k, ([s[0], s[1], s[2]], [s[3], s[4], s[5]]))).collect();
+        let (fitted, rms) = fitted_orbits(&self.of.model(), &known, &self.nodes);
+        let mut keys: Vec<i64> = fitted.keys().copied().collect();
+        keys.sort();
+        let states: Vec<f64> = keys.iter().flat_map(|k| [fitted[k].0, fitted[k].1].concat()).collect();
+        if finite(&states) && finite(&rms) { Ok((keys, states, rms)) } else { Err(10) }
+    }
+
+    fn call(&self, list: &mut List) {
+        let between = [self.keys / 50, self.states / 50];
+        list.call(ORBITS);
+        list.ask(self.of.degree as u64);
+        for part in [&self.of.field, &self.of.a, &self.of.b, &self.of.times, &self.of.added] {
+            ask_slice(list, part);
+        }
+        ask_words(list, self.of.keys.iter().map(|k| *k as u64).collect());
+        ask_slice(list, &self.of.states);
+        ask_slice(list, &self.nodes);
+        for word in [self.keys, self.states, self.rms, self.scratch, between[0], between[1]] {
+            list.ask(word as u64);
+        }
+        let (number, (mut keys, mut states, mut rms)) = match self.answer() {
+            Ok(lists) => {
+                list.tell(0);
+                list.tell(lists.0.len() as u64);
+                list.tell(lists.2.len() as u64);
+                (0, lists)
+            }
+            Err(n) => {
+                list.tell(n as u64);
+                let (key, stands) = if n < 6 { (3, 3.0) } else { (0, 0.0) };
+                (n, (vec![key; self.keys], vec![stands; self.states], vec![stands; self.rms]))
+            }
+        };
+        keys.resize(self.keys, 0);
+        states.resize(self.states, 0.0);
+        rms.resize(self.rms, 0.0);
+        let bits = |v: &[f64]| v.iter().map(|x| x.to_bits()).collect::<Vec<u64>>();
+        tell_sums(list, &keys.iter().map(|k| *k as u64).collect::<Vec<u64>>(), 3, between[0]);
+        tell_sums(list, &bits(&states), 3.0f64.to_bits(), between[1]);
+        tell_sums(list, &bits(&rms), 3.0f64.to_bits(), 0);
+        list.tell(if self.scratch > 0 && (1..6).contains(&number) { 1 } else { 0 });
+    }
+}
+
+// States every 20 s from half an hour before the first node, on an even second, to half an hour after the last.
+fn windows(r: &mut Rng, n: usize, nodes: &[f64], noise: f64) -> Windows {
+    let (first, last) = (nodes.first().map_or(9000.0, |t| *t), nodes.last().map_or(9000.0, |t| *t));
+    let t0 = 2.0 * ((first - 1800.0) / 2.0).floor();
+    let of = asked(r, n, t0, ((last + 1800.0 - t0.max(0.0)) / 2.0).ceil() as usize, 20, noise);
+    let pairs = nodes.len().saturating_sub(1);
+    Windows { scratch: of.scratch + 49_200 * pairs, of, nodes: nodes.to_vec(), keys: 3500 * pairs, states: 21_000 * pairs, rms: pairs }
+}
+
+fn fitted_windows(list: &mut List, r: &mut Rng) {
+    // one to four windows; nodes with a fraction, each in the even second that its arc's states begin at
+    for (n, count) in [(2, 1), (3, 2), (6, 1), (12, 1), (2, 3), (2, 4), (4, 2)] {
+        let base = 10_000.0 + 2_000.0 * n as f64;
+        let nodes: Vec<f64> = (0..=count).map(|k| base + 120.0 * k as f64 + 1.9 * uni(r)).collect();
+        windows(r, n, &nodes, 0.02).call(list);
+    }
+    windows(r, 2, &[20_000.0, 20_100.0], 0.5).call(list);
+    // a state on a node belongs to the window that begins there
+    windows(r, 2, &[20_000.0, 20_100.0, 20_200.0], 0.02).call(list);
+    windows(r, 2, &[step(20_000.0, 1), step(20_100.0, 1)], 0.02).call(list);
+    windows(r, 2, &[], 0.02).call(list);
+    windows(r, 2, &[12_345.5], 0.02).call(list);
+    // 7,000 s and beside it; the difference rounded to 7,000
+    for (a, b) in [(10_000.0, 17_000.0), (10_000.0, step(17_000.0, -1)), (1800.0 + 0.5f64.powi(42), 8800.0)] {
+        with(&windows(r, 2, &[a, b], 0.02), |w| if b - a >= 7000.0 { w.of.forget(|_| true) }).call(list);
+    }
+    // a long window between two others
+    let long = windows(r, 2, &[10_000.0, 10_120.0, 17_200.0, 17_320.5], 0.02);
+    with(&long, |w| w.of.forget(|i| (195..350).contains(&i))).call(list);
+    // uncovered: before 1800 s, and beyond the last field
+    windows(r, 2, &[1700.0, 1820.0, 1940.25], 0.02).call(list);
+    windows(r, 2, &[0.0, 5.5, 60.0], 0.02).call(list);
+    let three = windows(r, 2, &[10_000.0, 10_120.0, 10_240.0], 0.02);
+    three.call(list);
+    with(&three, |w| w.of.times[2] = 12_000.0).call(list);
+    with(&three, |w| w.of.times[0] = 8_250.0).call(list);
+    with(&three, |w| { w.of.times[0] = 20_000.0; w.of.times[1] = 20_001.0; w.of.times[2] = 20_002.0 }).call(list);
+    // too few states in the first window, in both, no state at a start
+    with(&three, |w| w.of.forget(|i| i < 6)).call(list);
+    with(&three, |w| w.of.forget(|i| i > 60)).call(list);
+    with(&three, |w| w.of.forget(|i| i == 6)).call(list);
+    with(&three, |w| w.of.forget(|i| i == 0)).call(list);
+    with(&three, |w| w.of.forget(|_| true)).call(list);
+    // windows too short for a fit, with and without an even second
+    windows(r, 2, &[20_000.0, 20_040.0, 20_080.0], 0.02).call(list);
+    windows(r, 2, &[10_000.4, 10_001.7], 0.02).call(list);
+    windows(r, 2, &[10_000.25, 10_001.25], 0.02).call(list);
+    windows(r, 2, &[10_000.0, 10_002.0, 10_120.0], 0.02).call(list);
+    windows(r, 2, &[10_000.0, 10_001.0, 10_020.0, 10_140.0], 0.02).call(list);
+    // so short that no angle has a sine, with and without an even second: 10
+    windows(r, 2, &[10_000.0, 10_000.001], 0.02).call(list);
+    windows(r, 2, &[10_001.0, 10_001.001], 0.02).call(list);
+    windows(r, 2, &[10_000.0, 10_120.0, 10_120.001], 0.02).call(list);
+    windows(r, 2, &[10_000.0, 10_000.001, 10_120.0], 0.02).call(list);
+    // numbers that leave the range
+    with(&three, |w| w.of.states[66] = f64::MAX).call(list);
+    with(&three, |w| w.of.states[0] = 1e308).call(list);
+    with(&three, |w| w.of.field[0] = 0.0).call(list);
+    // the end of time
+    windows(r, 2, &[TOP - 2100.0, TOP - 1980.5], 0.02).call(list);
+    with(&windows(r, 2, &[TOP - 2100.0, TOP - 1980.0], 0.02), |w| w.nodes = vec![TOP - 2100.0, TOP]).call(list);
+    with(&windows(r, 2, &[TOP - 2100.0, TOP - 1980.0], 0.02), |w| { w.nodes = vec![TOP - 0.5, TOP]; w.of.forget(|_| true) }).call(list);
+    // more scratch than is needed is cleared as well
+    with(&three, |w| w.scratch += 99).call(list);
+}
+
+fn window_refusals(list: &mut List, r: &mut Rng) {
+    let base = with(&windows(r, 2, &[9000.0, 9001.0, 9002.5], 0.01), |w| w.of.forget(|i| i > 4));
+    let wild = [f64::NAN, f64::INFINITY, f64::NEG_INFINITY];
+    // 1, with others after it
+    for n in [0, 1, 181, usize::MAX] {
+        with(&base, |w| { w.of.degree = n; w.of.times.clear(); w.nodes[0] = f64::NAN }).call(list);
+    }
+    // 2
+    with(&base, |w| { w.of.times.truncate(1); w.of.field.clear() }).call(list);
+    with(&base, |w| w.of.times = (0..33).map(|k| k as f64).collect()).call(list);
+    with(&base, |w| w.of.keys = vec![0; 200_001]).call(list);
+    with(&base, |w| { w.nodes = (0..65).map(|k| k as f64).collect(); w.scratch = 0 }).call(list);
+    // 3
+    with(&base, |w| w.nodes = (0..64).map(|k| k as f64).collect()).call(list);
+    with(&base, |w| w.of.keys = vec![0; 200_000]).call(list);
+    with(&base, |w| { w.of.field.pop(); w.nodes[0] = f64::NAN }).call(list);
+    with(&base, |w| w.of.field.push(0.0)).call(list);
+    with(&base, |w| { w.of.a.pop(); }).call(list);
+    with(&base, |w| w.of.b.push(0.0)).call(list);
+    with(&base, |w| { w.of.added.pop(); }).call(list);
+    with(&base, |w| { w.of.times.pop(); }).call(list);
+    with(&base, |w| { w.of.states.pop(); }).call(list);
+    with(&base, |w| w.of.keys.push(20_000)).call(list);
+    with(&base, |w| w.nodes.push(9100.0)).call(list);
+    with(&base, |w| { w.nodes.pop(); }).call(list);
+    with(&base, |w| w.nodes.clear()).call(list);
+    for off in [0, 3500, 6999, 7001] {
+        with(&base, |w| w.keys = off).call(list);
+    }
+    for off in [0, 21_000, 41_999, 42_001] {
+        with(&base, |w| w.states = off).call(list);
+    }
+    for off in [0, 1, 3] {
+        with(&base, |w| w.rms = off).call(list);
+    }
+    with(&base, |w| w.scratch -= 1).call(list);
+    with(&base, |w| w.scratch -= 49_200).call(list);
+    with(&base, |w| w.scratch = 0).call(list);
+    with(&windows(r, 2, &[], 0.0), |w| w.keys = 1).call(list);
+    with(&windows(r, 2, &[9000.0], 0.0), |w| { w.of.forget(|_| true); w.scratch -= 1 }).call(list);
+    // 4
+    for x in wild {
+        with(&base, |w| { w.of.field[0] = x; w.of.times[1] = w.of.times[0] }).call(list);
+        with(&base, |w| *w.of.field.last_mut().unwrap() = x).call(list);
+        with(&base, |w| w.of.a[3] = x).call(list);
+        with(&base, |w| w.of.b[5] = x).call(list);
+        with(&base, |w| w.of.added[15] = x).call(list);
+        with(&base, |w| w.of.times[2] = x).call(list);
+        with(&base, |w| w.of.states[1] = x).call(list);
+        with(&base, |w| *w.of.states.last_mut().unwrap() = x).call(list);
+        with(&base, |w| w.nodes[0] = x).call(list);
+        with(&base, |w| w.nodes[2] = x).call(list);
+    }
+    for t in [-5e-324, step(TOP, 1)] {
+        with(&base, |w| w.of.times[2] = t).call(list);
+        with(&base, |w| w.nodes[2] = t).call(list);
+    }
+    with(&base, |w| w.of.keys[0] = -1).call(list);
+    with(&base, |w| *w.of.keys.last_mut().unwrap() = (1 << 31) + 1).call(list);
+    // 5
+    with(&base, |w| w.of.times[1] = w.of.times[0]).call(list);
+    with(&base, |w| w.of.times.reverse()).call(list);
+    with(&base, |w| w.of.keys[1] = w.of.keys[0]).call(list);
+    with(&base, |w| w.of.keys.reverse()).call(list);
+    with(&base, |w| w.nodes[1] = w.nodes[0]).call(list);
+    with(&base, |w| w.nodes.reverse()).call(list);
+}
+
 pub fn make(list: &mut List, seed: u64) {
     let mut random = Rng::new(seed);
     least_squares(list, &mut random);
     fits(list, &mut random);
     uncovered(list, &mut random);
     refusals(list, &mut random);
+    fitted_windows(list, &mut random);
+    window_refusals(list, &mut random);
 }

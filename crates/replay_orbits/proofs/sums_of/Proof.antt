@@ -1,0 +1,26 @@
+-- `replay_orbits::sums_of` is safe and ends. Assumes nothing.
+use Prim.Native.Nat.{_-_}
+use lib.ListN.{length}
+use borrow.Author.Needs.{needs}
+use Rattle.replay_orbits.proofs.sums_of.Statement.{statement}
+use Rattle.replay_orbits.proofs.sums_of.Tie as tie
+
+abbrev Inv-loop : tie.InvT-loop
+Inv-loop values s₀ i₀ s i = Unit {0}
+
+abbrev μ-loop : tie.MeasureT-loop
+μ-loop values s₀ i₀ s i = length values - i
+
+loop-holds : tie.Need-loop-holds Inv-loop μ-loop
+loop-holds c = tt
+
+loop-again : tie.Need-loop-again Inv-loop μ-loop
+loop-again c = tt
+
+returns : tie.Need-returns Inv-loop μ-loop
+returns c = tt
+
+pub sums-of-spec : {M : Type 1} → statement M
+sums-of-spec =
+    tie.close
+    (tie.spec Inv-loop μ-loop loop-holds (λ c. search needs) (λ c. search needs) (λ c κs. search needs) (λ c κs. search needs) (λ c. search needs) (λ c. search needs) loop-again returns)
