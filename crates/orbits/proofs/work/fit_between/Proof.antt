@@ -19,7 +19,7 @@ keep-requires c κs =
     let a = c .before .before .before .before .before .before .before .before .before .before .before .before .before .before .before .before .before .before .before .before .before .args in
     let pre = c .before .before .before .before .before .before .before .before .before .before .before .before .before .before .before .before .before .before .before .before .before .pre in
     let f = fits-here (covers (a .times .now)) (fullForce (model (a .degree) (a .field .now) (a .times .now) (a .added .now)) (a .a .now) (a .b .now)) (stateFor (a .keys .now) (a .states .now)) (a .from) (a .to) (pre .1) (a .degree) (a .keys .now) (length (a .states .now)) (a .s .now) _ _ _ (c .before .before .before .before .before .before .before .before .before .before .before .arc-between .ensures) (pre .0) (c .before .before .before .before .before .before .before .before .fit-arc .ensures) in
-    (pre .1 .ends .from, pre .1 .ends .to, arc-few (covers (a .times .now)) (fullForce (model (a .degree) (a .field .now) (a .times .now) (a .added .now)) (a .a .now) (a .b .now)) (stateFor (a .keys .now) (a .states .now)) (a .from) (a .to) (pre .1) _ (c .before .before .before .before .before .before .before .before .before .before .before .arc-between .ensures), arc-inside (covers (a .times .now)) (fullForce (model (a .degree) (a .field .now) (a .times .now) (a .added .now)) (a .a .now) (a .b .now)) (stateFor (a .keys .now) (a .states .now)) (a .from) (a .to) (pre .1) _ (c .before .before .before .before .before .before .before .before .before .before .before .arc-between .ensures), omega (arith, f .only .long, pre .0 .enough, c .before .before .before .before .before .before .before .before .before .before .front-size .ensures .0 (pre .0 .degree)), pre .2 .keys, pre .2 .states)
+    (pre .1 .ends .from, pre .1 .ends .to, arc-few (covers (a .times .now)) (fullForce (model (a .degree) (a .field .now) (a .times .now) (a .added .now)) (a .a .now) (a .b .now)) (stateFor (a .keys .now) (a .states .now)) (a .from) (a .to) (pre .1) _ (c .before .before .before .before .before .before .before .before .before .before .before .arc-between .ensures), arc-inside (covers (a .times .now)) (fullForce (model (a .degree) (a .field .now) (a .times .now) (a .added .now)) (a .a .now) (a .b .now)) (stateFor (a .keys .now) (a .states .now)) (a .from) (a .to) (pre .1) _ (c .before .before .before .before .before .before .before .before .before .before .before .arc-between .ensures), omega (arith, f .only .long, pre .0 .enough, c .before .before .before .before .before .before .before .before .before .before .front-size .ensures .0 (pre .0 .degree)), omega (arith, pre .2 .keys), omega (arith, pre .2 .states))
 
 put-rms-requires : tie.Need-put-rms-requires
 put-rms-requires c κs = c .before .before .before .before .before .before .before .before .before .before .before .before .before .before .before .before .before .before .before .before .before .before .before .before .before .before .pre .2 .rms
