@@ -1,11 +1,10 @@
 -- What `fitted_orbits` answers and leaves, in the cases of its code. Assumes nothing.
 use mathlib.Core.Path.{_≡_, refl, sym, ap, _∙_, subst}
-use mathlib.Core.Bool.{Bool, true, false, cond, _&&_}
-use mathlib.Core.List.{List, [], _∷_}
+use mathlib.Core.Bool.{Bool, true, false, _&&_}
+use mathlib.Core.List.{List, []}
 use Prim.Native.Nat.{ℕ, zero, suc, _+_, _-_, _*_, _≤_, _<_}
 use native.Mathlib.Omega.{arith}
 use lib.Dec.{T, leb, eqb}
-use lib.IntN.{ℤ}
 use lib.Ieee.{Float, nan}
 use lib.Ieee.Scale.{finite}
 use lib.ListN.{length, getD, replicate}
@@ -22,7 +21,7 @@ use Rattle.windows.specs.Windows.{Ends}
 use Rattle.windows.proofs.Filling.{ends-at}
 use Rattle.orbits.specs.declared.FittedOrbits.the-variants.{Counted, Refused}
 use Rattle.orbits.specs.declared.work.Done.{Done}
-use Rattle.orbits.specs.Orbits.{Window, windowFit, between, joined}
+use Rattle.orbits.specs.Orbits.{Window, windowFit, between}
 use Rattle.orbits.specs.Calls.{Given, Outputs, outputs, placesFit, scratchFits, lengthsFit, refusal, fittedWindows, listed, left, handed, settled, orbitsCall}
 use Rattle.orbits.specs.Work.{SoFar, Usable}
 

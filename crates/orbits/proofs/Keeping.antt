@@ -6,8 +6,8 @@ use Prim.Native.Nat.{ℕ, zero, suc, _+_, _-_, _*_, _≤_, _<_}
 use native.Mathlib.Numerals.{add-one}
 use native.Mathlib.Omega.{arith}
 use lib.IntN.{ℤ, pos}
-use lib.Ieee.{Float, nan}
-use lib.ListN.{length, take, getD, set, replicate, length-append, length-map, length-replicate, length-set}
+use lib.Ieee.{Float}
+use lib.ListN.{length, take, set, replicate, length-append, length-map, length-replicate, length-set}
 use lib.Seq.{set-append-seam}
 use Rattle.laws.specs.Floats.{zero64}
 use Rattle.laws.specs.Lists.{map-append}

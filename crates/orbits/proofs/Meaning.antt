@@ -1,15 +1,13 @@
 -- The states of the fitted windows are those that crate `windows` keeps in its slots. Assumes nothing.
-use mathlib.Core.Path.{_≡_, refl, sym, ap, _∙_}
-use mathlib.Core.Bool.{Bool, true, false, cond}
+use mathlib.Core.Path.{_≡_, refl, _∙_}
+use mathlib.Core.Bool.{Bool}
 use mathlib.Core.List.{List, [], _∷_, _++_, append-nil}
-use Prim.Native.Nat.{ℕ, suc}
+use Prim.Native.Nat.{suc}
 use lib.Ieee.{Float, lt}
 use Rattle.laws.specs.Floats.{_⊖_}
-use Rattle.finality.specs.Tables.{Table}
 use Rattle.finality.specs.Arcs.{longest, start, steps, arcOf, inside}
 use Rattle.finality.specs.Fitting.{tab}
 use Rattle.vectors.specs.declared.Vector.{Vector}
-use Rattle.integrate.specs.declared.kernel.State.{State}
 use Rattle.integrate.specs.Room.{Run}
 use Rattle.integrate.proofs.Places.{by}
 use Rattle.fit.specs.Fit.{fitOf, orbitOf}
@@ -18,7 +16,7 @@ use Rattle.fit.specs.declared.kernel.Fitted.{Fitted}
 use Rattle.fit.specs.declared.kernel.Fitted.the-variants.{Fitted as Rms, Refused}
 use Rattle.windows.specs.Stage.{arcStruct, statesOf}
 use Rattle.windows.specs.Windows.{windowBy}
-use Rattle.orbits.specs.Orbits.{Window, unlessRefused, windowFit, between, orbitsOf, joined}
+use Rattle.orbits.specs.Orbits.{unlessRefused, windowFit, between, orbitsOf, joined}
 use Rattle.orbits.proofs.Windows.{joined-append}
 
 module _ (covered : Float → Bool) (full : Float → Vector → Vector) (look : Float → Held) where

@@ -1,6 +1,6 @@
 -- Laws of the windows that are added, one after the other. Assumes nothing.
 use mathlib.Core.Path.{_≡_, refl, sym, ap, _∙_, subst}
-use mathlib.Core.Bool.{Bool, true, false, cond}
+use mathlib.Core.Bool.{Bool, true, false}
 use mathlib.Core.List.{List, [], _∷_, _++_, map, append-assoc, append-nil}
 use Prim.Native.Nat.{ℕ, zero, suc, _+_, _-_, _*_, _≤_, _<_}
 use native.Mathlib.Numerals.{add-one}
@@ -28,7 +28,7 @@ use Rattle.fit.specs.declared.kernel.Held.{Held}
 use Rattle.fit.specs.declared.kernel.Fitted.{Fitted}
 use Rattle.fit.specs.declared.kernel.Fitted.the-variants.{Fitted as Rms, Refused}
 use Rattle.windows.specs.Stage.{arcStruct}
-use Rattle.windows.specs.Windows.{arcBetween, Ends}
+use Rattle.windows.specs.Windows.{arcBetween}
 use Rattle.windows.proofs.Arcs.{arc-between}
 use Rattle.windows.proofs.Filling.{fits-of, inside-few}
 use Rattle.orbits.specs.declared.work.Done.{Done}

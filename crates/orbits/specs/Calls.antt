@@ -15,11 +15,10 @@ use Rattle.lent.specs.Lent.{degreeFine, countsFine, modelFits, leastScratch, mo
 use Rattle.finality.specs.Tables.{keyOf}
 use Rattle.finality.specs.Brackets.{covers}
 use Rattle.integrate.specs.Force.{Model, fullForce}
-use Rattle.integrate.specs.declared.kernel.State.{State}
 use Rattle.fit.specs.Fit.{stateFor}
 use Rattle.orbits.specs.declared.FittedOrbits.{FittedOrbits}
 use Rattle.orbits.specs.declared.FittedOrbits.the-variants.{Counted, Refused}
-use Rattle.orbits.specs.Orbits.{Window, windowFit, orbitsOf, joined, numbersOf}
+use Rattle.orbits.specs.Orbits.{Window, orbitsOf, joined, numbersOf}
 
 -- what the call is lent: the model with the Legendre tables a and b, the states by key, the nodes
 pub record Given : Type 0 where
@@ -59,7 +58,7 @@ lengthsFit g o scratch =
     && (placesFit (length (g .nodes)) (length (o .keys)) (length (o .states)) (length (o .rms))
     && scratchFits (g .model .degree) (length (g .model .times)) (length (g .nodes)) scratch)
 
--- fit: whether all lengths do
+-- fit: whether all lengths do; of the other lists that `countsFine` tests the call has none
 unfoldable pub refusal : Given → Bool → ℕ
 refusal g fit =
     firstFailed

@@ -1,6 +1,6 @@
 -- The fitted orbits of one satellite (document 01, module 4; the source's `fitted_orbits`): of the windows between neighbouring nodes those that are fitted, each with the rms of its
 -- misfits and its states by second. The force and the states are functions of the time. Assumes nothing.
-use Prim.Native.Nat.{ℕ, suc}
+use Prim.Native.Nat.{suc}
 use mathlib.Core.Bool.{Bool, cond}
 use mathlib.Core.List.{List, [], _∷_, _++_}
 use lib.Ieee.{Float, lt}

@@ -1,17 +1,16 @@
 -- What the work on the lent outputs leaves, step by step. Assumes nothing.
 use mathlib.Core.Path.{_≡_}
 use mathlib.Core.Bool.{Bool, true, cond}
-use mathlib.Core.List.{List, [], _++_, map}
-use Prim.Native.Nat.{ℕ, _+_, _-_, _*_, _≤_, _<_}
+use mathlib.Core.List.{List, _++_, map}
+use Prim.Native.Nat.{ℕ, _+_, _*_, _≤_, _<_}
 use lib.Dec.{T}
 use lib.IntN.{ℤ, pos}
-use lib.Ieee.{Float, nan, lt}
-use lib.ListN.{length, set, getD}
+use lib.Ieee.{Float, lt}
+use lib.ListN.{length, set}
 use Rattle.laws.specs.Floats.{zero64, _⊖_}
 use Rattle.laws.specs.Checks.{risingSeconds}
 use Rattle.finality.specs.Tables.{Table, keyOf}
-use Rattle.finality.specs.Arcs.{longest, inside}
-use Rattle.finality.specs.Fitting.{tab}
+use Rattle.finality.specs.Arcs.{longest}
 use Rattle.integrate.specs.Force.{frontSize}
 use Rattle.integrate.specs.Room.{Run, stateIn}
 use Rattle.integrate.specs.declared.kernel.State.{State}
@@ -30,10 +29,10 @@ abbrev pub readRun : List Float → ℕ → Run
 readRun s base k = stateIn s (base + 6 * k)
 
 -- one state, after n others, where its time lies inside
-pub record Kept (inside : Bool) (second : ℤ) (state : State) (n r : ℕ) (keys keys' : List ℤ) (states states' : List Float) : Type 0 where
-  pub counted : r ≡ n + cond inside 1 0
-  pub seconds : keys' ≡ cond inside (set keys n second) keys
-  pub numbers : states' ≡ cond inside (putSix states (6 * n) state) states
+pub record Kept (isInside : Bool) (second : ℤ) (state : State) (n r : ℕ) (keys keys' : List ℤ) (states states' : List Float) : Type 0 where
+  pub counted : r ≡ n + cond isInside 1 0
+  pub seconds : keys' ≡ cond isInside (set keys n second) keys
+  pub numbers : states' ≡ cond isInside (putSix states (6 * n) state) states
 
 -- the states of a table from the front, of m places
 pub record Tabled (m : ℕ) (table : Table State) (n : ℕ) (keys : List ℤ) (states : List Float) : Type 0 where

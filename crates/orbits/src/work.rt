@@ -11,7 +11,7 @@ ghost use Rattle.numbers.specs.Seconds.{wholeSecond};
 ghost use Rattle.finality.specs.Arcs.{inside};
 ghost use Rattle.finality.specs.Fitting.{tab};
 ghost use Rattle.finality.specs.Brackets.{covers};
-ghost use Rattle.integrate.specs.Force.{model, frontSize, fullForce};
+ghost use Rattle.integrate.specs.Force.{model, fullForce};
 ghost use Rattle.integrate.specs.Room.{Run, stateIn};
 ghost use Rattle.integrate.specs.Steps.{timeOf};
 ghost use Rattle.fit.specs.Fit.{stateFor};

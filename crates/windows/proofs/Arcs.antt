@@ -1,6 +1,6 @@
 -- The arc of a window shorter than 7,000 s. Assumes nothing.
-use mathlib.Core.Path.{_≡_, refl, sym, ap, _∙_, subst}
-use mathlib.Core.Bool.{Bool, true, false, cond, _&&_}
+use mathlib.Core.Path.{_≡_, refl, sym, _∙_, subst}
+use mathlib.Core.Bool.{Bool, true, false, _&&_}
 use lib.Dec.{T}
 use lib.Ieee.{Float, lt, le, ofBits}
 use lib.Ieee.Fits.{and-l, and-r, and-i}
@@ -8,7 +8,6 @@ use Rattle.laws.specs.Floats.{zero64, _⊖_}
 use Rattle.laws.specs.Checks.{isTime, latest, time-says}
 use Rattle.laws.specs.Times.{Time}
 use Rattle.finality.specs.Arcs.{longest, start, steps, arcOf}
-use Rattle.integrate.specs.declared.kernel.Arc.{Arc as ArcStruct}
 use Rattle.windows.specs.Stage.{arcStruct}
 use Rattle.windows.specs.Windows.{windowFine, arcBetween, Ends}
 

@@ -1,7 +1,7 @@
-use mathlib.Core.Path.{_≡_, refl, sym, ap, _∙_, subst}
-use Prim.Native.Nat.{ℕ, _-_}
+use mathlib.Core.Path.{_∙_}
+use Prim.Native.Nat.{_-_}
 use lib.ListN.{length}
-use Rattle.integrate.specs.Force.{model, fullForce}
+use Rattle.integrate.specs.Force.{model}
 use Rattle.orbits.specs.Calls.{given, outputs}
 use Rattle.orbits.proofs.Answers.{fit-is, usable, ends, long, orbits-refused, orbits-handed, orbits-unfit, so-far-given}
 use borrow.Author.Needs.{needs}

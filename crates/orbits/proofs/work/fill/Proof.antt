@@ -1,12 +1,10 @@
-use native.Mathlib.Omega.{arith}
-use mathlib.Core.Path.{_≡_, refl, sym, ap, _∙_, subst}
-use Prim.Native.Nat.{ℕ, _-_}
+use mathlib.Core.Path.{_∙_}
+use Prim.Native.Nat.{_-_}
 use lib.ListN.{length}
 use Rattle.finality.specs.Brackets.{covers}
 use Rattle.integrate.specs.Force.{model, fullForce}
 use Rattle.fit.specs.Fit.{stateFor}
 use Rattle.orbits.specs.Orbits.{windowFit, between}
-use Rattle.orbits.specs.Calls.{outputs}
 use Rattle.orbits.proofs.Windows.{filled}
 use borrow.Author.Needs.{needs}
 use Rattle.orbits.proofs.work.fill.Statement.{statement}

@@ -1,13 +1,9 @@
-use mathlib.Core.Path.{_≡_, refl, sym, ap, _∙_, subst}
-use Prim.Native.Nat.{ℕ, _+_, _*_, _-_, _≤_, _<_}
+use Prim.Native.Nat.{_-_}
 use native.Mathlib.Omega.{arith}
-use lib.Dec.{T}
-use lib.ListN.{length, take, getD}
-use lib.Ieee.{Float, nan}
+use lib.ListN.{length}
 use Rattle.finality.specs.Brackets.{covers}
 use Rattle.integrate.specs.Force.{model, fullForce}
 use Rattle.fit.specs.Fit.{stateFor}
-use Rattle.orbits.specs.Orbits.{windowFit, between}
 use Rattle.orbits.specs.Calls.{outputs}
 use Rattle.orbits.proofs.Windows.{arc-few, arc-inside, fits-here, refused-adds, fitted-adds-at}
 use borrow.Author.Needs.{needs}

@@ -1,9 +1,7 @@
-use mathlib.Core.Path.{_≡_, refl, sym, ap, _∙_, subst}
-use Prim.Native.Nat.{ℕ, _+_, _*_, _-_, _≤_, _<_}
+use mathlib.Core.Path.{_≡_, refl, _∙_}
+use Prim.Native.Nat.{_+_, _-_, _≤_}
 use native.Mathlib.Omega.{arith}
-use lib.Dec.{T}
-use lib.ListN.{length, take, getD}
-use lib.Ieee.{Float, nan}
+use lib.ListN.{length, take}
 use Rattle.finality.specs.Brackets.{covers}
 use Rattle.integrate.specs.Force.{model, fullForce}
 use Rattle.fit.specs.Fit.{stateFor}

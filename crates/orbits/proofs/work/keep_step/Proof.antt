@@ -1,4 +1,4 @@
-use mathlib.Core.Path.{_≡_, refl, sym, ap, _∙_}
+use mathlib.Core.Path.{sym, ap, _∙_}
 use native.Mathlib.Omega.{arith}
 use Rattle.windows.specs.Slots.{within}
 use Rattle.orbits.proofs.Keeping.{kept-in, kept-out}

@@ -1,13 +1,9 @@
-use mathlib.Core.Path.{_≡_, refl, sym, ap, _∙_, subst}
-use Prim.Native.Nat.{ℕ, _+_, _*_, _-_, _≤_, _<_}
-use native.Mathlib.Omega.{arith}
+use mathlib.Core.Path.{sym, subst}
+use Prim.Native.Nat.{_-_}
 use lib.Dec.{T}
-use lib.ListN.{length, take, getD}
-use lib.Ieee.{Float, nan}
 use Rattle.finality.specs.Brackets.{covers}
 use Rattle.integrate.specs.Force.{model, fullForce}
 use Rattle.fit.specs.Fit.{stateFor}
-use Rattle.orbits.specs.Orbits.{windowFit, between}
 use Rattle.orbits.specs.Calls.{outputs}
 use Rattle.orbits.proofs.Windows.{long-adds}
 use borrow.Author.Needs.{needs}

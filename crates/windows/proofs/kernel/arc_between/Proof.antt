@@ -1,4 +1,4 @@
-use mathlib.Core.Path.{_≡_, sym, _∙_}
+use mathlib.Core.Path.{sym, _∙_}
 use Rattle.laws.specs.Order.{lt→le}
 use Rattle.windows.proofs.Arcs.{fine-says, arc-fine, arc-none}
 use borrow.Author.Needs.{needs}
