@@ -10,7 +10,8 @@ use lib.IntN.{ℤ}
 use lib.Ieee.{Float}
 use borrow.Author.Tests.{leb-true, le-leb, lt-leb}
 use Rattle.laws.specs.Checks.{rising, risingSeconds}
-use Rattle.lent.specs.Lent.{kind, size, few, frontSize, degreeFine, countsFine, modelFits, statesFit, leastScratch, scratchFits, wholeScratchFits, rise}
+use Rattle.slices.proofs.Calls.{cond-passes}
+use Rattle.lent.specs.Lent.{kind, size, few, frontSize, firstOf, degreeFine, countsFine, modelFits, statesFit, leastScratch, scratchFits, wholeScratchFits, rise}
 
 no : {X : Type 0} → false ≡ true → X
 no e = absurd (let z : _≡_ {A = ℕ} 0 1 = cc in omega arith)
@@ -18,6 +19,23 @@ no e = absurd (let z : _≡_ {A = ℕ} 0 1 = cc in omega arith)
 pub both-pass : (a b : Bool) → (a && b) ≡ true → (a ≡ true) × (b ≡ true)
 both-pass true b h = (refl, h)
 both-pass false b h = no h
+
+-- all of five tests
+pub record AllPass (d k n v o : Bool) : Type 0 where
+  pub degree : d ≡ true
+  pub counts : k ≡ true
+  pub lengths : n ≡ true
+  pub values : v ≡ true
+  pub order : o ≡ true
+
+pub all-pass : (d k n v o : Bool) → firstOf d k n v o ≡ 0 → AllPass d k n v o
+all-pass d k n v o h =
+    let a = cond-passes d _ 0 h in
+    let b = cond-passes k _ 1 (a .1) in
+    let e = cond-passes n _ 2 (b .1) in
+    let f = cond-passes v _ 3 (e .1) in
+    let g = cond-passes o _ 4 (f .1) in
+    record { degree = a .0; counts = b .0; lengths = e .0; values = f .0; order = g .0 }
 
 pub degree-passes : (N : ℕ) → degreeFine N ≡ true → N ≤ 180
 degree-passes N h = leb-true N 180 (both-pass (leb 2 N) (leb N 180) h .1)

@@ -11,10 +11,9 @@ use lib.ListN.{length, replicate}
 use Rattle.laws.specs.Floats.{zero64}
 use Rattle.laws.specs.Checks.{isTime}
 use Rattle.slices.specs.Calls.{left}
-use Rattle.slices.proofs.Calls.{cond-passes}
 use Rattle.integrate.specs.Force.{frontSize}
 use Rattle.lent.specs.Lent.{frontSize as frontRoom, degreeFine, scratchFits}
-use Rattle.lent.proofs.Passed.{both-pass, degree-passes, counts-pass, rise-passes, scratch-passes, front-is}
+use Rattle.lent.proofs.Passed.{both-pass, AllPass, all-pass, degree-passes, counts-pass, rise-passes, scratch-passes, front-is}
 use Rattle.finality.specs.Sheet.{Observation}
 use Rattle.epochs.specs.declared.Epoch.{Epoch}
 use Rattle.residuals.specs.declared.EpochAnswer.{EpochAnswer}
@@ -22,30 +21,12 @@ use Rattle.sighting.specs.declared.Made.{Made}
 use Rattle.sighting.specs.Work.{madeOf}
 use Rattle.residuals.specs.Inputs.{Inputs, epochOf}
 use Rattle.residuals.specs.Work.{Ready}
-use Rattle.residuals.specs.Calls.{inputsCounted, inputsFit, inputsFine, inputsRise, firstOf, epochRefusal, refused, answered, told, epochLeft, epochCall}
-
--- ---- five tests passed
-
-pub record Passed (d c l v o : Bool) : Type 0 where
-  pub degree : d ≡ true
-  pub counts : c ≡ true
-  pub lengths : l ≡ true
-  pub values : v ≡ true
-  pub order : o ≡ true
-
-pub first-passes : (d c l v o : Bool) → firstOf d c l v o ≡ 0 → Passed d c l v o
-first-passes d c l v o h =
-    let a = cond-passes d _ 0 h in
-    let b = cond-passes c _ 1 (a .1) in
-    let e = cond-passes l _ 2 (b .1) in
-    let f = cond-passes v _ 3 (e .1) in
-    let g = cond-passes o _ 4 (f .1) in
-    record { degree = a .0; counts = b .0; lengths = e .0; values = f .0; order = g .0 }
+use Rattle.residuals.specs.Calls.{inputsCounted, inputsFit, inputsFine, inputsRise, epochRefusal, refused, answered, told, epochLeft, epochCall}
 
 abbrev ReadyFor : Inputs → ℕ → Type 0
 ReadyFor inp scratch = Ready (inp .model .degree) (inp .statesC .keys) (inp .statesD .keys) (inp .accC .keys) (inp .accD .keys) scratch
 
-pub ready : (inp : Inputs) (count scratch : ℕ) (values : Bool) → Passed (degreeFine (inp .model .degree)) (inputsCounted inp) (inputsFit inp && scratchFits (inp .model .degree) (length (inp .model .times)) count scratch) values (inputsRise inp) → ReadyFor inp scratch
+pub ready : (inp : Inputs) (count scratch : ℕ) (values : Bool) → AllPass (degreeFine (inp .model .degree)) (inputsCounted inp) (inputsFit inp && scratchFits (inp .model .degree) (length (inp .model .times)) count scratch) values (inputsRise inp) → ReadyFor inp scratch
 ready inp count scratch values p =
     let f = counts-pass _ _ _ _ _ (p .counts) in
     let r = rise-passes _ _ _ _ _ (p .order) in
@@ -63,7 +44,7 @@ pub epoch-ready : (inp : Inputs) (t v : Float) (n scratch : ℕ) → n ≡ epoch
 unfolding epochRefusal
 epoch-ready inp t v n scratch e z =
     ready inp 0 scratch (inputsFine inp && (isTime t && finite v))
-    (first-passes (degreeFine (inp .model .degree)) (inputsCounted inp) (inputsFit inp && scratchFits (inp .model .degree) (length (inp .model .times)) 0 scratch)
+    (all-pass (degreeFine (inp .model .degree)) (inputsCounted inp) (inputsFit inp && scratchFits (inp .model .degree) (length (inp .model .times)) 0 scratch)
     (inputsFine inp && (isTime t && finite v)) (inputsRise inp) (sym e ∙ z))
 
 -- the first numbers of scratch, by degree

@@ -11,14 +11,14 @@ use borrow.Author.Tests.{eqb-true}
 use Rattle.laws.specs.Floats.{zero64}
 use Rattle.laws.specs.Checks.{all, isTime, rising}
 use Rattle.lent.specs.Lent.{degreeFine, scratchFits}
-use Rattle.lent.proofs.Passed.{both-pass}
+use Rattle.lent.proofs.Passed.{both-pass, AllPass, all-pass}
 use Rattle.slices.specs.declared.Counted.the-variants.{Counted as Filled, Refused as NotFilled}
 use Rattle.residuals.specs.declared.filling.Filled.{Filled as Count}
 use Rattle.residuals.specs.Inputs.{Inputs}
 use Rattle.residuals.specs.Work.{Ready}
 use Rattle.residuals.specs.Calls.{inputsCounted, inputsFit, inputsFine, inputsRise, Lists, Sightings, samplesFit, outputsFit, residualsRefusal, listsLeft, handedOut, settledLists, keptIn, residualsCall, epochFinite}
 use Rattle.residuals.specs.Filling.{blank, Long, Done}
-use Rattle.residuals.proofs.Answers.{Passed, first-passes, ready}
+use Rattle.residuals.proofs.Answers.{ready}
 use Rattle.residuals.proofs.Turns.{blank-is, done-long}
 
 record Samples (obs : Sightings) (l : Lists) : Type 0 where
@@ -49,11 +49,11 @@ samples-pass obs l h =
     }
 
 module _ (inp : Inputs) (obs : Sightings) (l : Lists) (samples : Bool) (n scratch : ℕ) (b : samples ≡ outputsFit obs l) (e : n ≡ residualsRefusal inp obs samples scratch) (z : n ≡ 0) where
-  passed : Passed (degreeFine (inp .model .degree)) (inputsCounted inp && leb (length (obs .times)) 100000)
+  passed : AllPass (degreeFine (inp .model .degree)) (inputsCounted inp && leb (length (obs .times)) 100000)
       ((inputsFit inp && scratchFits (inp .model .degree) (length (inp .model .times)) (length (obs .times)) scratch) && samples)
       (inputsFine inp && (all isTime (obs .times) && all finite (obs .values))) (inputsRise inp && rising (obs .times))
   unfolding residualsRefusal
-  passed = first-passes (degreeFine (inp .model .degree)) (inputsCounted inp && leb (length (obs .times)) 100000)
+  passed = all-pass (degreeFine (inp .model .degree)) (inputsCounted inp && leb (length (obs .times)) 100000)
       ((inputsFit inp && scratchFits (inp .model .degree) (length (inp .model .times)) (length (obs .times)) scratch) && samples)
       (inputsFine inp && (all isTime (obs .times) && all finite (obs .values))) (inputsRise inp && rising (obs .times)) (sym e ∙ z)
 

@@ -10,11 +10,11 @@ use lib.ListN.{length, replicate}
 use Rattle.laws.specs.Floats.{zero64}
 use Rattle.laws.specs.Checks.{all, isTime, rising}
 use Rattle.laws.specs.Loops.{cleared}
-use Rattle.slices.specs.Calls.{firstFailed, Left, left}
+use Rattle.slices.specs.Calls.{Left, left}
 use Rattle.slices.specs.declared.Counted.{Counted}
 use Rattle.slices.specs.declared.Counted.the-variants.{Counted as Filled, Refused as NotFilled}
 use Rattle.finality.specs.Sheet.{Observation}
-use Rattle.lent.specs.Lent.{degreeFine, countsFine, modelFits, tablesFit, scratchFits, modelFine, keyedFine, rise}
+use Rattle.lent.specs.Lent.{firstOf, degreeFine, countsFine, modelFits, tablesFit, scratchFits, modelFine, keyedFine, rise}
 use Rattle.epochs.specs.declared.Epoch.{Epoch}
 use Rattle.residuals.specs.declared.Verdict.the-variants.{Kept, NotKept, Refused}
 use Rattle.residuals.specs.declared.EpochAnswer.{EpochAnswer}
@@ -45,10 +45,6 @@ inputsFine inp =
 
 abbrev pub inputsRise : Inputs → Bool
 inputsRise inp = rise (inp .model .times) (inp .statesC .keys) (inp .statesD .keys) (inp .accC .keys) (inp .accD .keys)
-
--- the number of the first of five tests that fails
-abbrev pub firstOf : Bool → Bool → Bool → Bool → Bool → ℕ
-firstOf degree counts lengths values order = firstFailed ((degree, 1) ∷ (counts, 2) ∷ (lengths, 3) ∷ (values, 4) ∷ (order, 5) ∷ [])
 
 -- of one epoch at t with an observed value v
 unfoldable pub epochRefusal : Inputs → Float → Float → ℕ → ℕ

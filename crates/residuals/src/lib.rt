@@ -11,7 +11,7 @@ ghost use Rattle.integrate.specs.Force.{model};
 ghost use Rattle.sighting.specs.Kept.{keyed, observation};
 ghost use Rattle.residuals.specs.Inputs.{inputs, epochOf};
 ghost use Rattle.residuals.specs.Work.{Ready};
-ghost use Rattle.residuals.specs.Calls.{firstOf, rowsFine, inputsFit, epochRefusal, epochFinite, refused as refusedOf, answered, told, epochCall, samplesFit, residualsRefusal, lists, sightings, listsLeft, residualsCall};
+ghost use Rattle.residuals.specs.Calls.{epochRefusal, epochFinite, refused as refusedOf, answered, told, epochCall, samplesFit, residualsRefusal, lists, sightings, listsLeft, residualsCall};
 
 pub enum Verdict {
     Kept,
@@ -26,82 +26,6 @@ pub struct EpochAnswer {
 }
 
 // ---- what is refused
-
-// The number of the first test that fails.
-fn first_of(degree: bool, counts: bool, lengths: bool, values: bool, order: bool) -> u8
-    ensures { λ r. ⌜ r ≡ firstOf degree counts lengths values order ⌝ }
-{
-    let last = slices::unless(values, 4, slices::unless(order, 5, 0));
-    slices::unless(
-        degree,
-        1,
-        slices::unless(counts, 2, slices::unless(lengths, 3, last)),
-    )
-}
-
-// Lengths of the lists that both calls are lent.
-fn lists_fit(
-    degree: usize,
-    field: &[f64],
-    a: &[f64],
-    b: &[f64],
-    times: &[f64],
-    added: &[f64],
-    ckeys: &[i64],
-    cstates: &[f64],
-    dkeys: &[i64],
-    dstates: &[f64],
-    cacckeys: &[i64],
-    caccs: &[f64],
-    dacckeys: &[i64],
-    daccs: &[f64],
-) -> bool
-    ensures { λ r. ⌜ r ≡ inputsFit (inputs (model degree (now (field .entry)) (now (times .entry)) (now (added .entry))) (now (a .entry)) (now (b .entry)) (keyed (now (ckeys .entry)) (now (cstates .entry))) (keyed (now (dkeys .entry)) (now (dstates .entry))) (keyed (now (cacckeys .entry)) (now (caccs .entry))) (keyed (now (dacckeys .entry)) (now (daccs .entry)))) ⌝ }
-{
-    let model = lent::model_fits(
-        degree,
-        times.len(),
-        field.len(),
-        added.len(),
-        a.len(),
-        b.len(),
-    );
-    let tables = lent::tables_fit(
-        ckeys.len(),
-        cstates.len(),
-        dkeys.len(),
-        dstates.len(),
-        cacckeys.len(),
-        caccs.len(),
-        dacckeys.len(),
-        daccs.len(),
-    );
-    slices::both(model, tables)
-}
-
-// Both satellites' states and accelerometer values.
-fn rows_fine(
-    ckeys: &[i64],
-    cstates: &[f64],
-    dkeys: &[i64],
-    dstates: &[f64],
-    cacckeys: &[i64],
-    caccs: &[f64],
-    dacckeys: &[i64],
-    daccs: &[f64],
-) -> bool
-    ensures { λ r. ⌜ r ≡ (rowsFine (keyed (now (ckeys .entry)) (now (cstates .entry))) && rowsFine (keyed (now (dkeys .entry)) (now (dstates .entry)))) && (rowsFine (keyed (now (cacckeys .entry)) (now (caccs .entry))) && rowsFine (keyed (now (dacckeys .entry)) (now (daccs .entry)))) ⌝ }
-{
-    let states = slices::both(
-        lent::keyed_fine(ckeys, cstates),
-        lent::keyed_fine(dkeys, dstates),
-    );
-    let accs = slices::both(
-        lent::keyed_fine(cacckeys, caccs),
-        lent::keyed_fine(dacckeys, daccs),
-    );
-    slices::both(states, accs)
-}
 
 fn epoch_refusal(
     degree: usize,
@@ -132,7 +56,7 @@ fn epoch_refusal(
         cacckeys.len(),
         dacckeys.len(),
     );
-    let lists = lists_fit(
+    let lists = lent::lists_fit(
         degree,
         field,
         a,
@@ -149,7 +73,7 @@ fn epoch_refusal(
         daccs,
     );
     let lengths = slices::both(lists, lent::scratch_fits(degree, fields, 0, scratch));
-    let rows = rows_fine(
+    let rows = lent::rows_fine(
         ckeys,
         cstates,
         dkeys,
@@ -161,7 +85,7 @@ fn epoch_refusal(
     );
     let values = slices::both(lent::model_fine(field, a, b, times, added), rows);
     let own = slices::both(slices::is_time(t), numbers::is_finite(observed));
-    first_of(
+    lent::first_of(
         lent::degree_fine(degree),
         counts,
         lengths,
@@ -222,7 +146,7 @@ fn residuals_refusal(
         cacckeys.len(),
         dacckeys.len(),
     );
-    let lists = lists_fit(
+    let lists = lent::lists_fit(
         degree,
         field,
         a,
@@ -239,7 +163,7 @@ fn residuals_refusal(
         daccs,
     );
     let lengths = slices::both(lists, lent::scratch_fits(degree, fields, count, scratch));
-    let rows = rows_fine(
+    let rows = lent::rows_fine(
         ckeys,
         cstates,
         dkeys,
@@ -252,7 +176,7 @@ fn residuals_refusal(
     let values = slices::both(lent::model_fine(field, a, b, times, added), rows);
     let own = slices::both(slices::all_times(obstimes), slices::all_finite(obsvalues));
     let rise = lent::rise(times, ckeys, dkeys, cacckeys, dacckeys);
-    first_of(
+    lent::first_of(
         lent::degree_fine(degree),
         slices::both(counts, count <= 100000),
         slices::both(lengths, samples),

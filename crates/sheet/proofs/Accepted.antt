@@ -14,9 +14,8 @@ use borrow.Author.Tests.{leb-true, le-leb, eqb-true, eq-eqb}
 use Rattle.laws.specs.Floats.{zero64}
 use Rattle.laws.specs.Tables.{tri}
 use Rattle.laws.specs.Checks.{all, isTime, rising, risingSeconds}
-use Rattle.slices.proofs.Calls.{cond-passes}
-use Rattle.lent.specs.Lent.{kind, size, few, firstOf, degreeFine, countsFine, modelFits, statesFit, tablesFit, leastScratch, wholeScratchFits, modelFine, keyedFine, rise}
-use Rattle.lent.proofs.Passed.{both-pass, Few, counts-pass, Rise, rise-passes}
+use Rattle.lent.specs.Lent.{kind, size, few, degreeFine, countsFine, modelFits, statesFit, tablesFit, leastScratch, wholeScratchFits, modelFine, keyedFine, rise}
+use Rattle.lent.proofs.Passed.{both-pass, all-pass, Few, counts-pass, Rise, rise-passes}
 use Rattle.series.specs.Prepared.{prepared}
 use Rattle.model.specs.Calls.{atFits}
 use Rattle.integrate.specs.Force.{frontSize}
@@ -26,24 +25,6 @@ use Rattle.windows.specs.Windows.{roomFor, windowsServe}
 use Rattle.sheet.specs.Submission.{Lists, Passed}
 use Rattle.sheet.specs.Calls.{countsAllowed, lengthsAgree, numbersFine, listsRise, refusalOf, placesFit, sheetRefusal}
 use Rattle.sheet.proofs.Orbits.{ModelFits}
-
--- ---- five tests
-
-record FivePass (d k n v o : Bool) : Type 0 where
-  pub degree : d ≡ true
-  pub counts : k ≡ true
-  pub lengths : n ≡ true
-  pub values : v ≡ true
-  pub order : o ≡ true
-
-five-pass : (d k n v o : Bool) → firstOf d k n v o ≡ 0 → FivePass d k n v o
-five-pass d k n v o h =
-    let a = cond-passes d _ 0 h in
-    let b = cond-passes k _ 1 (a .1) in
-    let e = cond-passes n _ 2 (b .1) in
-    let f = cond-passes v _ 3 (e .1) in
-    let g = cond-passes o _ 4 (f .1) in
-    record { degree = a .0; counts = b .0; lengths = e .0; values = f .0; order = g .0 }
 
 -- ---- all of them
 
@@ -189,7 +170,7 @@ module _ (S : Setting) (l : Lists) (outputs : List (List Float)) (room : ℕ) wh
   pub accepts : sheetRefusal S l outputs room ≡ 0 → Accepts S l outputs room
   unfolding refusalOf listsRise
   accepts h =
-      let t = five-pass (degreeFine (S .degree)) _ (lengthsAgree S l (placesFit l outputs) room) (numbersFine S l) (listsRise l) h in
+      let t = all-pass (degreeFine (S .degree)) _ (lengthsAgree S l (placesFit l outputs) room) (numbersFine S l) (listsRise l) h in
       let k = counts-say (t .counts) in
       let n = lengths-say (t .lengths) in
       let v = values-say (t .values) in
