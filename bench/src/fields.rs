@@ -5,7 +5,7 @@ use std::hint::black_box;
 
 unsafe extern "C" {
     fn pozsmeteg_prepare(degree: usize, work: *mut f64, length: usize);
-    fn pozsmeteg_partials(
+    fn pozsmeteg_partials_prepared(
         degree: usize, gm: f64, radius: f64, a: *const f64, a_length: usize, b: *const f64, b_length: usize,
         work: *const f64, work_length: usize, r: f64, lat: f64, lon: f64, out: *mut f64, out_length: usize,
     );
@@ -45,7 +45,7 @@ pub fn works(bench: &mut Bench) {
             &mut || places.iter().flat_map(|(r, lat, lon)| { let p = f.partials(black_box(*r), *lat, *lon); [p.v, p.dr, p.dlat, p.dlon] }).collect(),
             &mut || places.iter().flat_map(|(r, lat, lon)| {
                 let mut out = [0.0; 4];
-                unsafe { pozsmeteg_partials(n, GM, RADIUS, tables.a.as_ptr(), l, tables.b.as_ptr(), l, work.as_ptr(), work.len(), black_box(*r), *lat, *lon, out.as_mut_ptr(), 4) };
+                unsafe { pozsmeteg_partials_prepared(n, GM, RADIUS, tables.a.as_ptr(), l, tables.b.as_ptr(), l, work.as_ptr(), work.len(), black_box(*r), *lat, *lon, out.as_mut_ptr(), 4) };
                 out
             }).collect(),
         );

@@ -1,2 +1,2 @@
 mod Stored
-mod Answers
+mod Answered

@@ -1,4 +1,7 @@
-// The static library's functions for Rust and C. Each is the call of the same name.
+// The static library's functions for Rust and C (bindings/c/pozsmeteg.h). Each is the call of the same name, its answer told
+// in numbers: 0 for acceptance or the refusal's number, counts in a lent list.
+mod answers;
+
 ghost use mathlib.Core.Path.{_≡_};
 ghost use mathlib.Core.List.{[], _∷_};
 ghost use lib.Ieee.{binary64};
@@ -7,8 +10,17 @@ ghost use Rattle.series.specs.Field.{partialsWith};
 ghost use Rattle.series.specs.Prepared.{prepared};
 ghost use Rattle.exports.specs.Four.{fourOf};
 ghost use Rattle.slices.specs.Calls.{left};
+ghost use Rattle.fields.specs.Calls.{newCall, partialsCall};
+ghost use Rattle.filter.specs.Calls.{bandPassCall};
+ghost use Rattle.detrend.specs.Calls.{detrendCall, revolutionsCall};
+ghost use Rattle.integrate.specs.Force.{model};
+ghost use Rattle.residuals.specs.Inputs.{keyed, inputs};
+ghost use Rattle.residuals.specs.Calls.{lists, sightings, residualsCall};
+ghost use Rattle.finality.specs.Sheet.{horizonOf, countTo};
+ghost use Rattle.horizon.specs.Horizon.{endsOf, finalEntries};
 ghost use Rattle.fit.specs.Calls.{fitCall};
-ghost use Rattle.exports.specs.Told.{toldOf, toldLeft};
+ghost use Rattle.exports.specs.Told.{toldLeft};
+ghost use Rattle.exports.specs.Answers.{outcomeLeft, partialsLeft, horizonTold, revolutionsTold, revolutionsLeft, listsTold, residualsLeft};
 ghost use Rattle.root.specs.Root.{sqrt};
 ghost use Rattle.numbers.specs.Numbers.{sine as Numbers·sine, cosine as Numbers·cosine, arctangent as Numbers·arctangent, arcsine as Numbers·arcsine, power as Numbers·power};
 
@@ -61,9 +73,9 @@ pub extern "C" fn pozsmeteg_prepare(degree: usize, work: &mut [f64])
     fields::kernel::prepare(degree, work);
 }
 
-// The four numbers go into out.
+// The kernel over a prepared work slice; the four numbers go into out.
 #[no_mangle]
-pub extern "C" fn pozsmeteg_partials(
+pub extern "C" fn pozsmeteg_partials_prepared(
     degree: usize,
     gm: f64,
     radius: f64,
@@ -83,16 +95,6 @@ pub extern "C" fn pozsmeteg_partials(
         out[1] = z.dr;
         out[2] = z.dlat;
         out[3] = z.dlon;
-    }
-}
-
-// The rms, or the refusal's number below zero.
-fn told(answer: fit::kernel::Fitted) -> f64
-    ensures { λ r. ⌜ r ≡ toldOf answer ⌝ }
-{
-    match answer {
-        fit::kernel::Fitted::Fitted(rms) => rms,
-        fit::kernel::Fitted::Refused(n) => 0.0 - std::num::nearest_u64_to_f64(n as u64),
     }
 }
 
@@ -134,5 +136,188 @@ pub extern "C" fn pozsmeteg_fit_orbit(
         out,
         scratch,
     );
-    told(answer)
+    answers::told(answer)
+}
+
+#[no_mangle]
+pub extern "C" fn pozsmeteg_legendre_new(
+    degree: usize,
+    a: &mut [f64],
+    b: &mut [f64],
+    scratch: &mut [f64],
+) -> u8
+    ensures { λ r. ⌜ left r (now (a .exit) ∷ now (b .exit) ∷ []) (now (scratch .exit)) ≡ outcomeLeft (newCall degree (now (a .entry)) (now (b .entry)) (now (scratch .entry))) ⌝ }
+{
+    answers::number(fields::legendre_new(degree, a, b, scratch))
+}
+
+#[no_mangle]
+pub extern "C" fn pozsmeteg_partials(
+    degree: usize,
+    field: &[f64],
+    a: &[f64],
+    b: &[f64],
+    r: f64,
+    lat: f64,
+    lon: f64,
+    out: &mut [f64],
+    scratch: &mut [f64],
+) -> u8
+    ensures { λ z. ⌜ left z (now (out .exit) ∷ []) (now (scratch .exit)) ≡ partialsLeft (partialsCall degree (now (field .entry)) (now (a .entry)) (now (b .entry)) r lat lon (now (scratch .entry))) (now (out .entry)) ⌝ }
+{
+    let answer = fields::partials(degree, field, a, b, r, lat, lon, scratch);
+    answers::store_partials(answer, out)
+}
+
+#[no_mangle]
+pub extern "C" fn pozsmeteg_band_pass(
+    times: &[f64],
+    x: &[f64],
+    out: &mut [f64],
+    scratch: &mut [f64],
+) -> u8
+    ensures { λ r. ⌜ left r (now (out .exit) ∷ []) (now (scratch .exit)) ≡ outcomeLeft (bandPassCall (now (times .entry)) (now (x .entry)) (now (out .entry)) (now (scratch .entry))) ⌝ }
+{
+    answers::number(filter::band_pass(times, x, out, scratch))
+}
+
+#[no_mangle]
+pub extern "C" fn pozsmeteg_detrend(
+    times: &[f64],
+    values: &mut [f64],
+    firsts: &[usize],
+    ends: &[usize],
+    starts: &[f64],
+    periods: &[f64],
+    scratch: &mut [f64],
+) -> u8
+    ensures { λ r. ⌜ left r (now (values .exit) ∷ []) (now (scratch .exit)) ≡ outcomeLeft (detrendCall (now (times .entry)) (now (values .entry)) (now (firsts .entry)) (now (ends .entry)) (now (starts .entry)) (now (periods .entry)) (now (scratch .entry))) ⌝ }
+{
+    answers::number(detrend::detrend(times, values, firsts, ends, starts, periods, scratch))
+}
+
+// The count goes into the first place of counts.
+#[no_mangle]
+pub extern "C" fn pozsmeteg_revolutions(
+    times: &[f64],
+    nodes: &[f64],
+    firsts: &mut [usize],
+    ends: &mut [usize],
+    starts: &mut [f64],
+    periods: &mut [f64],
+    counts: &mut [usize],
+) -> u8
+    ensures { λ r. ⌜ revolutionsTold r (now (counts .exit)) (now (firsts .exit)) (now (ends .exit)) (now (starts .exit)) (now (periods .exit)) ≡ revolutionsLeft (revolutionsCall (now (times .entry)) (now (nodes .entry)) (now (firsts .entry)) (now (ends .entry)) (now (starts .entry)) (now (periods .entry))) (now (counts .entry)) ⌝ }
+{
+    let answer = detrend::revolutions(times, nodes, firsts, ends, starts, periods);
+    answers::store_count(answer, counts)
+}
+
+// The count of kept epochs goes into the first place of counts.
+#[no_mangle]
+pub extern "C" fn pozsmeteg_residuals(
+    degree: usize,
+    field: &[f64],
+    a: &[f64],
+    b: &[f64],
+    times: &[f64],
+    added: &[f64],
+    ckeys: &[i64],
+    cstates: &[f64],
+    dkeys: &[i64],
+    dstates: &[f64],
+    cacckeys: &[i64],
+    caccs: &[f64],
+    dacckeys: &[i64],
+    daccs: &[f64],
+    obstimes: &[f64],
+    obsvalues: &[f64],
+    good: &[u8],
+    outtimes: &mut [f64],
+    outresiduals: &mut [f64],
+    outterms: &mut [[f64; 5]],
+    outmids: &mut [[f64; 3]],
+    outvels: &mut [[f64; 3]],
+    counts: &mut [usize],
+    scratch: &mut [f64],
+) -> u8
+    ensures { λ r. ⌜ listsTold r (now (counts .exit)) (lists (now (outtimes .exit)) (now (outresiduals .exit)) (now (outterms .exit)) (now (outmids .exit)) (now (outvels .exit))) (now (scratch .exit)) ≡ residualsLeft (residualsCall (inputs (model degree (now (field .entry)) (now (times .entry)) (now (added .entry))) (now (a .entry)) (now (b .entry)) (keyed (now (ckeys .entry)) (now (cstates .entry))) (keyed (now (dkeys .entry)) (now (dstates .entry))) (keyed (now (cacckeys .entry)) (now (caccs .entry))) (keyed (now (dacckeys .entry)) (now (daccs .entry)))) (sightings (now (obstimes .entry)) (now (obsvalues .entry)) (now (good .entry))) (lists (now (outtimes .entry)) (now (outresiduals .entry)) (now (outterms .entry)) (now (outmids .entry)) (now (outvels .entry))) (now (scratch .entry))) (now (counts .entry)) ⌝ }
+{
+    let answer = residuals::residuals(
+        degree,
+        field,
+        a,
+        b,
+        times,
+        added,
+        ckeys,
+        cstates,
+        dkeys,
+        dstates,
+        cacckeys,
+        caccs,
+        dacckeys,
+        daccs,
+        obstimes,
+        obsvalues,
+        good,
+        outtimes,
+        outresiduals,
+        outterms,
+        outmids,
+        outvels,
+        scratch,
+    );
+    answers::store_count(answer, counts)
+}
+
+// The horizon's time, −1.0 without one; the lists are those of an accepted submission.
+#[no_mangle]
+pub extern "C" fn pozsmeteg_horizon(
+    nodes: &[f64],
+    cstates: &[i64],
+    dstates: &[i64],
+    caccs: &[i64],
+    daccs: &[i64],
+    fields: &[f64],
+    observed: &[f64],
+) -> f64
+    ensures { λ r. ⌜ r ≡ horizonTold (horizonOf (endsOf (now (cstates .entry)) (now (dstates .entry)) (now (caccs .entry)) (now (daccs .entry)) (now (fields .entry)) (now (observed .entry))) (now (nodes .entry))) ⌝ }
+{
+    answers::horizon_time(horizon::kernel::horizon(
+        nodes,
+        cstates,
+        dstates,
+        caccs,
+        daccs,
+        fields,
+        observed,
+    ))
+}
+
+// F, of the kept epochs' times.
+#[no_mangle]
+pub extern "C" fn pozsmeteg_final_count(
+    nodes: &[f64],
+    cstates: &[i64],
+    dstates: &[i64],
+    caccs: &[i64],
+    daccs: &[i64],
+    fields: &[f64],
+    observed: &[f64],
+    kept: &[f64],
+) -> usize
+    ensures { λ r. ⌜ r ≡ countTo (horizonOf (endsOf (now (cstates .entry)) (now (dstates .entry)) (now (caccs .entry)) (now (daccs .entry)) (now (fields .entry)) (now (observed .entry))) (now (nodes .entry))) (now (kept .entry)) ⌝ }
+{
+    let z = horizon::kernel::horizon(nodes, cstates, dstates, caccs, daccs, fields, observed);
+    horizon::kernel::final_count(z, kept)
+}
+
+// How many entries the final part of a lent list has; it begins where the list does.
+#[no_mangle]
+pub extern "C" fn pozsmeteg_final_entries(list: &[f64], count: usize) -> usize
+    ensures { λ r. ⌜ r ≡ length (finalEntries (now (list .entry)) count) ⌝ }
+{
+    let part = horizon::final_entries(list, count);
+    part.len()
 }

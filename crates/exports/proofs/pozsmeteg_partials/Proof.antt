@@ -1,17 +1,12 @@
 use borrow.Author.Needs.{needs}
-use native.Mathlib.Omega.{arith}
-use lib.ListN.{length-set}
-use Rattle.exports.proofs.Stored.{four-set}
+use Rattle.exports.proofs.Answered.{partials-left}
 use Rattle.exports.proofs.pozsmeteg_partials.Statement.{statement}
 use Rattle.exports.proofs.pozsmeteg_partials.Tie as tie
 
 returns : tie.Need-returns
-returns c = λ h. search (needs, four-set)
-
-returns-2 : tie.Need-returns-2
-returns-2 c = λ h. absurd (c .if1 .left h)
+returns c = search (needs, partials-left)
 
 pub pozsmeteg-partials-spec : {M : Type 1} → statement M
 pozsmeteg-partials-spec =
     tie.close
-    (tie.spec (λ c κs. search needs) (λ c. search needs) (λ c. simp length-set (omega arith)) (λ c. simp length-set (omega arith)) (λ c. simp length-set (omega arith)) (λ c. search needs) returns returns-2)
+    (tie.spec (λ c κs. search needs) (λ c κs. search needs) (λ c. search needs) (λ c. search needs) returns)

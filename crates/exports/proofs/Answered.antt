@@ -1,0 +1,103 @@
+-- Answers told in numbers, and what the calls leave beside them. Assumes nothing.
+use Prim.Native.Nat.{ℕ, _<_, _≤_}
+use mathlib.Core.Path.{_≡_, refl, ap, sym, _∙_}
+use mathlib.Core.Bool.{cond}
+use mathlib.Core.Option.{Option, none, some}
+use mathlib.Core.List.{List, [], _∷_}
+use native.Mathlib.Omega.{arith}
+use borrow.Author.Tests.{le-leb, lt-leb, eq-eqb, ne-eqb}
+use lib.Dec.{leb, eqb}
+use lib.ListN.{length, set}
+use lib.Ieee.{Float}
+use Rattle.laws.specs.Floats.{_⊖_, bits, zero64}
+use Rattle.laws.specs.Loops.{cleared}
+use Rattle.slices.specs.declared.Outcome.{Outcome}
+use Rattle.slices.specs.declared.Counted.{Counted}
+use Rattle.slices.specs.declared.Counted.the-variants as counted
+use Rattle.series.specs.declared.Partials.{Partials}
+use Rattle.fields.specs.declared.PartialsAnswer.{PartialsAnswer}
+use Rattle.fields.specs.declared.PartialsAnswer.the-variants as partials
+use Rattle.detrend.specs.Calls.{LeftLists, listed}
+use Rattle.residuals.specs.Calls.{Lists, ListsLeft, listsLeft}
+use Rattle.finality.specs.Sheet.{countTo}
+use Rattle.horizon.specs.Horizon.{horizonAnswer, horizonAt}
+use Rattle.horizon.specs.declared.kernel.HorizonNode.{HorizonNode}
+use Rattle.horizon.specs.declared.kernel.HorizonNode.the-variants as node
+use Rattle.exports.specs.Four.{fourOf}
+use Rattle.exports.specs.Answers.{outcomeNumber, outcomeLeft, countedNumber, countIn, revolutionsTold, revolutionsLeft, listsTold, residualsLeft, partialsNumber, partialsIn, partialsLeft, horizonTold, horizonNumber}
+use Rattle.exports.proofs.Stored.{four-set}
+use Rattle.laws.specs.WholeNumbers.{number}
+use Rattle.slices.specs.Calls.{Left, left}
+use Rattle.fit.specs.declared.kernel.Fitted.{Fitted as Fit}
+use Rattle.fit.specs.declared.kernel.Fitted.the-variants.{Refused}
+use Rattle.exports.specs.Told.{toldOf, toldLeft}
+
+pub told-refused : (answer : Fit) (n : ℕ) (x : Float) → answer ≡ Refused n → x ≡ number n → zero64 ⊖ x ≡ toldOf answer
+told-refused answer n x e h = ap (λ y. zero64 ⊖ y) h ∙ ap toldOf (sym e)
+
+pub told-left : (l : Left Fit) (answer : Fit) (r : Float) (outputs : List (List Float)) (scratch : List Float) → r ≡ toldOf answer → left answer outputs scratch ≡ l → left r outputs scratch ≡ toldLeft l
+told-left l answer r outputs scratch e h = ap (λ x. left x outputs scratch) e ∙ ap toldLeft h
+
+-- ---- outcomes
+
+pub outcome-left : (l : Left Outcome) (answer : Outcome) (r : ℕ) (outputs : List (List Float)) (scratch : List Float) → r ≡ outcomeNumber answer → left answer outputs scratch ≡ l → left r outputs scratch ≡ outcomeLeft l
+outcome-left l answer r outputs scratch e h = ap (λ x. left x outputs scratch) e ∙ ap outcomeLeft h
+
+-- ---- numbers after which outputs stay, and after which they are cleared
+
+pub kept-before : {A : Type 0} (n : ℕ) (x y : A) → n ≤ 5 → x ≡ cond (leb n 5) x y
+kept-before n x y h = simp (le-leb n 5 h)
+
+pub changed-after : {A : Type 0} (n : ℕ) (x y z : A) → 5 < n → z ≡ y → z ≡ cond (leb n 5) x y
+changed-after n x y z h e = simp (lt-leb n 5 h) e
+
+-- ---- counts
+
+pub no-place : (cs : List ℕ) (k : ℕ) → length cs ≤ 0 → cs ≡ set cs 0 k
+no-place [] k h = refl
+no-place (x ∷ cs) k h = absurd (omega arith)
+
+pub count-stored : (answer : Counted) (k : ℕ) (cs new : List ℕ) → answer ≡ counted.Counted k → new ≡ set cs 0 k → (0 ≡ countedNumber answer) × (new ≡ countIn answer cs)
+count-stored answer k cs new e h = (sym (ap countedNumber e), h ∙ sym (ap (λ a. countIn a cs) e))
+
+pub count-refused : (answer : Counted) (n : ℕ) (cs new : List ℕ) → answer ≡ counted.Refused n → new ≡ cond (leb n 5) cs (set cs 0 0) → (n ≡ countedNumber answer) × (new ≡ countIn answer cs)
+count-refused answer n cs new e h = (sym (ap countedNumber e), h ∙ sym (ap (λ a. countIn a cs) e))
+
+pub revolutions-left : (l : LeftLists) (answer : Counted) (n : ℕ) (cs₀ cs fs es : List ℕ) (ss ps : List Float) →
+    (n ≡ countedNumber answer) × (cs ≡ countIn answer cs₀) → listed answer fs es ss ps ≡ l → revolutionsTold n cs fs es ss ps ≡ revolutionsLeft l cs₀
+revolutions-left l answer n cs₀ cs fs es ss ps h e = (λ i. revolutionsTold (h .0 i) (h .1 i) fs es ss ps) ∙ ap (λ x. revolutionsLeft x cs₀) e
+
+pub residuals-left : (l : ListsLeft) (answer : Counted) (n : ℕ) (cs₀ cs : List ℕ) (outputs : Lists) (scratch : List Float) →
+    (n ≡ countedNumber answer) × (cs ≡ countIn answer cs₀) → listsLeft answer outputs scratch ≡ l → listsTold n cs outputs scratch ≡ residualsLeft l cs₀
+residuals-left l answer n cs₀ cs outputs scratch h e = (λ i. listsTold (h .0 i) (h .1 i) outputs scratch) ∙ ap (λ x. residualsLeft x cs₀) e
+
+-- ---- partials
+
+pub four-in : (out : List Float) (p : Partials) → length out ≡ 4 → set (set (set (set out 0 (p .v)) 1 (p .dr)) 2 (p .dlat)) 3 (p .dlon) ≡ cond (eqb (length out) 4) (fourOf p) out
+four-in out p h = simp (eq-eqb (length out) 4 h) (four-set out p p refl h)
+
+pub four-out : (out : List Float) (p : Partials) → (length out ≡ 4 → ⊥) → out ≡ cond (eqb (length out) 4) (fourOf p) out
+four-out out p h = simp (ne-eqb (length out) 4 h)
+
+pub partials-stored : (answer : PartialsAnswer) (p : Partials) (out new : List Float) → answer ≡ partials.Value p → new ≡ cond (eqb (length out) 4) (fourOf p) out → (0 ≡ partialsNumber answer) × (new ≡ partialsIn answer out)
+partials-stored answer p out new e h = (sym (ap partialsNumber e), h ∙ sym (ap (λ a. partialsIn a out) e))
+
+pub partials-refused : (answer : PartialsAnswer) (n : ℕ) (out new : List Float) → answer ≡ partials.Refused n → new ≡ cond (leb n 5) out (cleared out) → (n ≡ partialsNumber answer) × (new ≡ partialsIn answer out)
+partials-refused answer n out new e h = (sym (ap partialsNumber e), h ∙ sym (ap (λ a. partialsIn a out) e))
+
+pub partials-left : (l : Left PartialsAnswer) (answer : PartialsAnswer) (n : ℕ) (out new scratch : List Float) →
+    (n ≡ partialsNumber answer) × (new ≡ partialsIn answer out) → left answer [] scratch ≡ l → left n (new ∷ []) scratch ≡ partialsLeft l out
+partials-left l answer n out new scratch h e = (λ i. left (h .0 i) (h .1 i ∷ []) scratch) ∙ ap (λ x. partialsLeft x out) e
+
+-- ---- the horizon
+
+pub horizon-none : (z : HorizonNode) → z ≡ node.Nothing → bits 0xBFF0000000000000 ≡ horizonNumber z
+horizon-none z e = sym (ap horizonNumber e)
+
+pub horizon-told : (z : Option Float) (h : HorizonNode) (r : Float) → r ≡ horizonNumber h → h ≡ horizonAnswer z → r ≡ horizonTold z
+horizon-told none h r e k = e ∙ ap horizonNumber k
+horizon-told (some z) h r e k = e ∙ ap horizonNumber k
+
+pub count-told : (z : Option Float) (h : HorizonNode) (times : List Float) (r : ℕ) → r ≡ countTo (horizonAt h) times → h ≡ horizonAnswer z → r ≡ countTo z times
+count-told none h times r e k = e ∙ ap (λ x. countTo (horizonAt x) times) k
+count-told (some z) h times r e k = e ∙ ap (λ x. countTo (horizonAt x) times) k

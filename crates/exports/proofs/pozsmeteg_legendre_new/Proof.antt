@@ -1,0 +1,12 @@
+use borrow.Author.Needs.{needs}
+use Rattle.exports.proofs.Answered.{outcome-left}
+use Rattle.exports.proofs.pozsmeteg_legendre_new.Statement.{statement}
+use Rattle.exports.proofs.pozsmeteg_legendre_new.Tie as tie
+
+returns : tie.Need-returns
+returns c = search (needs, outcome-left)
+
+pub pozsmeteg-legendre-new-spec : {M : Type 1} → statement M
+pozsmeteg-legendre-new-spec =
+    tie.close
+    (tie.spec (λ c κs. search needs) (λ c κs. search needs) (λ c. search needs) (λ c. search needs) (λ c. search needs) returns)

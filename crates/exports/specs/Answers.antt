@@ -1,0 +1,92 @@
+-- Answers told in numbers, for C: 0 for acceptance or document 01's refusal number, a count in the first place of a lent list. Assumes nothing.
+use Prim.Native.Nat.{ℕ}
+use mathlib.Core.Bool.{cond}
+use mathlib.Core.Option.{Option, none, some}
+use mathlib.Core.List.{List, [], _∷_}
+use lib.Dec.{leb, eqb}
+use lib.ListN.{length, set}
+use lib.Ieee.{Float}
+use Rattle.laws.specs.Floats.{bits}
+use Rattle.laws.specs.Loops.{cleared}
+use Rattle.slices.specs.Calls.{Left, left}
+use Rattle.slices.specs.declared.Outcome.{Outcome}
+use Rattle.slices.specs.declared.Outcome.the-variants as outcome
+use Rattle.slices.specs.declared.Counted.{Counted}
+use Rattle.slices.specs.declared.Counted.the-variants as counted
+use Rattle.fields.specs.declared.PartialsAnswer.{PartialsAnswer}
+use Rattle.fields.specs.declared.PartialsAnswer.the-variants as partials
+use Rattle.detrend.specs.Calls.{LeftLists}
+use Rattle.residuals.specs.Calls.{Lists, ListsLeft}
+use Rattle.horizon.specs.declared.kernel.HorizonNode.{HorizonNode}
+use Rattle.horizon.specs.declared.kernel.HorizonNode.the-variants as horizon
+use Rattle.exports.specs.Four.{fourOf}
+
+-- ---- an outcome
+
+abbrev pub outcomeNumber : Outcome → ℕ
+outcomeNumber outcome.Accepted = 0
+outcomeNumber (outcome.Refused n) = n
+
+abbrev pub outcomeLeft : Left Outcome → Left ℕ
+outcomeLeft l = left (outcomeNumber (l .answer)) (l .outputs) (l .scratch)
+
+-- ---- a count: like every output, unchanged after 1 to 5, 0 after 6 to 10
+
+abbrev pub countedNumber : Counted → ℕ
+countedNumber (counted.Counted k) = 0
+countedNumber (counted.Refused n) = n
+
+abbrev pub countIn : Counted → List ℕ → List ℕ
+countIn (counted.Counted k) cs = set cs 0 k
+countIn (counted.Refused n) cs = cond (leb n 5) cs (set cs 0 0)
+
+-- `revolutions`
+pub record RevolutionsTold : Type 0 where
+  pub number : ℕ
+  pub counts : List ℕ
+  pub firsts : List ℕ
+  pub ends : List ℕ
+  pub starts : List Float
+  pub periods : List Float
+
+abbrev pub revolutionsTold : ℕ → List ℕ → List ℕ → List ℕ → List Float → List Float → RevolutionsTold
+revolutionsTold n cs fs es ss ps = record { number = n; counts = cs; firsts = fs; ends = es; starts = ss; periods = ps }
+
+abbrev pub revolutionsLeft : LeftLists → List ℕ → RevolutionsTold
+revolutionsLeft l cs = revolutionsTold (countedNumber (l .answer)) (countIn (l .answer) cs) (l .firsts) (l .ends) (l .starts) (l .periods)
+
+-- `residuals`
+pub record ListsTold : Type 0 where
+  pub number : ℕ
+  pub counts : List ℕ
+  pub outputs : Lists
+  pub scratch : List Float
+
+abbrev pub listsTold : ℕ → List ℕ → Lists → List Float → ListsTold
+listsTold n cs outputs scratch = record { number = n; counts = cs; outputs = outputs; scratch = scratch }
+
+abbrev pub residualsLeft : ListsLeft → List ℕ → ListsTold
+residualsLeft l cs = listsTold (countedNumber (l .answer)) (countIn (l .answer) cs) (l .outputs) (l .scratch)
+
+-- ---- the partials, in a list of four
+
+abbrev pub partialsNumber : PartialsAnswer → ℕ
+partialsNumber (partials.Value p) = 0
+partialsNumber (partials.Refused n) = n
+
+abbrev pub partialsIn : PartialsAnswer → List Float → List Float
+partialsIn (partials.Value p) out = cond (eqb (length out) 4) (fourOf p) out
+partialsIn (partials.Refused n) out = cond (leb n 5) out (cleared out)
+
+abbrev pub partialsLeft : Left PartialsAnswer → List Float → Left ℕ
+partialsLeft l out = left (partialsNumber (l .answer)) (partialsIn (l .answer) out ∷ []) (l .scratch)
+
+-- ---- the horizon's time, -1.0 without one
+
+abbrev pub horizonTold : Option Float → Float
+horizonTold none = bits 0xBFF0000000000000
+horizonTold (some z) = z
+
+abbrev pub horizonNumber : HorizonNode → Float
+horizonNumber horizon.Nothing = bits 0xBFF0000000000000
+horizonNumber (horizon.At z) = z

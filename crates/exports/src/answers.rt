@@ -1,0 +1,106 @@
+// Answers told in numbers: 0 for acceptance, or the refusal's number; counts in the first place of a lent list.
+ghost use mathlib.Core.Path.{_≡_};
+ghost use mathlib.Core.Bool.{cond};
+ghost use lib.Dec.{leb, eqb};
+ghost use lib.ListN.{length, set};
+ghost use Rattle.laws.specs.Loops.{cleared};
+ghost use Rattle.exports.specs.Four.{fourOf};
+ghost use Rattle.exports.specs.Told.{toldOf};
+ghost use Rattle.exports.specs.Answers.{outcomeNumber, countedNumber, countIn, partialsNumber, partialsIn, horizonNumber};
+
+// The rms, or the refusal's number below zero.
+pub fn told(answer: fit::kernel::Fitted) -> f64
+    ensures { λ r. ⌜ r ≡ toldOf answer ⌝ }
+{
+    match answer {
+        fit::kernel::Fitted::Fitted(rms) => rms,
+        fit::kernel::Fitted::Refused(n) => 0.0 - std::num::nearest_u64_to_f64(n as u64),
+    }
+}
+
+pub fn number(outcome: slices::Outcome) -> u8
+    ensures { λ r. ⌜ r ≡ outcomeNumber outcome ⌝ }
+{
+    match outcome {
+        slices::Outcome::Accepted => 0,
+        slices::Outcome::Refused(n) => n,
+    }
+}
+
+fn put(counts: &mut [usize], k: usize)
+    ensures { λ _. ⌜ now (counts .exit) ≡ set (now (counts .entry)) 0 k ⌝ }
+{
+    if 0 < counts.len() {
+        counts[0] = k;
+    }
+}
+
+// 0 in the first place where the work was refused, nothing where it was not begun.
+fn put_none(counts: &mut [usize], n: u8)
+    ensures { λ _. ⌜ now (counts .exit) ≡ cond (leb n 5) (now (counts .entry)) (set (now (counts .entry)) 0 0) ⌝ }
+{
+    if n > 5 {
+        put(counts, 0);
+    }
+}
+
+pub fn store_count(answer: slices::Counted, counts: &mut [usize]) -> u8
+    ensures number { λ r. ⌜ r ≡ countedNumber answer ⌝ }
+    ensures places { λ _. ⌜ now (counts .exit) ≡ countIn answer (now (counts .entry)) ⌝ }
+{
+    match answer {
+        slices::Counted::Counted(k) => {
+            put(counts, k);
+            0
+        }
+        slices::Counted::Refused(n) => {
+            put_none(counts, n);
+            n
+        }
+    }
+}
+
+fn put_four(p: series::Partials, out: &mut [f64])
+    ensures { λ _. ⌜ now (out .exit) ≡ cond (eqb (length (now (out .entry))) 4) (fourOf p) (now (out .entry)) ⌝ }
+{
+    if out.len() == 4 {
+        out[0] = p.v;
+        out[1] = p.dr;
+        out[2] = p.dlat;
+        out[3] = p.dlon;
+    }
+}
+
+fn clear_after(out: &mut [f64], n: u8)
+    ensures { λ _. ⌜ now (out .exit) ≡ cond (leb n 5) (now (out .entry)) (cleared (now (out .entry))) ⌝ }
+{
+    if n > 5 {
+        slices::clear(out);
+    }
+}
+
+// The four numbers in a list of four.
+pub fn store_partials(answer: fields::PartialsAnswer, out: &mut [f64]) -> u8
+    ensures number { λ r. ⌜ r ≡ partialsNumber answer ⌝ }
+    ensures places { λ _. ⌜ now (out .exit) ≡ partialsIn answer (now (out .entry)) ⌝ }
+{
+    match answer {
+        fields::PartialsAnswer::Value(p) => {
+            put_four(p, out);
+            0
+        }
+        fields::PartialsAnswer::Refused(n) => {
+            clear_after(out, n);
+            n
+        }
+    }
+}
+
+pub fn horizon_time(z: horizon::kernel::HorizonNode) -> f64
+    ensures { λ r. ⌜ r ≡ horizonNumber z ⌝ }
+{
+    match z {
+        horizon::kernel::HorizonNode::At(t) => t,
+        horizon::kernel::HorizonNode::Nothing => -1.0,
+    }
+}
