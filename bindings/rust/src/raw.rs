@@ -61,7 +61,29 @@ mod linked {
     }
 }
 
-pub use linked::{pozsmeteg_arcsine as arcsine, pozsmeteg_arctangent as arctangent, pozsmeteg_cosine as cosine, pozsmeteg_power as power, pozsmeteg_root as root, pozsmeteg_sine as sine};
+pub fn root(x: f64) -> f64 {
+    linked::pozsmeteg_root(x)
+}
+
+pub fn sine(x: f64) -> f64 {
+    linked::pozsmeteg_sine(x)
+}
+
+pub fn cosine(x: f64) -> f64 {
+    linked::pozsmeteg_cosine(x)
+}
+
+pub fn arctangent(y: f64, x: f64) -> f64 {
+    linked::pozsmeteg_arctangent(y, x)
+}
+
+pub fn arcsine(v: f64) -> f64 {
+    linked::pozsmeteg_arcsine(v)
+}
+
+pub fn power(a: f64, n: u32, c: f64) -> f64 {
+    linked::pozsmeteg_power(a, n, c)
+}
 
 pub fn prepare(degree: usize, work: &mut [f64]) {
     unsafe { linked::pozsmeteg_prepare(degree, work.as_mut_ptr(), work.len()) }

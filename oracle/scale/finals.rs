@@ -1,0 +1,81 @@
+// Horizon, final count and final entries: ends of lists at and beside 1,804 s after a node, empty lists, runs that end at and beside
+// 3.0 s before the horizon.
+use crate::generate::uni;
+use crate::lent::rising_times;
+use crate::source::Rng;
+use crate::submission::{FieldData, Submission};
+use crate::tally::Tally;
+use crate::whole::{final_count, horizon};
+use pozsmeteg::raw;
+
+/// Where a list ends: beside a node's reach, or anywhere.
+fn last(random: &mut Rng, nodes: &[f64]) -> f64 {
+    if nodes.is_empty() { return 1e4 * uni(random) }
+    let z = nodes[random.below(nodes.len())] + 1804.0;
+    match random.below(5) { 0 => z.next_down(), 1 => z.next_up(), 2 => z, 3 => z.ceil(), _ => z + 4e3 * (uni(random) - 0.3) }
+}
+
+fn submission(random: &mut Rng) -> (Submission, Vec<f64>) {
+    let count = [0, 1, 2, 5, 64][random.below(5)];
+    let mut t = 3e3 * uni(random);
+    let nodes: Vec<f64> = (0..count).map(|_| { t += if random.below(3) == 0 { 0.3 } else { 50.0 + 6e3 * uni(random) }; if random.below(2) == 0 { t } else { t.floor() } }).collect();
+    let mut nodes = nodes;
+    nodes.dedup();
+    let none = || FieldData { gm: 0.0, radius: 0.0, c: vec![], s: vec![] };
+    let mut s = Submission { n: 2, stat: none(), fields: vec![], states: [vec![], vec![]], acc: [vec![], vec![]], nodes, obs: vec![] };
+    let far = random.below(3) > 0;
+    let mut end = |random: &mut Rng, s: &Submission| if random.below(60) == 0 { None } else if far { Some(1e6) } else { Some(last(random, &s.nodes).max(0.0)) };
+    for i in 0..2 {
+        if let Some(t) = end(random, &s) { s.states[i] = vec![(0, [0.0; 6]), (t as i64, [0.0; 6])]; }
+        if let Some(t) = end(random, &s) { s.acc[i] = vec![(t as i64, 0.0)]; }
+    }
+    if let Some(t) = end(random, &s) { s.fields = vec![(0.0, none()), (t, none())]; }
+    if let Some(t) = end(random, &s) { s.obs = vec![(t, 0.0, 0)]; }
+    // one list decides where all others go far
+    if far {
+        let t = last(random, &s.nodes).max(0.0);
+        match random.below(6) {
+            0 => s.states[0] = vec![(t as i64, [0.0; 6])],
+            1 => s.states[1] = vec![(t as i64, [0.0; 6])],
+            2 => s.acc[0] = vec![(t as i64, 0.0)],
+            3 => s.acc[1] = vec![(t as i64, 0.0)],
+            4 => s.fields = vec![(t, none())],
+            _ => s.obs = vec![(t, 0.0, 0)],
+        }
+    }
+    // kept epochs: many up to a node, the last ones beside 3.0 s before it
+    let count = [0, 1, 30, 400][random.below(4)];
+    let mut kept = rising_times(random, count);
+    if let (Some(z), true) = (horizon(&s), random.below(3) > 0) {
+        kept = kept.iter().map(|t| t - kept[0]).filter(|t| *t < z - 5.0).collect();
+        let e = z - 3.0;
+        kept.push(match random.below(4) { 0 => e, 1 => e.next_down(), 2 => e.next_up(), _ => z - 4.0 });
+        if kept[0] < 0.0 { kept.clear() }
+    }
+    (s, kept)
+}
+
+pub fn compare(tally: &mut Tally, rounds: u64) {
+    tally.begin("horizon and F");
+    let (mut some, mut all) = (0, 0);
+    for case in 0..10 * rounds {
+        let mut random = tally.random(case);
+        let (s, kept) = submission(&mut random);
+        let keys = |list: &[(i64, [f64; 6])]| list.iter().map(|r| r.0).collect::<Vec<i64>>();
+        let (c, d) = (keys(&s.states[0]), keys(&s.states[1]));
+        let (ca, da): (Vec<i64>, Vec<i64>) = (s.acc[0].iter().map(|r| r.0).collect(), s.acc[1].iter().map(|r| r.0).collect());
+        let (fields, observed): (Vec<f64>, Vec<f64>) = (s.fields.iter().map(|f| f.0).collect(), s.obs.iter().map(|o| o.0).collect());
+        let reach = raw::Reach { nodes: &s.nodes, c: &c, d: &d, c_acc: &ca, d_acc: &da, fields: &fields, observed: &observed };
+        let (z, f) = (horizon(&s), final_count(&kept, horizon(&s)));
+        some += z.is_some() as u64;
+        all += (f > 0) as u64;
+        let told = raw::horizon(reach);
+        tally.judge(told.to_bits() == z.unwrap_or(-1.0).to_bits(), || format!("case {case}: horizon {told}, expected {z:?}"));
+        let counted = raw::final_count(reach, &kept);
+        tally.judge(counted == f, || format!("case {case}: F {counted}, expected {f}"));
+        let count = [f, kept.len(), kept.len() + 1, usize::MAX][random.below(4)];
+        let part = raw::final_entries(&kept, count);
+        tally.judge(part == if count <= kept.len() { count } else { 0 }, || format!("case {case}: a part of {part} for {count} of {}", kept.len()));
+    }
+    tally.end(&format!("a horizon in {some}, F above 0 in {all}"));
+}

@@ -1,0 +1,125 @@
+// Single fits: short and long arcs, whole, fractional and negative starts, gaps in the states, the edges of the fields, each cause of
+// refusal, 5,302 steps and one more, 200,000 keys and one more.
+use crate::elementary::sine_cosine;
+use crate::epochs::{Fields, Rows, TOP};
+use crate::fieldlists::rising;
+use crate::generate::{gauss, rk1, uni};
+use crate::lent::*;
+use crate::source::{Arc, GM_E, OMEGA, Rng, add, fictitious, j2_gravity};
+use crate::tally::Tally;
+use crate::whole::single_fit;
+use pozsmeteg::raw;
+
+struct Asked {
+    fields: Fields,
+    states: Rows,
+    arc: raw::Arc,
+    places: usize,
+    scratch: usize,
+}
+
+/// A low orbit under point mass and J2 with noise, some seconds left out.
+fn orbit(random: &mut Rng, first: i64, seconds: usize, gaps: usize) -> Rows {
+    let radius = 6.871e6;
+    let speed = (GM_E / radius).sqrt();
+    let ((su, cu), (si, ci)) = (sine_cosine(6.0 * uni(random)), sine_cosine(1.55));
+    let mut x = [radius * cu, radius * su * ci, radius * su * si];
+    let mut v = [-speed * su + OMEGA * x[1], speed * cu * ci - OMEGA * x[0], speed * cu * si];
+    let mut out = Rows { keys: vec![], values: vec![], width: 6 };
+    for k in 0..seconds as i64 {
+        let key = first + k;
+        if key >= 0 && key <= TOP && (gaps == 0 || random.below(gaps) > 0) {
+            out.keys.push(key);
+            out.values.extend(x.iter().chain(&v).enumerate().map(|(i, w)| w + 0.01 * if i < 3 { 1.0 } else { 1e-3 } * gauss(random)));
+        }
+        (x, v) = rk1(1.0, key as f64, x, v, &mut |_, x, v| add(j2_gravity(x), fictitious(x, v)));
+    }
+    out
+}
+
+impl Asked {
+    fn new(random: &mut Rng) -> Asked {
+        let n = match random.below(60) { 0 => 20, _ => 2 + random.below(5) };
+        let steps = match random.below(200) { 0 => 5_302, 1..20 => random.below(12), _ => 300 + random.below(400) };
+        let base = match random.below(8) { 0 => -(random.below(20) as i64), 1 => TOP - 2 * steps as i64 - random.below(4) as i64, _ => random.below(1 << 30) as i64 };
+        let t0 = base as f64 + match random.below(3) { 0 => 0.0, 1 => uni(random), _ => 2.0f64.powi(-20) };
+        let period = match random.below(12) { 0 => 0.0, 1 => -700.0, 2 => 1e-6, _ => 2.0 * steps as f64 * (0.5 + 0.3 * uni(random)) };
+        let last = t0 + 2.0 * steps as f64;
+        let mut times = vec![(t0 - 10.0).max(0.0), t0 + 0.4 * (last - t0), last + 10.0];
+        match random.below(12) {
+            0 => times[0] = t0.max(0.0),
+            1 => times[2] = last,
+            2 => times[2] = last.next_up(),
+            3 => times[0] = t0.next_up().max(0.0),
+            _ => (),
+        }
+        times.iter_mut().for_each(|t| *t = t.clamp(0.0, TOP as f64));
+        times.dedup();
+        let fields = Fields::new(random, n, times);
+        let gaps = [0, 0, 2, 4, 20][random.below(5)];
+        let mut states = orbit(random, base, 2 * steps + 2, gaps);
+        if random.below(12) == 0 {
+            // about as many positions as a fit needs
+            let wanted = (steps / 10 + random.below(3)).saturating_sub(1);
+            let every: Vec<i64> = (0..=steps).step_by(5).map(|k| (t0 + 2.0 * k as f64) as i64).take(wanted).collect();
+            let at: Vec<usize> = (0..states.keys.len()).filter(|i| every.contains(&states.keys[*i])).collect();
+            states.values = at.iter().flat_map(|i| states.values[6 * i..6 * i + 6].to_vec()).collect();
+            states.keys = at.iter().map(|i| states.keys[*i]).collect();
+        }
+        let arc = raw::Arc { t0, steps, node: (t0 + 100.0 * uni(random)).clamp(0.0, TOP as f64), period };
+        let scratch = scratch_length(random, fields.least_scratch());
+        Asked { fields, states, arc, places: 6 * (steps + 1), scratch }
+    }
+
+    fn damage(&mut self, random: &mut Rng) {
+        let (bad, time) = (strange(random), edge_time(random));
+        match random.below(12) {
+            0..=3 => self.fields.damage(random),
+            4..=6 => self.states.damage(random),
+            7 => self.places = (self.places + 1).saturating_sub(2 * random.below(2)),
+            8 => self.arc.t0 = [bad, time, -2147483648.0, (-2147483648.0f64).next_down(), 2147483648.0f64.next_up()][random.below(5)],
+            9 => self.arc.node = if random.below(2) == 0 { bad } else { time },
+            10 => self.arc.period = bad,
+            _ => match random.below(3) {
+                0 => { self.arc.steps = 5_303; self.places = 6 * 5_304 }
+                1 => self.arc.steps = usize::MAX,
+                _ => { let n = 200_000 + random.below(2); self.states = Rows { keys: (0..n as i64).collect(), values: vec![1.0; 6 * n], width: 6 } }
+            },
+        }
+    }
+
+    fn refusal(&self) -> u8 {
+        let (f, s, arc) = (&self.fields, &self.states, self.arc);
+        if !f.degree_fine() { return 1 }
+        if !f.counted() || arc.steps > 5_302 || s.keys.len() > 200_000 { return 2 }
+        if !f.fits() || !s.fits() || self.places != 6 * (arc.steps + 1) || self.scratch < f.least_scratch() { return 3 }
+        let start = (-2147483648.0..=2147483648.0).contains(&arc.t0);
+        if !f.fine() || !s.fine() || !start || !(0.0..=2147483648.0).contains(&arc.node) || !arc.period.is_finite() { return 4 }
+        if !rising(&f.times) || !rising(&s.keys) { return 5 }
+        0
+    }
+}
+
+pub fn compare(tally: &mut Tally, rounds: u64) {
+    tally.begin("fit_orbit");
+    let mut numbers = [0u64; 11];
+    for case in 0..rounds {
+        let mut random = tally.random(case);
+        let mut asked = Asked::new(&mut random);
+        for _ in 0..[0, 0, 0, 1, 1, 2][random.below(6)] { asked.damage(&mut random) }
+        let (mut out, mut scratch) = (Lent::new(&mut random, asked.places), Lent::new(&mut random, asked.scratch));
+        let told = raw::fit_orbit(asked.fields.lent(), asked.states.lent(), asked.arc, &mut out.now, &mut scratch.now);
+        let early = asked.refusal();
+        let raw::Arc { t0, steps, node, period } = asked.arc;
+        let fit = if early != 0 { Err(early) } else { single_fit(&asked.fields.source(), &asked.states.states(), Arc { t0, steps, node, period }) };
+        let (number, states, rms) = match fit {
+            Ok((states, rms)) => (0, states.iter().flat_map(|s| [s.0, s.1].concat()).collect(), rms),
+            Err(n) => (n, vec![], -(n as f64)),
+        };
+        numbers[number as usize] += 1;
+        let equal = told.to_bits() == rms.to_bits() && out.settled(number, &states) && scratch.left(number);
+        tally.judge(equal, || format!("case {case}: degree {}, {steps} steps, t0 {t0}, told {told}, expected {rms}", asked.fields.degree));
+    }
+    let kinds: Vec<String> = numbers.iter().enumerate().filter(|n| *n.1 > 0).map(|(k, n)| format!("{k}: {n}")).collect();
+    tally.end(&format!("answers {}", kinds.join(", ")));
+}
