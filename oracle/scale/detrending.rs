@@ -34,7 +34,6 @@ fn parting(random: &mut Rng, times: &[f64]) -> Vec<f64> {
 
 fn listing(tally: &mut Tally, rounds: u64) {
     tally.begin("revolutions");
-    let mut refused = 0;
     for case in 0..2 * rounds {
         let mut random = tally.random(case);
         let mut times = samples(&mut random);
@@ -57,7 +56,7 @@ fn listing(tally: &mut Tally, rounds: u64) {
         let number = if times.len() > 100_000 || nodes.len() > 64 { 2 } else if lengths != [k; 4] { 3 }
             else if !times.iter().chain(&nodes).all(|t| is_time(*t)) { 4 } else if !rising(&times) || !rising(&nodes) { 5 } else { 0 };
         let found = if number == 0 { revolutions(&times, &nodes) } else { vec![] };
-        refused += (number != 0) as u64;
+        tally.answered(number);
         let whole = |f: &dyn Fn(usize) -> usize| (0..k).map(|i| if i < found.len() { f(i) } else { 0 }).collect::<Vec<usize>>();
         let broken = |f: &dyn Fn(usize) -> f64| (0..k).map(|i| if i < found.len() { f(i) } else { 0.0 }).collect::<Vec<f64>>();
         let equal = told == number && starts.settled(number, &broken(&|i| found[i].1)) && periods.settled(number, &broken(&|i| found[i].2))
@@ -65,7 +64,7 @@ fn listing(tally: &mut Tally, rounds: u64) {
             else { firsts == vec![77; lengths[0]] && ends == vec![88; lengths[1]] && counts == [99, 99] };
         tally.judge(equal, || format!("case {case}: {} times, {} nodes, told {told}, expected {number}", times.len(), nodes.len()));
     }
-    tally.end(&format!("{refused} of them refused"));
+    tally.end("");
 }
 
 /// Ranges of any kind: of revolutions, empty, overlapping, short.
@@ -83,7 +82,6 @@ fn ranges(random: &mut Rng, n: usize) -> Vec<(usize, usize, f64, f64)> {
 
 fn removing(tally: &mut Tally, rounds: u64) {
     tally.begin("detrend");
-    let mut refused = 0;
     for case in 0..2 * rounds {
         let mut random = tally.random(case);
         let mut times = samples(&mut random);
@@ -128,11 +126,11 @@ fn removing(tally: &mut Tally, rounds: u64) {
             detrend(&times, &mut detrended, &revolutions);
         }
         let number = if early != 0 { early } else if finite(&detrended) { 0 } else { 10 };
-        refused += (number != 0) as u64;
+        tally.answered(number);
         let equal = told == number && out.settled(number, &detrended) && scratch.left(number);
         tally.judge(equal, || format!("case {case}: {n} times, {k} ranges, told {told}, expected {number}"));
     }
-    tally.end(&format!("{refused} of them refused"));
+    tally.end("");
 }
 
 pub fn compare(tally: &mut Tally, rounds: u64) {

@@ -218,7 +218,7 @@ fn fine(e: &Epoch) -> bool {
 
 pub fn compare(tally: &mut Tally, rounds: u64) {
     tally.begin("residuals");
-    let (mut refused, mut records) = (0, 0);
+    let mut records = 0;
     for case in 0..rounds {
         let mut random = tally.random(case);
         let mut asked = Asked::new(&mut random);
@@ -237,7 +237,7 @@ pub fn compare(tally: &mut Tally, rounds: u64) {
         let early = asked.refusal();
         let kept = if early == 0 { asked.records() } else { vec![] };
         let number = if early != 0 { early } else if kept.iter().all(fine) { 0 } else { 10 };
-        refused += (number != 0) as u64;
+        tally.answered(number);
         records += kept.len();
         let padded = |width: usize, part: &dyn Fn(&Epoch) -> Vec<f64>| { let mut out: Vec<f64> = kept.iter().flat_map(|e| part(e)).collect(); out.resize(width * asked.obs.len(), 0.0); out };
         let equal = told == number && scratch.left(number)
@@ -246,5 +246,5 @@ pub fn compare(tally: &mut Tally, rounds: u64) {
             && counts == match number { 0 => [kept.len(), 99], 1..=5 => [99, 99], _ => [0, 99] };
         tally.judge(equal, || format!("case {case}: degree {}, {} observations, told {told}, expected {number}, count {}, expected {}", asked.fields.degree, asked.obs.len(), counts[0], kept.len()));
     }
-    tally.end(&format!("{refused} of them refused, {records} records"));
+    tally.end(&format!("{records} records"));
 }

@@ -18,6 +18,8 @@ mod finals;
 mod fits;
 mod lent;
 mod numbers;
+#[cfg(feature = "sheet")]
+mod sheets;
 mod tally;
 
 fn main() {
@@ -36,5 +38,11 @@ fn main() {
     finals::compare(&mut tally, calls);
     epochs::compare(&mut tally, calls);
     fits::compare(&mut tally, calls);
+    #[cfg(feature = "sheet")]
+    {
+        sheets::sheets(&mut tally, number("sheets", 20));
+        sheets::pairs(&mut tally, number("pairs", 20), false);
+        sheets::pairs(&mut tally, number("alone", 20), true);
+    }
     tally.summary();
 }

@@ -12,15 +12,16 @@ pub struct Tally {
     begun: Instant,
     shown: Instant,
     from: u64,
+    answers: [u64; 11],
 }
 
 impl Tally {
     pub fn new(seed: u64) -> Tally {
-        Tally { seed, compared: 0, differed: 0, kind: String::new(), begun: Instant::now(), shown: Instant::now(), from: 0 }
+        Tally { seed, compared: 0, differed: 0, kind: String::new(), begun: Instant::now(), shown: Instant::now(), from: 0, answers: [0; 11] }
     }
 
     pub fn begin(&mut self, kind: &str) {
-        (self.kind, self.begun, self.from) = (kind.into(), Instant::now(), self.compared);
+        (self.kind, self.begun, self.from, self.answers) = (kind.into(), Instant::now(), self.compared, [0; 11]);
     }
 
     /// The generator of one case of this kind.
@@ -41,6 +42,11 @@ impl Tally {
         self.show();
     }
 
+    /// The number that a call answered, 0 for acceptance.
+    pub fn answered(&mut self, number: u8) {
+        self.answers[number as usize] += 1;
+    }
+
     fn show(&mut self) {
         if self.shown.elapsed().as_millis() > 500 && std::io::stderr().is_terminal() {
             self.shown = Instant::now();
@@ -55,8 +61,12 @@ impl Tally {
         self.show();
     }
 
+    /// How many were compared, what was answered how often, and a note.
     pub fn end(&mut self, note: &str) {
-        println!("\r{:<24} {:>12} compared, {:.1} s{}{note}", self.kind, self.compared - self.from, self.begun.elapsed().as_secs_f64(), if note.is_empty() { "" } else { "; " });
+        let answers: Vec<String> = self.answers.iter().enumerate().filter(|a| *a.1 > 0).map(|(n, count)| format!(" {n}: {count}")).collect();
+        let answers = if answers.is_empty() { String::new() } else { format!("; answers{}", answers.join(",")) };
+        let note = if note.is_empty() { String::new() } else { format!("; {note}") };
+        println!("\r{:<24} {:>12} compared, {:.1} s{answers}{note}", self.kind, self.compared - self.from, self.begun.elapsed().as_secs_f64());
     }
 
     pub fn summary(&self) {

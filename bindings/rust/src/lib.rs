@@ -207,6 +207,32 @@ pub fn band_pass(times: &[f64], x: &[f64]) -> Result<Vec<f64>, Refusal> {
     Ok(out)
 }
 
+/// What the whole path publishes of the kept epochs, and how many of them are final.
+#[cfg(feature = "sheet")]
+#[derive(Clone, Debug, PartialEq)]
+pub struct Sheet {
+    pub times: Vec<f64>,
+    pub raws: Vec<f64>,
+    pub detrended: Vec<f64>,
+    pub passed: Vec<f64>,
+    pub final_count: usize,
+}
+
+/// The whole path: both satellites fitted between the nodes, residuals, detrending, band-pass, and the final count.
+#[cfg(feature = "sheet")]
+pub fn sheet(model: &Model, pair: Pair, nodes: &[f64], seen: Observations) -> Result<Sheet, Refusal> {
+    let m = seen.times.len();
+    let [mut times, mut raws, mut detrended, mut passed] = [(); 4].map(|_| vec![0.0; m]);
+    let mut counts = [0, 0];
+    let out = raw::Published { times: &mut times, raws: &mut raws, detrended: &mut detrended, passed: &mut passed };
+    let room = model.scratch() + 49_200 * nodes.len().min(64).saturating_sub(1) + 10 * m;
+    judged(raw::sheet(model.lent(), pair, nodes, seen, out, &mut counts, &mut vec![0.0; room]))?;
+    for list in [&mut times, &mut raws, &mut detrended, &mut passed] {
+        list.truncate(counts[0]);
+    }
+    Ok(Sheet { times, raws, detrended, passed, final_count: counts[1] })
+}
+
 /// The largest node that every list of an accepted submission reaches 1,804 s beyond.
 pub fn horizon(reach: Reach) -> Option<f64> {
     let z = raw::horizon(reach);

@@ -49,6 +49,16 @@ mod linked {
             outresiduals: FloatsMut, outresiduals_length: usize, outterms: *mut [f64; 5], outterms_length: usize, outmids: *mut [f64; 3], outmids_length: usize,
             outvels: *mut [f64; 3], outvels_length: usize, counts: *mut usize, counts_length: usize, scratch: FloatsMut, scratch_length: usize,
         ) -> u8;
+        #[cfg(feature = "sheet")]
+        pub fn pozsmeteg_sheet(
+            degree: usize, field: Floats, field_length: usize, a: Floats, a_length: usize, b: Floats, b_length: usize, times: Floats, times_length: usize,
+            added: Floats, added_length: usize, ckeys: *const i64, ckeys_length: usize, cstates: Floats, cstates_length: usize,
+            dkeys: *const i64, dkeys_length: usize, dstates: Floats, dstates_length: usize, cacckeys: *const i64, cacckeys_length: usize, caccs: Floats, caccs_length: usize,
+            dacckeys: *const i64, dacckeys_length: usize, daccs: Floats, daccs_length: usize, nodes: Floats, nodes_length: usize, obstimes: Floats, obstimes_length: usize,
+            obsvalues: Floats, obsvalues_length: usize, good: *const u8, good_length: usize, outtimes: FloatsMut, outtimes_length: usize, outraws: FloatsMut, outraws_length: usize,
+            outdetrended: FloatsMut, outdetrended_length: usize, outpassed: FloatsMut, outpassed_length: usize, counts: *mut usize, counts_length: usize,
+            scratch: FloatsMut, scratch_length: usize,
+        ) -> u8;
         pub fn pozsmeteg_horizon(
             nodes: Floats, nodes_length: usize, cstates: *const i64, cstates_length: usize, dstates: *const i64, dstates_length: usize, caccs: *const i64, caccs_length: usize,
             daccs: *const i64, daccs_length: usize, fields: Floats, fields_length: usize, observed: Floats, observed_length: usize,
@@ -210,6 +220,30 @@ pub fn residuals(model: Model, pair: Pair, seen: Observations, out: Records, cou
             seen.times.as_ptr(), seen.times.len(), seen.values.as_ptr(), seen.values.len(), seen.good.as_ptr(), seen.good.len(),
             out.times.as_mut_ptr(), out.times.len(), out.residuals.as_mut_ptr(), out.residuals.len(), out.terms.as_mut_ptr(), out.terms.len(),
             out.mids.as_mut_ptr(), out.mids.len(), out.vels.as_mut_ptr(), out.vels.len(), counts.as_mut_ptr(), counts.len(), scratch.as_mut_ptr(), scratch.len(),
+        )
+    }
+}
+
+/// The four published lists of the whole path.
+pub struct Published<'a> {
+    pub times: &'a mut [f64],
+    pub raws: &'a mut [f64],
+    pub detrended: &'a mut [f64],
+    pub passed: &'a mut [f64],
+}
+
+#[cfg(feature = "sheet")]
+pub fn sheet(model: Model, pair: Pair, nodes: &[f64], seen: Observations, out: Published, counts: &mut [usize], scratch: &mut [f64]) -> u8 {
+    let Model { degree, field, a, b, times, added } = model;
+    let Pair { c, d, c_acc, d_acc } = pair;
+    unsafe {
+        linked::pozsmeteg_sheet(
+            degree, field.as_ptr(), field.len(), a.as_ptr(), a.len(), b.as_ptr(), b.len(), times.as_ptr(), times.len(), added.as_ptr(), added.len(),
+            c.keys.as_ptr(), c.keys.len(), c.values.as_ptr(), c.values.len(), d.keys.as_ptr(), d.keys.len(), d.values.as_ptr(), d.values.len(),
+            c_acc.keys.as_ptr(), c_acc.keys.len(), c_acc.values.as_ptr(), c_acc.values.len(), d_acc.keys.as_ptr(), d_acc.keys.len(), d_acc.values.as_ptr(), d_acc.values.len(),
+            nodes.as_ptr(), nodes.len(), seen.times.as_ptr(), seen.times.len(), seen.values.as_ptr(), seen.values.len(), seen.good.as_ptr(), seen.good.len(),
+            out.times.as_mut_ptr(), out.times.len(), out.raws.as_mut_ptr(), out.raws.len(), out.detrended.as_mut_ptr(), out.detrended.len(),
+            out.passed.as_mut_ptr(), out.passed.len(), counts.as_mut_ptr(), counts.len(), scratch.as_mut_ptr(), scratch.len(),
         )
     }
 }
