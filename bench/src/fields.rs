@@ -1,15 +1,8 @@
 // Module 1: one evaluation of the partials, the tables lent and the work slice prepared.
 use crate::source::{Coefficients, Legendre, Rng, idx};
 use crate::timing::Bench;
+use pozsmeteg::raw;
 use std::hint::black_box;
-
-unsafe extern "C" {
-    fn pozsmeteg_prepare(degree: usize, work: *mut f64, length: usize);
-    fn pozsmeteg_partials_prepared(
-        degree: usize, gm: f64, radius: f64, a: *const f64, a_length: usize, b: *const f64, b_length: usize,
-        work: *const f64, work_length: usize, r: f64, lat: f64, lon: f64, out: *mut f64, out_length: usize,
-    );
-}
 
 const GM: f64 = 3.986004415e14;
 const RADIUS: f64 = 6378136.3;
@@ -29,25 +22,28 @@ fn field(n: usize, seed: u64) -> Coefficients {
 }
 
 pub fn works(bench: &mut Bench) {
-    for (n, count) in [(2, 2000), (60, 200), (180, 20)] {
+    let mut points = vec![];
+    for (n, count) in [(2, 2000), (20, 500), (60, 200), (180, 20)] {
         let f = field(n, 7);
         let l = idx(n, n) + 1;
         let tables = Legendre::new(n);
         let mut work = vec![0.0; 8 * l];
         work[..l].copy_from_slice(&f.c);
         work[l..2 * l].copy_from_slice(&f.s);
-        unsafe { pozsmeteg_prepare(n, work.as_mut_ptr(), work.len()) };
+        raw::prepare(n, &mut work);
         let places: Vec<(f64, f64, f64)> = [(0.3, 1.0), (-1.2, -3.0), (std::f64::consts::FRAC_PI_2, 100.0), (0.0, 0.0)].iter().map(|(lat, lon)| (6.878e6, *lat, *lon)).collect();
-        bench.compare(
+        let times = bench.compare(
             &format!("partials, N = {n}"),
             count,
             places.len(),
             &mut || places.iter().flat_map(|(r, lat, lon)| { let p = f.partials(black_box(*r), *lat, *lon); [p.v, p.dr, p.dlat, p.dlon] }).collect(),
             &mut || places.iter().flat_map(|(r, lat, lon)| {
                 let mut out = [0.0; 4];
-                unsafe { pozsmeteg_partials_prepared(n, GM, RADIUS, tables.a.as_ptr(), l, tables.b.as_ptr(), l, work.as_ptr(), work.len(), black_box(*r), *lat, *lon, out.as_mut_ptr(), 4) };
+                raw::partials_prepared(n, GM, RADIUS, &tables.a, &tables.b, &work, black_box(*r), *lat, *lon, &mut out);
                 out
             }).collect(),
         );
+        points.push((n as f64, times));
     }
+    bench.growth("partials in N", &points[1..]);
 }

@@ -1,4 +1,4 @@
-// Ours beside the Rust source in one program: equal bits are checked first, then both are timed.
+// bench [NAME...]: ours beside the Rust source in one program: equal bits are checked first, then both are timed.
 #![allow(dead_code)]
 mod elementary;
 mod generate;
@@ -13,8 +13,11 @@ include!("works.rs");
 fn main() {
     let mut bench = timing::Bench::new();
     println!("{:<28} {:>12} {:>12} {:>7}  {}", "work", "Rust", "ours", "ratio", "bits");
-    for work in WORKS {
-        work(&mut bench);
+    let named: Vec<String> = std::env::args().skip(1).collect();
+    for (name, work) in WORKS {
+        if named.is_empty() || named.iter().any(|n| n == name) {
+            work(&mut bench);
+        }
     }
     if bench.unequal > 0 {
         println!("{} works with unequal bits", bench.unequal);

@@ -2,15 +2,13 @@
 use crate::elementary::{arcsine, arctangent, power, sine_cosine};
 use crate::source::Rng;
 use crate::timing::Bench;
+use pozsmeteg::raw;
 use std::hint::black_box;
 
-unsafe extern "C" {
-    fn pozsmeteg_root(x: f64) -> f64;
-    fn pozsmeteg_sine(x: f64) -> f64;
-    fn pozsmeteg_cosine(x: f64) -> f64;
-    fn pozsmeteg_arctangent(y: f64, x: f64) -> f64;
-    fn pozsmeteg_arcsine(v: f64) -> f64;
-    fn pozsmeteg_power(a: f64, n: u32, c: f64) -> f64;
+// The machine's instruction behind a call, as ours is.
+#[inline(never)]
+extern "C" fn machine_root(x: f64) -> f64 {
+    x.sqrt()
 }
 
 fn each(xs: &[f64], f: impl Fn(f64) -> f64) -> Vec<f64> {
@@ -23,10 +21,11 @@ pub fn works(bench: &mut Bench) {
     let units: Vec<f64> = (0..1000).map(|_| 2.0 * unit() - 1.0).collect();
     let angles: Vec<f64> = units.iter().map(|x| 50.0 * x).collect();
     let sizes: Vec<f64> = units.iter().map(|x| 7e6 * x.abs()).collect();
-    bench.compare("root (machine's in Rust)", 200, 1000, &mut || each(&sizes, |x| x.sqrt()), &mut || each(&sizes, |x| unsafe { pozsmeteg_root(x) }));
-    bench.compare("sine", 200, 1000, &mut || each(&angles, |x| sine_cosine(x).0), &mut || each(&angles, |x| unsafe { pozsmeteg_sine(x) }));
-    bench.compare("cosine", 200, 1000, &mut || each(&angles, |x| sine_cosine(x).1), &mut || each(&angles, |x| unsafe { pozsmeteg_cosine(x) }));
-    bench.compare("arctangent", 200, 1000, &mut || each(&units, |x| arctangent(x, 0.3)), &mut || each(&units, |x| unsafe { pozsmeteg_arctangent(x, 0.3) }));
-    bench.compare("arcsine", 200, 1000, &mut || each(&units, arcsine), &mut || each(&units, |x| unsafe { pozsmeteg_arcsine(x) }));
-    bench.compare("power, n = 20", 200, 1000, &mut || each(&units, |x| power(x, black_box(20), 1.0)), &mut || each(&units, |x| unsafe { pozsmeteg_power(x, black_box(20), 1.0) }));
+    bench.compare("root, inlined instruction", 200, 1000, &mut || each(&sizes, |x| x.sqrt()), &mut || each(&sizes, |x| raw::root(x)));
+    bench.compare("root, behind a call", 200, 1000, &mut || each(&sizes, |x| black_box(machine_root as extern "C" fn(f64) -> f64)(x)), &mut || each(&sizes, |x| raw::root(x)));
+    bench.compare("sine", 200, 1000, &mut || each(&angles, |x| sine_cosine(x).0), &mut || each(&angles, |x| raw::sine(x)));
+    bench.compare("cosine", 200, 1000, &mut || each(&angles, |x| sine_cosine(x).1), &mut || each(&angles, |x| raw::cosine(x)));
+    bench.compare("arctangent", 200, 1000, &mut || each(&units, |x| arctangent(x, 0.3)), &mut || each(&units, |x| raw::arctangent(x, 0.3)));
+    bench.compare("arcsine", 200, 1000, &mut || each(&units, arcsine), &mut || each(&units, |x| raw::arcsine(x)));
+    bench.compare("power, n = 20", 200, 1000, &mut || each(&units, |x| power(x, black_box(20), 1.0)), &mut || each(&units, |x| raw::power(x, black_box(20), 1.0)));
 }

@@ -4,15 +4,7 @@ use crate::generate::{gauss, random_field, rk1, uni};
 use crate::source::*;
 use crate::submission::{FieldData, coefficients};
 use crate::timing::Bench;
-
-unsafe extern "C" {
-    fn pozsmeteg_fit_orbit(
-        degree: usize, field: *const f64, field_length: usize, a: *const f64, a_length: usize, b: *const f64, b_length: usize,
-        times: *const f64, times_length: usize, added: *const f64, added_length: usize, keys: *const i64, keys_length: usize,
-        states: *const f64, states_length: usize, t0: f64, steps: usize, node: f64, period: f64,
-        out: *mut f64, out_length: usize, scratch: *mut f64, scratch_length: usize,
-    ) -> f64;
-}
+use pozsmeteg::raw;
 
 fn flat(f: &FieldData) -> Vec<f64> {
     [vec![f.gm, f.radius], f.c.clone(), f.s.clone()].concat()
@@ -34,7 +26,7 @@ fn orbit(r: &mut Rng, first: i64, seconds: i64) -> (Vec<i64>, Vec<f64>) {
     (keys, states)
 }
 
-fn window(bench: &mut Bench, n: usize, runs: usize) {
+fn window(bench: &mut Bench, n: usize, runs: usize) -> (f64, f64) {
     let mut r = Rng::new(3);
     let a = 12_345.0 + uni(&mut r);
     let b = a + 5_650.0 + uni(&mut r);
@@ -62,21 +54,16 @@ fn window(bench: &mut Bench, n: usize, runs: usize) {
         },
         &mut || {
             let mut out = vec![0.0; 6 * (arc.steps + 1)];
-            let rms = unsafe {
-                pozsmeteg_fit_orbit(
-                    n, field.as_ptr(), field.len(), tables.a.as_ptr(), l, tables.b.as_ptr(), l, times.as_ptr(), times.len(), added.as_ptr(), added.len(),
-                    keys.as_ptr(), keys.len(), states.as_ptr(), states.len(), arc.t0, arc.steps, arc.node, arc.period,
-                    out.as_mut_ptr(), out.len(), scratch.as_mut_ptr(), scratch.len(),
-                )
-            };
+            let lent = raw::Model { degree: n, field: &field, a: &tables.a, b: &tables.b, times: &times, added: &added };
+            let asked = raw::Arc { t0: arc.t0, steps: arc.steps, node: arc.node, period: arc.period };
+            let rms = raw::fit_orbit(lent, raw::Keyed { keys: &keys, values: &states }, asked, &mut out, &mut scratch);
             out.push(rms);
             out
         },
-    );
+    )
 }
 
 pub fn works(bench: &mut Bench) {
-    for (n, runs) in [(2, 3), (20, 3), (60, 2), (180, 1)] {
-        window(bench, n, runs);
-    }
+    let points: Vec<_> = [(2, 3), (20, 3), (60, 2), (180, 1)].iter().map(|(n, runs)| (*n as f64, window(bench, *n, *runs))).collect();
+    bench.growth("fitted window in N", &points[1..]);
 }

@@ -52,8 +52,8 @@ impl Bench {
         Bench { unequal: 0 }
     }
 
-    /// One work: `rust` and `ours` each give the numbers that they hand out; `count` calls make a batch, and a call does `each` works.
-    pub fn compare(&mut self, name: &str, count: usize, each: usize, rust: &mut dyn FnMut() -> Vec<f64>, ours: &mut dyn FnMut() -> Vec<f64>) {
+    /// One work, whose two times are answered: `rust` and `ours` each give the numbers that they hand out; `count` calls make a batch, and a call does `each` works.
+    pub fn compare(&mut self, name: &str, count: usize, each: usize, rust: &mut dyn FnMut() -> Vec<f64>, ours: &mut dyn FnMut() -> Vec<f64>) -> (f64, f64) {
         let (a, b) = (rust(), ours());
         let (mut first, mut second) = (f64::INFINITY, f64::INFINITY);
         for _ in 0..7 {
@@ -61,10 +61,11 @@ impl Bench {
             second = second.min(batch(count, &mut || { black_box(ours()); }) / each as f64);
         }
         self.told(name, first, second, &a, &b);
+        (first, second)
     }
 
     /// One long work: the best of so many runs of each, whose last are compared.
-    pub fn compare_runs(&mut self, name: &str, runs: usize, rust: &mut dyn FnMut() -> Vec<f64>, ours: &mut dyn FnMut() -> Vec<f64>) {
+    pub fn compare_runs(&mut self, name: &str, runs: usize, rust: &mut dyn FnMut() -> Vec<f64>, ours: &mut dyn FnMut() -> Vec<f64>) -> (f64, f64) {
         let (mut first, mut second) = (f64::INFINITY, f64::INFINITY);
         let (mut a, mut b) = (vec![], vec![]);
         for _ in 0..runs {
@@ -72,6 +73,19 @@ impl Bench {
             second = second.min(batch(1, &mut || b = ours()));
         }
         self.told(name, first, second, &a, &b);
+        (first, second)
+    }
+
+    /// By which power of its size the time grows, fitted to the logarithms by least squares: sizes with the Rust's time and ours.
+    pub fn growth(&self, name: &str, points: &[(f64, (f64, f64))]) {
+        let slope = |time: &dyn Fn(&(f64, f64)) -> f64| {
+            let logs: Vec<(f64, f64)> = points.iter().map(|(size, times)| (size.ln(), time(times).ln())).collect();
+            let n = logs.len() as f64;
+            let (x, y) = (logs.iter().map(|p| p.0).sum::<f64>() / n, logs.iter().map(|p| p.1).sum::<f64>() / n);
+            logs.iter().map(|p| (p.0 - x) * (p.1 - y)).sum::<f64>() / logs.iter().map(|p| (p.0 - x) * (p.0 - x)).sum::<f64>()
+        };
+        let sizes: Vec<String> = points.iter().map(|p| format!("{}", p.0)).collect();
+        println!("{:<28} {:>12.2} {:>12.2}          at {}", format!("exponent, {name}"), slope(&|t| t.0), slope(&|t| t.1), sizes.join(", "));
     }
 
     fn told(&mut self, name: &str, first: f64, second: f64, a: &[f64], b: &[f64]) {

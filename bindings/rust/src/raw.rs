@@ -71,26 +71,32 @@ mod linked {
     }
 }
 
+#[inline]
 pub fn root(x: f64) -> f64 {
     linked::pozsmeteg_root(x)
 }
 
+#[inline]
 pub fn sine(x: f64) -> f64 {
     linked::pozsmeteg_sine(x)
 }
 
+#[inline]
 pub fn cosine(x: f64) -> f64 {
     linked::pozsmeteg_cosine(x)
 }
 
+#[inline]
 pub fn arctangent(y: f64, x: f64) -> f64 {
     linked::pozsmeteg_arctangent(y, x)
 }
 
+#[inline]
 pub fn arcsine(v: f64) -> f64 {
     linked::pozsmeteg_arcsine(v)
 }
 
+#[inline]
 pub fn power(a: f64, n: u32, c: f64) -> f64 {
     linked::pozsmeteg_power(a, n, c)
 }
