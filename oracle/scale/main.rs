@@ -16,6 +16,7 @@ mod fields;
 mod filtering;
 mod finals;
 mod fits;
+mod flat;
 mod lent;
 mod numbers;
 #[cfg(feature = "sheet")]

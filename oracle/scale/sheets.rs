@@ -1,8 +1,9 @@
 // The whole path beside the oracle's modules 8 and 9, and demand 3: pairs of submissions, the second beginning with the first.
+use crate::flat::Flat;
 use crate::generate::{Plan, gauss, generate, random_field, uni};
 use crate::lent::*;
-use crate::source::{Legendre, Rng};
-use crate::submission::{FieldData, Submission, TOP, check};
+use crate::source::Rng;
+use crate::submission::{Submission, TOP, check};
 use crate::tally::Tally;
 use crate::whole::whole;
 use pozsmeteg::raw;
@@ -15,38 +16,15 @@ pub struct Sheet {
 
 // ---- the engine
 
-fn flat(f: &FieldData) -> Vec<f64> {
-    [&[f.gm, f.radius], &f.c[..], &f.s[..]].concat()
-}
-
 /// The call, and whether every lent slice is left as its answer says.
 fn engine(random: &mut Rng, s: &Submission) -> (Result<Sheet, u8>, bool) {
-    let (m, l) = (s.obs.len(), (s.n.min(180) + 1) * (s.n.min(180) + 2) / 2);
-    let table = Legendre::new(s.n.clamp(2, 180));
-    let (a, b) = (&table.a[..l.min(table.a.len())], &table.b[..l.min(table.b.len())]);
-    let (field, added): (Vec<f64>, Vec<f64>) = (flat(&s.stat), s.fields.iter().flat_map(|f| flat(&f.1)).collect());
-    let times: Vec<f64> = s.fields.iter().map(|f| f.0).collect();
-    let keys = |i: usize| s.states[i].iter().map(|r| r.0).collect::<Vec<i64>>();
-    let states = |i: usize| s.states[i].iter().flat_map(|r| r.1).collect::<Vec<f64>>();
-    let (ckeys, dkeys, cstates, dstates) = (keys(0), keys(1), states(0), states(1));
-    let acckeys = |i: usize| s.acc[i].iter().map(|r| r.0).collect::<Vec<i64>>();
-    let accs = |i: usize| s.acc[i].iter().map(|r| r.1).collect::<Vec<f64>>();
-    let (cacckeys, dacckeys, caccs, daccs) = (acckeys(0), acckeys(1), accs(0), accs(1));
-    let (obstimes, obsvalues, good): (Vec<f64>, Vec<f64>, Vec<u8>) = (s.obs.iter().map(|o| o.0).collect(), s.obs.iter().map(|o| o.1).collect(), s.obs.iter().map(|o| o.2).collect());
-    let room = 2 * times.len() * l + 8 * l + 150_000 + 49_200 * s.nodes.len().saturating_sub(1) + 10 * m + [0, 0, 0, 77][random.below(4)];
+    let (m, lists) = (s.obs.len(), Flat::new(s));
+    let room = lists.room() + [0, 0, 0, 77][random.below(4)];
     let [mut first, mut second, mut third, mut fourth] = [(); 4].map(|_| Lent::new(random, m));
     let mut scratch = Lent::new(random, room);
     let mut counts = [77, 88, 99];
-    let number = raw::sheet(
-        raw::Model { degree: s.n, field: &field, a, b, times: &times, added: &added },
-        raw::Pair {
-            c: raw::Keyed { keys: &ckeys, values: &cstates }, d: raw::Keyed { keys: &dkeys, values: &dstates },
-            c_acc: raw::Keyed { keys: &cacckeys, values: &caccs }, d_acc: raw::Keyed { keys: &dacckeys, values: &daccs },
-        },
-        &s.nodes, raw::Observations { times: &obstimes, values: &obsvalues, good: &good },
-        raw::Published { times: &mut first.now, raws: &mut second.now, detrended: &mut third.now, passed: &mut fourth.now },
-        &mut counts, &mut scratch.now,
-    );
+    let out = raw::Published { times: &mut first.now, raws: &mut second.now, detrended: &mut third.now, passed: &mut fourth.now };
+    let number = raw::sheet(lists.model(), lists.pair(), lists.nodes(), lists.observations(), out, &mut counts, &mut scratch.now);
     let outs = [first, second, third, fourth];
     if number != 0 {
         let left = outs.iter().all(|o| o.settled(number, &[])) && scratch.left(number) && counts == if number < 6 { [77, 88, 99] } else { [0, 0, 99] };
