@@ -102,6 +102,28 @@ uint8_t pozsmeteg_residuals(size_t degree, const double *field, size_t field_len
                             double (*outvels)[3], size_t outvels_length, size_t *counts, size_t counts_length,
                             double *scratch, size_t scratch_length);
 
+/* ---- the whole path */
+
+/* The sheet of a submission: both satellites fitted between the nodes, the residuals of the kept epochs, detrended by revolutions,
+ * passed through the band. counts[0] gets the number of kept epochs, counts[1] F, how many of them are final (a list without such a
+ * place is left as it is).
+ * Lengths: as pozsmeteg_residuals; at most 64 nodes; the four outputs M; scratch at least 2 times_length L + 8 L + 150,000 +
+ * 49,200 (nodes_length - 1, or 0) + 10 M. Refuses 1 to 5, and 10 where a published number is not finite. Left behind: time, raw
+ * residual, detrended residual and passed value of each kept epoch, +0.0 after the last. No appended data changes the first F
+ * entries of the four lists. */
+uint8_t pozsmeteg_sheet(size_t degree, const double *field, size_t field_length, const double *a, size_t a_length,
+                        const double *b, size_t b_length, const double *times, size_t times_length,
+                        const double *added, size_t added_length, const int64_t *ckeys, size_t ckeys_length,
+                        const double *cstates, size_t cstates_length, const int64_t *dkeys, size_t dkeys_length,
+                        const double *dstates, size_t dstates_length, const int64_t *cacckeys, size_t cacckeys_length,
+                        const double *caccs, size_t caccs_length, const int64_t *dacckeys, size_t dacckeys_length,
+                        const double *daccs, size_t daccs_length, const double *nodes, size_t nodes_length,
+                        const double *obstimes, size_t obstimes_length, const double *obsvalues, size_t obsvalues_length,
+                        const uint8_t *good, size_t good_length, double *outtimes, size_t outtimes_length,
+                        double *outraws, size_t outraws_length, double *outdetrended, size_t outdetrended_length,
+                        double *outpassed, size_t outpassed_length, size_t *counts, size_t counts_length,
+                        double *scratch, size_t scratch_length);
+
 /* ---- detrending and the band-pass */
 
 /* The revolutions between neighbouring nodes that have 50 epochs or more: the places of each one's epochs in `times`, the end

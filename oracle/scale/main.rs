@@ -19,7 +19,6 @@ mod fits;
 mod flat;
 mod lent;
 mod numbers;
-#[cfg(feature = "sheet")]
 mod sheets;
 mod tally;
 
@@ -39,11 +38,8 @@ fn main() {
     finals::compare(&mut tally, calls);
     epochs::compare(&mut tally, calls);
     fits::compare(&mut tally, calls);
-    #[cfg(feature = "sheet")]
-    {
-        sheets::sheets(&mut tally, number("sheets", 20));
-        sheets::pairs(&mut tally, number("pairs", 20), false);
-        sheets::pairs(&mut tally, number("alone", 20), true);
-    }
+    sheets::sheets(&mut tally, number("sheets", 20));
+    sheets::pairs(&mut tally, number("pairs", 20), false);
+    sheets::pairs(&mut tally, number("alone", 20), true);
     tally.summary();
 }

@@ -208,7 +208,6 @@ pub fn band_pass(times: &[f64], x: &[f64]) -> Result<Vec<f64>, Refusal> {
 }
 
 /// What the whole path publishes of the kept epochs, and how many of them are final.
-#[cfg(feature = "sheet")]
 #[derive(Clone, Debug, PartialEq)]
 pub struct Sheet {
     pub times: Vec<f64>,
@@ -219,7 +218,6 @@ pub struct Sheet {
 }
 
 /// The whole path: both satellites fitted between the nodes, residuals, detrending, band-pass, and the final count.
-#[cfg(feature = "sheet")]
 pub fn sheet(model: &Model, pair: Pair, nodes: &[f64], seen: Observations) -> Result<Sheet, Refusal> {
     let m = seen.times.len();
     let [mut times, mut raws, mut detrended, mut passed] = [(); 4].map(|_| vec![0.0; m]);

@@ -49,7 +49,6 @@ mod linked {
             outresiduals: FloatsMut, outresiduals_length: usize, outterms: *mut [f64; 5], outterms_length: usize, outmids: *mut [f64; 3], outmids_length: usize,
             outvels: *mut [f64; 3], outvels_length: usize, counts: *mut usize, counts_length: usize, scratch: FloatsMut, scratch_length: usize,
         ) -> u8;
-        #[cfg(feature = "sheet")]
         pub fn pozsmeteg_sheet(
             degree: usize, field: Floats, field_length: usize, a: Floats, a_length: usize, b: Floats, b_length: usize, times: Floats, times_length: usize,
             added: Floats, added_length: usize, ckeys: *const i64, ckeys_length: usize, cstates: Floats, cstates_length: usize,
@@ -238,7 +237,6 @@ pub struct Published<'a> {
     pub passed: &'a mut [f64],
 }
 
-#[cfg(feature = "sheet")]
 pub fn sheet(model: Model, pair: Pair, nodes: &[f64], seen: Observations, out: Published, counts: &mut [usize], scratch: &mut [f64]) -> u8 {
     let Model { degree, field, a, b, times, added } = model;
     let Pair { c, d, c_acc, d_acc } = pair;

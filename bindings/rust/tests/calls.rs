@@ -135,3 +135,27 @@ fn finality() {
     assert_eq!(final_entries(&kept, 2), &kept[..2]);
     assert!(final_entries(&kept, 5).is_empty());
 }
+
+#[test]
+fn whole_path() {
+    let (tables, field, times) = (Tables::new(2).unwrap(), earth(2), [0.0, 12_000.0]);
+    let added = [nothing(2), nothing(2)].concat();
+    let model = Model { tables: &tables, field: &field, times: &times, added: &added };
+    let keys: Vec<i64> = (0..6_000).collect();
+    let (c, d, acc) = (orbit(&keys, 0.0), orbit(&keys, 28.0), vec![0.0; 6_000]);
+    let keyed = |values| Keyed { keys: &keys, values };
+    let pair = Pair { c: keyed(&c), d: keyed(&d), c_acc: keyed(&acc), d_acc: keyed(&acc) };
+    // a gap between 2,300 and 2,400 s ends a run before the second node
+    let seen: Vec<f64> = (0..3_000).map(|k| 2.0 * k as f64).filter(|t| !(2_300.0..2_400.0).contains(t)).collect();
+    let (values, good) = (vec![0.0; seen.len()], vec![1; seen.len()]);
+    let seen = Observations { times: &seen, values: &values, good: &good };
+    let sheet_of = |nodes: &[f64]| sheet(&model, pair, nodes, seen);
+    let found = sheet_of(&[1_900.5, 2_500.5, 3_100.5]).unwrap();
+    assert!(found.times.iter().all(|t| (1_900.5..3_100.5).contains(t)));
+    assert_eq!(found.final_count, found.times.iter().filter(|t| **t < 2_300.0).count());
+    assert!(found.final_count > 0);
+    assert_eq!([found.raws.len(), found.detrended.len(), found.passed.len()], [found.times.len(); 3]);
+    assert_eq!(sheet_of(&[]).unwrap().times, Vec::<f64>::new());
+    assert_eq!(sheet_of(&[2.0, 1.0]), Err(Refusal::Order));
+    assert_eq!(sheet_of(&vec![0.0; 65]), Err(Refusal::Count));
+}

@@ -1,5 +1,5 @@
 -- Answers told in numbers, and what the calls leave beside them. Assumes nothing.
-use Prim.Native.Nat.{ℕ, _<_, _≤_}
+use Prim.Native.Nat.{ℕ, zero, suc, _<_, _≤_}
 use mathlib.Core.Path.{_≡_, refl, ap, sym, _∙_}
 use mathlib.Core.Bool.{cond}
 use mathlib.Core.Option.{Option, none, some}
@@ -19,12 +19,14 @@ use Rattle.fields.specs.declared.PartialsAnswer.{PartialsAnswer}
 use Rattle.fields.specs.declared.PartialsAnswer.the-variants as partials
 use Rattle.detrend.specs.Calls.{LeftLists, listed}
 use Rattle.residuals.specs.Calls.{Lists, ListsLeft, listsLeft}
+use Rattle.sheet.specs.declared.SheetAnswer.{SheetAnswer}
+use Rattle.sheet.specs.declared.SheetAnswer.the-variants as sheet
 use Rattle.finality.specs.Sheet.{countTo}
 use Rattle.horizon.specs.Horizon.{horizonAnswer, horizonAt}
 use Rattle.horizon.specs.declared.kernel.HorizonNode.{HorizonNode}
 use Rattle.horizon.specs.declared.kernel.HorizonNode.the-variants as node
 use Rattle.exports.specs.Four.{fourOf}
-use Rattle.exports.specs.Answers.{outcomeNumber, outcomeLeft, countedNumber, countIn, revolutionsTold, revolutionsLeft, listsTold, residualsLeft, partialsNumber, partialsIn, partialsLeft, horizonTold, horizonNumber}
+use Rattle.exports.specs.Answers.{outcomeNumber, outcomeLeft, countedNumber, countIn, revolutionsTold, revolutionsLeft, listsTold, residualsLeft, sheetNumber, countsIn, sheetTold, sheetLeft, partialsNumber, partialsIn, partialsLeft, horizonTold, horizonNumber}
 use Rattle.exports.proofs.Stored.{four-set}
 use Rattle.laws.specs.WholeNumbers.{number}
 use Rattle.slices.specs.Calls.{Left, left}
@@ -53,9 +55,10 @@ changed-after n x y z h e = simp (lt-leb n 5 h) e
 
 -- ---- counts
 
-pub no-place : (cs : List ℕ) (k : ℕ) → length cs ≤ 0 → cs ≡ set cs 0 k
-no-place [] k h = refl
-no-place (x ∷ cs) k h = absurd (omega arith)
+pub no-place : (cs : List ℕ) (i k : ℕ) → length cs ≤ i → cs ≡ set cs i k
+no-place [] i k h = refl
+no-place (x ∷ cs) zero k h = absurd (omega arith)
+no-place (x ∷ cs) (suc i) k h = ap (λ l. x ∷ l) (no-place cs i k (omega arith))
 
 pub count-stored : (answer : Counted) (k : ℕ) (cs new : List ℕ) → answer ≡ counted.Counted k → new ≡ set cs 0 k → (0 ≡ countedNumber answer) × (new ≡ countIn answer cs)
 count-stored answer k cs new e h = (sym (ap countedNumber e), h ∙ sym (ap (λ a. countIn a cs) e))
@@ -70,6 +73,21 @@ revolutions-left l answer n cs₀ cs fs es ss ps h e = (λ i. revolutionsTold (h
 pub residuals-left : (l : ListsLeft) (answer : Counted) (n : ℕ) (cs₀ cs : List ℕ) (outputs : Lists) (scratch : List Float) →
     (n ≡ countedNumber answer) × (cs ≡ countIn answer cs₀) → listsLeft answer outputs scratch ≡ l → listsTold n cs outputs scratch ≡ residualsLeft l cs₀
 residuals-left l answer n cs₀ cs outputs scratch h e = (λ i. listsTold (h .0 i) (h .1 i) outputs scratch) ∙ ap (λ x. residualsLeft x cs₀) e
+
+-- ---- the whole path
+
+pub two-stored : (cs one two : List ℕ) (kept last : ℕ) → one ≡ set cs 0 kept → two ≡ set one 1 last → two ≡ set (set cs 0 kept) 1 last
+two-stored cs one two kept last e h = h ∙ ap (λ l. set l 1 last) e
+
+pub sheet-stored : (answer : SheetAnswer) (kept last : ℕ) (cs new : List ℕ) → answer ≡ sheet.Accepted kept last → new ≡ set (set cs 0 kept) 1 last → (0 ≡ sheetNumber answer) × (new ≡ countsIn answer cs)
+sheet-stored answer kept last cs new e h = (sym (ap sheetNumber e), h ∙ sym (ap (λ a. countsIn a cs) e))
+
+pub sheet-refused : (answer : SheetAnswer) (n : ℕ) (cs new : List ℕ) → answer ≡ sheet.Refused n → new ≡ cond (leb n 5) cs (set (set cs 0 0) 1 0) → (n ≡ sheetNumber answer) × (new ≡ countsIn answer cs)
+sheet-refused answer n cs new e h = (sym (ap sheetNumber e), h ∙ sym (ap (λ a. countsIn a cs) e))
+
+pub sheet-left : (l : Left SheetAnswer) (answer : SheetAnswer) (n : ℕ) (cs₀ cs : List ℕ) (columns : List (List Float)) (scratch : List Float) →
+    (n ≡ sheetNumber answer) × (cs ≡ countsIn answer cs₀) → left answer columns scratch ≡ l → sheetTold n cs columns scratch ≡ sheetLeft l cs₀
+sheet-left l answer n cs₀ cs columns scratch h e = (λ i. sheetTold (h .0 i) (h .1 i) columns scratch) ∙ ap (λ x. sheetLeft x cs₀) e
 
 -- ---- partials
 

@@ -17,6 +17,8 @@ use Rattle.fields.specs.declared.PartialsAnswer.{PartialsAnswer}
 use Rattle.fields.specs.declared.PartialsAnswer.the-variants as partials
 use Rattle.detrend.specs.Calls.{LeftLists}
 use Rattle.residuals.specs.Calls.{Lists, ListsLeft}
+use Rattle.sheet.specs.declared.SheetAnswer.{SheetAnswer}
+use Rattle.sheet.specs.declared.SheetAnswer.the-variants as sheet
 use Rattle.horizon.specs.declared.kernel.HorizonNode.{HorizonNode}
 use Rattle.horizon.specs.declared.kernel.HorizonNode.the-variants as horizon
 use Rattle.exports.specs.Four.{fourOf}
@@ -67,6 +69,28 @@ listsTold n cs outputs scratch = record { number = n; counts = cs; outputs = out
 
 abbrev pub residualsLeft : ListsLeft → List ℕ → ListsTold
 residualsLeft l cs = listsTold (countedNumber (l .answer)) (countIn (l .answer) cs) (l .outputs) (l .scratch)
+
+-- ---- the whole path: the kept and the final epochs, in the first two places
+
+abbrev pub sheetNumber : SheetAnswer → ℕ
+sheetNumber (sheet.Accepted kept last) = 0
+sheetNumber (sheet.Refused n) = n
+
+abbrev pub countsIn : SheetAnswer → List ℕ → List ℕ
+countsIn (sheet.Accepted kept last) cs = set (set cs 0 kept) 1 last
+countsIn (sheet.Refused n) cs = cond (leb n 5) cs (set (set cs 0 0) 1 0)
+
+pub record SheetTold : Type 0 where
+  pub number : ℕ
+  pub counts : List ℕ
+  pub columns : List (List Float)
+  pub scratch : List Float
+
+abbrev pub sheetTold : ℕ → List ℕ → List (List Float) → List Float → SheetTold
+sheetTold n cs columns scratch = record { number = n; counts = cs; columns = columns; scratch = scratch }
+
+abbrev pub sheetLeft : Left SheetAnswer → List ℕ → SheetTold
+sheetLeft l cs = sheetTold (sheetNumber (l .answer)) (countsIn (l .answer) cs) (l .outputs) (l .scratch)
 
 -- ---- the partials, in a list of four
 

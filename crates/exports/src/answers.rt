@@ -6,7 +6,7 @@ ghost use lib.ListN.{length, set};
 ghost use Rattle.laws.specs.Loops.{cleared};
 ghost use Rattle.exports.specs.Four.{fourOf};
 ghost use Rattle.exports.specs.Told.{toldOf};
-ghost use Rattle.exports.specs.Answers.{outcomeNumber, countedNumber, countIn, partialsNumber, partialsIn, horizonNumber};
+ghost use Rattle.exports.specs.Answers.{outcomeNumber, countedNumber, countIn, partialsNumber, partialsIn, horizonNumber, sheetNumber, countsIn};
 
 // The rms, or the refusal's number below zero.
 pub fn told(answer: fit::kernel::Fitted) -> f64
@@ -27,11 +27,11 @@ pub fn number(outcome: slices::Outcome) -> u8
     }
 }
 
-fn put(counts: &mut [usize], k: usize)
-    ensures { λ _. ⌜ now (counts .exit) ≡ set (now (counts .entry)) 0 k ⌝ }
+fn put(counts: &mut [usize], i: usize, k: usize)
+    ensures { λ _. ⌜ now (counts .exit) ≡ set (now (counts .entry)) i k ⌝ }
 {
-    if 0 < counts.len() {
-        counts[0] = k;
+    if i < counts.len() {
+        counts[i] = k;
     }
 }
 
@@ -40,7 +40,7 @@ fn put_none(counts: &mut [usize], n: u8)
     ensures { λ _. ⌜ now (counts .exit) ≡ cond (leb n 5) (now (counts .entry)) (set (now (counts .entry)) 0 0) ⌝ }
 {
     if n > 5 {
-        put(counts, 0);
+        put(counts, 0, 0);
     }
 }
 
@@ -50,11 +50,43 @@ pub fn store_count(answer: slices::Counted, counts: &mut [usize]) -> u8
 {
     match answer {
         slices::Counted::Counted(k) => {
-            put(counts, k);
+            put(counts, 0, k);
             0
         }
         slices::Counted::Refused(n) => {
             put_none(counts, n);
+            n
+        }
+    }
+}
+
+fn put_two(counts: &mut [usize], kept: usize, last: usize)
+    ensures { λ _. ⌜ now (counts .exit) ≡ set (set (now (counts .entry)) 0 kept) 1 last ⌝ }
+{
+    put(counts, 0, kept);
+    put(counts, 1, last);
+}
+
+fn put_neither(counts: &mut [usize], n: u8)
+    ensures { λ _. ⌜ now (counts .exit) ≡ cond (leb n 5) (now (counts .entry)) (set (set (now (counts .entry)) 0 0) 1 0) ⌝ }
+{
+    if n > 5 {
+        put_two(counts, 0, 0);
+    }
+}
+
+// The kept and the final epochs, in the first two places.
+pub fn store_counts(answer: sheet::SheetAnswer, counts: &mut [usize]) -> u8
+    ensures number { λ r. ⌜ r ≡ sheetNumber answer ⌝ }
+    ensures places { λ _. ⌜ now (counts .exit) ≡ countsIn answer (now (counts .entry)) ⌝ }
+{
+    match answer {
+        sheet::SheetAnswer::Accepted(kept, last) => {
+            put_two(counts, kept, last);
+            0
+        }
+        sheet::SheetAnswer::Refused(n) => {
+            put_neither(counts, n);
             n
         }
     }

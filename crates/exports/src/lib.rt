@@ -17,11 +17,12 @@ ghost use Rattle.integrate.specs.Force.{model};
 ghost use Rattle.sighting.specs.Kept.{keyed};
 ghost use Rattle.residuals.specs.Inputs.{inputs};
 ghost use Rattle.residuals.specs.Calls.{lists, sightings, residualsCall};
+ghost use Rattle.sheet.specs.Calls.{setting, lists as sheetLists, sheetCall};
 ghost use Rattle.finality.specs.Sheet.{horizonOf, countTo};
 ghost use Rattle.horizon.specs.Horizon.{endsOf, finalEntries};
 ghost use Rattle.fit.specs.Calls.{fitCall};
 ghost use Rattle.exports.specs.Told.{toldLeft};
-ghost use Rattle.exports.specs.Answers.{outcomeLeft, partialsLeft, horizonTold, revolutionsTold, revolutionsLeft, listsTold, residualsLeft};
+ghost use Rattle.exports.specs.Answers.{outcomeLeft, partialsLeft, horizonTold, revolutionsTold, revolutionsLeft, listsTold, residualsLeft, sheetTold, sheetLeft};
 ghost use Rattle.root.specs.Root.{sqrt};
 ghost use Rattle.numbers.specs.Numbers.{sine as Numbers·sine, cosine as Numbers·cosine, arctangent as Numbers·arctangent, arcsine as Numbers·arcsine, power as Numbers·power};
 
@@ -270,6 +271,64 @@ pub extern "C" fn pozsmeteg_residuals(
         scratch,
     );
     answers::store_count(answer, counts)
+}
+
+// The whole path; the counts of kept and of final epochs go into the first two places of counts.
+#[no_mangle]
+pub extern "C" fn pozsmeteg_sheet(
+    degree: usize,
+    field: &[f64],
+    a: &[f64],
+    b: &[f64],
+    times: &[f64],
+    added: &[f64],
+    ckeys: &[i64],
+    cstates: &[f64],
+    dkeys: &[i64],
+    dstates: &[f64],
+    cacckeys: &[i64],
+    caccs: &[f64],
+    dacckeys: &[i64],
+    daccs: &[f64],
+    nodes: &[f64],
+    obstimes: &[f64],
+    obsvalues: &[f64],
+    good: &[u8],
+    outtimes: &mut [f64],
+    outraws: &mut [f64],
+    outdetrended: &mut [f64],
+    outpassed: &mut [f64],
+    counts: &mut [usize],
+    scratch: &mut [f64],
+) -> u8
+    ensures { λ r. ⌜ sheetTold r (now (counts .exit)) (now (outtimes .exit) ∷ now (outraws .exit) ∷ now (outdetrended .exit) ∷ now (outpassed .exit) ∷ []) (now (scratch .exit)) ≡ sheetLeft (sheetCall (setting degree (now (field .entry)) (now (a .entry)) (now (b .entry))) (sheetLists (now (times .entry)) (now (added .entry)) (now (ckeys .entry)) (now (cstates .entry)) (now (dkeys .entry)) (now (dstates .entry)) (now (cacckeys .entry)) (now (caccs .entry)) (now (dacckeys .entry)) (now (daccs .entry)) (now (nodes .entry)) (now (obstimes .entry)) (now (obsvalues .entry)) (now (good .entry))) (now (outtimes .entry) ∷ now (outraws .entry) ∷ now (outdetrended .entry) ∷ now (outpassed .entry) ∷ []) (now (scratch .entry))) (now (counts .entry)) ⌝ }
+{
+    let answer = sheet::sheet(
+        degree,
+        field,
+        a,
+        b,
+        times,
+        added,
+        ckeys,
+        cstates,
+        dkeys,
+        dstates,
+        cacckeys,
+        caccs,
+        dacckeys,
+        daccs,
+        nodes,
+        obstimes,
+        obsvalues,
+        good,
+        outtimes,
+        outraws,
+        outdetrended,
+        outpassed,
+        scratch,
+    );
+    answers::store_counts(answer, counts)
 }
 
 // The horizon's time, −1.0 without one; the lists are those of an accepted submission.

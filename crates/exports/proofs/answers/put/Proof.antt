@@ -7,4 +7,4 @@ returns-2 : tie.Need-returns-2
 returns-2 c = search (needs, no-place)
 
 pub put-spec : {M : Type 1} → statement M
-put-spec = tie.close (tie.spec (λ c. search needs) (λ c. search needs) (λ c. search needs) returns-2)
+put-spec = tie.close (tie.spec (λ c. search needs) (λ c. search needs) (λ c. search needs) (λ c. search needs) returns-2)

@@ -1,0 +1,13 @@
+use borrow.Author.Needs.{needs}
+use Rattle.exports.proofs.Answered.{kept-before, changed-after}
+use Rattle.exports.proofs.answers.put_neither.Statement.{statement}
+use Rattle.exports.proofs.answers.put_neither.Tie as tie
+
+returns : tie.Need-returns
+returns c = search (needs, changed-after)
+
+returns-2 : tie.Need-returns-2
+returns-2 c = search (needs, kept-before)
+
+pub put-neither-spec : {M : Type 1} → statement M
+put-neither-spec = tie.close (tie.spec (λ c κs. search needs) (λ c. search needs) returns returns-2)
