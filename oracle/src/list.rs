@@ -36,6 +36,18 @@ impl List {
         keys.iter().for_each(|k| self.ask(*k as u64));
     }
 
+    /// A slice: its length, how many numbers are given, and these; the program's others are 0.
+    pub fn ask_words(&mut self, words: Vec<u64>) {
+        let given = words.iter().rposition(|w| *w != 0).map_or(0, |k| k + 1);
+        self.ask(words.len() as u64);
+        self.ask(given as u64);
+        words[..given].iter().for_each(|w| self.ask(*w));
+    }
+
+    pub fn ask_slice(&mut self, values: &[f64]) {
+        self.ask_words(values.iter().map(|v| v.to_bits()).collect());
+    }
+
     pub fn tell(&mut self, word: u64) {
         line(&mut self.stdout, word);
     }

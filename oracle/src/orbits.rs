@@ -12,18 +12,6 @@ const OLS: u64 = 0;
 const FIT: u64 = 1;
 const ORBITS: u64 = 2;
 
-// A slice: its length, how many numbers are given, and these; the program's others are +0.0.
-fn ask_words(list: &mut List, words: Vec<u64>) {
-    let given = words.iter().rposition(|w| *w != 0).map_or(0, |k| k + 1);
-    list.ask(words.len() as u64);
-    list.ask(given as u64);
-    words[..given].iter().for_each(|w| list.ask(*w));
-}
-
-fn ask_slice(list: &mut List, values: &[f64]) {
-    ask_words(list, values.iter().map(|v| v.to_bits()).collect());
-}
-
 fn kept(values: &[f64], bits: u64) -> u64 {
     let all = |w: u64| values.iter().all(|v| v.to_bits() == w);
     if all(0) { 0 } else if all(bits) { 1 } else { 2 }
@@ -61,8 +49,8 @@ impl Rows {
     fn call(&self, list: &mut List) {
         let between = self.y.len() / 60;
         list.call(OLS);
-        ask_slice(list, &self.rows);
-        ask_slice(list, &self.y);
+        list.ask_slice(&self.rows);
+        list.ask_slice(&self.y);
         for word in [self.columns, self.beta, self.residuals, between] {
             list.ask(word as u64);
         }
@@ -222,10 +210,10 @@ impl Asked {
         list.call(FIT);
         list.ask(self.degree as u64);
         for part in [&self.field, &self.a, &self.b, &self.times, &self.added] {
-            ask_slice(list, part);
+            list.ask_slice(part);
         }
-        ask_words(list, self.keys.iter().map(|k| *k as u64).collect());
-        ask_slice(list, &self.states);
+        list.ask_words(self.keys.iter().map(|k| *k as u64).collect());
+        list.ask_slice(&self.states);
         list.ask_float(self.arc.t0);
         list.ask(self.arc.steps as u64);
         list.ask_float(self.arc.node);
@@ -474,11 +462,11 @@ impl Windows {
         list.call(ORBITS);
         list.ask(self.of.degree as u64);
         for part in [&self.of.field, &self.of.a, &self.of.b, &self.of.times, &self.of.added] {
-            ask_slice(list, part);
+            list.ask_slice(part);
         }
-        ask_words(list, self.of.keys.iter().map(|k| *k as u64).collect());
-        ask_slice(list, &self.of.states);
-        ask_slice(list, &self.nodes);
+        list.ask_words(self.of.keys.iter().map(|k| *k as u64).collect());
+        list.ask_slice(&self.of.states);
+        list.ask_slice(&self.nodes);
         for word in [self.keys, self.states, self.rms, self.scratch, between[0], between[1]] {
             list.ask(word as u64);
         }
