@@ -40,7 +40,8 @@ fn main() {
     let last = args.last().unwrap();
     match args.get(1).map(|a| a.as_str()) {
         Some("gen") => return std::fs::write(last, text::write(&generate::generate(&plan(&args)))).unwrap(),
-        Some("sheet") => return print!("{}", text::sheet(&text::read(&std::fs::read_to_string(last).unwrap()))),
+        // with a seed and a folder it is the list of that name
+        Some("sheet") if args.len() == 3 => return print!("{}", text::sheet(&text::read(&std::fs::read_to_string(last).unwrap()))),
         _ => (),
     }
     let maker = args.get(1).and_then(|name| MAKERS.iter().find(|m| m.0 == name));
