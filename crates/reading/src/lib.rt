@@ -156,7 +156,8 @@ fn count_refusal(section: usize, n: u64) -> u8
 
 // ---- rows
 
-fn coefficients(degree: usize) -> usize
+// How many coefficients a field has, all C and all S.
+pub fn coefficients(degree: usize) -> usize
     ensures { λ r. ⌜ (r ≡ coefficients degree) × (r ≤ 182) ⌝ }
 {
     if degree < 13 {
