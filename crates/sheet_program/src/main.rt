@@ -1,0 +1,733 @@
+// The sheet of one submission: its text on standard input, line by line (crate `reading`), and the sheet on standard output. `answer` decides what is printed.
+ghost use mathlib.Core.Path.{_≡_};
+ghost use mathlib.Core.List.{_++_, _∷_, []};
+ghost use Prim.Native.Nat.{_+_, _*_, _/_, _%_, _≤_, _<_, min};
+ghost use lib.ListN.{length, take};
+ghost use lib.IntN.{pos};
+ghost use lib.Ieee.{nan};
+ghost use Rattle.io.specs.Counts.{Counts};
+ghost use Rattle.hex.specs.Digits.{decimalOf};
+ghost use Rattle.reading.specs.Text.{coefficients};
+ghost use Rattle.sheet_program.specs.Text.{numberAt, wholeAt, countAt, nextAt, keyAt, byteAt, floatsFrom, keysFrom, bytesFrom, placesOf, refusedText, headText, termText, rowText, rowsText, Printed};
+use hex;
+use io;
+use reading;
+use series;
+use sheet;
+use slices;
+
+// ---- what the numbers of a text say
+
+// The number at `at`, NaN behind the last.
+fn number_at(numbers: &[f64], at: usize) -> f64
+    ensures { λ r. ⌜ r ≡ numberAt (now (numbers .entry)) at ⌝ }
+{
+    if at < numbers.len() {
+        return numbers[at];
+    }
+    0.0 / 0.0
+}
+
+// The word that a number was read from, at most `most`.
+fn whole_at(numbers: &[f64], at: usize, most: u64) -> u64
+    ensures { λ r. ⌜ (r ≡ wholeAt (now (numbers .entry)) at most) × (r ≤ most) ⌝ }
+{
+    let n = hex::pattern(number_at(numbers, at));
+    if n < most { n } else { most }
+}
+
+// A section's count, which stands in front of its words.
+fn count_at(numbers: &[f64], at: usize) -> usize
+    ensures { λ r. ⌜ (r ≡ countAt (now (numbers .entry)) at) × (r ≤ 12000) ⌝ }
+{
+    whole_at(numbers, at, 12000) as usize
+}
+
+// Where the next section's count stands, if a line of this one has so many words.
+fn next_at(numbers: &[f64], at: usize, words: usize) -> usize
+    requires { ⌜ (at ≤ 100000000) × (words ≤ 185) ⌝ }
+    ensures { λ r. ⌜ (r ≡ nextAt (now (numbers .entry)) at words) × (r ≤ at + 2220001) ⌝ }
+{
+    at + 1 + words * count_at(numbers, at)
+}
+
+// Of the i-th number when each line of `step` gives `width`.
+fn offset(i: usize, step: usize, width: usize) -> usize
+    requires { ⌜ (i < 100000) × (step ≤ 185) × (0 < width) × (width ≤ 185) ⌝ }
+    ensures { λ r. ⌜ (r ≡ step * (i / width) + i % width) × (r ≤ 18600000) ⌝ }
+{
+    step * (i / width) + i % width
+}
+
+// Numbers in lines of `step`, of each line `width` from `from` on.
+fn floats_from(numbers: &[f64], from: usize, step: usize, width: usize, out: &mut [f64])
+    requires { ⌜ (from ≤ 100000000) × (step ≤ 185) × (0 < width) × (width ≤ 185) × (length (now out) ≤ 100000) ⌝ }
+    ensures { λ _. ⌜ now (out .exit) ≡ floatsFrom (now (numbers .entry)) from step width 0 (length (now (out .entry))) ⌝ }
+{
+    let mut i = 0;
+    while i < out.len() {
+        let at = from + offset(i, step, width);
+        out[i] = number_at(numbers, at);
+        i += 1;
+    }
+}
+
+// Where the i-th line of `step` begins.
+fn line_at(from: usize, step: usize, i: usize) -> usize
+    requires { ⌜ (from ≤ 100000000) × (step ≤ 185) × (i < 100000) ⌝ }
+    ensures { λ r. ⌜ r ≡ from + step * i ⌝ }
+{
+    from + step * i
+}
+
+// A key is a whole number, and any above 2^31 is as good as the next above it.
+fn key_at(numbers: &[f64], at: usize) -> i64
+    ensures { λ r. ⌜ r ≡ keyAt (now (numbers .entry)) at ⌝ }
+{
+    whole_at(numbers, at, 2147483649) as i64
+}
+
+fn keys_from(numbers: &[f64], from: usize, step: usize, out: &mut [i64])
+    requires { ⌜ (from ≤ 100000000) × (step ≤ 185) × (length (now out) ≤ 100000) ⌝ }
+    ensures { λ _. ⌜ now (out .exit) ≡ keysFrom (now (numbers .entry)) from step 0 (length (now (out .entry))) ⌝ }
+{
+    let mut i = 0;
+    while i < out.len() {
+        out[i] = key_at(numbers, line_at(from, step, i));
+        i += 1;
+    }
+}
+
+fn byte_at(numbers: &[f64], at: usize) -> u8
+    ensures { λ r. ⌜ r ≡ byteAt (now (numbers .entry)) at ⌝ }
+{
+    whole_at(numbers, at, 255) as u8
+}
+
+fn bytes_from(numbers: &[f64], from: usize, step: usize, out: &mut [u8])
+    requires { ⌜ (from ≤ 100000000) × (step ≤ 185) × (length (now out) ≤ 100000) ⌝ }
+    ensures { λ _. ⌜ now (out .exit) ≡ bytesFrom (now (numbers .entry)) from step 0 (length (now (out .entry))) ⌝ }
+{
+    let mut i = 0;
+    while i < out.len() {
+        out[i] = byte_at(numbers, line_at(from, step, i));
+        i += 1;
+    }
+}
+
+// ---- printing
+
+fn put_bytes(bytes: &[u8], out: &mut [u8], at: usize) -> usize
+    requires { ⌜ at + length (now bytes) ≤ length (now out) ⌝ }
+    ensures { λ r. ⌜ Printed (now (bytes .entry)) (now (out .entry)) at (now (out .exit)) r ⌝ }
+{
+    let mut k = 0;
+    while k < bytes.len() {
+        out[at + k] = bytes[k];
+        k += 1;
+    }
+    at + k
+}
+
+fn put_count(n: usize, out: &mut [u8], at: usize) -> usize
+    requires { ⌜ at + 20 ≤ length (now out) ⌝ }
+    ensures { λ r. ⌜ (Printed (decimalOf n) (now (out .entry)) at (now (out .exit)) r) × (r ≤ at + 20) ⌝ }
+{
+    let k = hex::put_decimal(n as u64, out, at);
+    at + k
+}
+
+fn put_refusal(n: u8, out: &mut [u8]) -> usize
+    requires { ⌜ 64 ≤ length (now out) ⌝ }
+    ensures { λ r. ⌜ (Printed (refusedText n) (now (out .entry)) 0 (now (out .exit)) r) × Counts r (now (out .exit)) ⌝ }
+{
+    let a = put_bytes(b"refused ", out, 0);
+    let b = put_count(n as usize, out, a);
+    put_bytes(b"\n", out, b)
+}
+
+fn put_head(kept: usize, entries: usize, out: &mut [u8]) -> usize
+    requires { ⌜ 64 ≤ length (now out) ⌝ }
+    ensures { λ r. ⌜ (Printed (headText kept entries) (now (out .entry)) 0 (now (out .exit)) r) × (r ≤ 64) ⌝ }
+{
+    let a = put_bytes(b"kept ", out, 0);
+    let b = put_count(kept, out, a);
+    let c = put_bytes(b" final ", out, b);
+    let d = put_count(entries, out, c);
+    put_bytes(b"\n", out, d)
+}
+
+// A word and the byte behind it.
+fn put_term(x: f64, behind: u8, out: &mut [u8], at: usize)
+    requires { ⌜ at + 17 ≤ length (now out) ⌝ }
+    ensures { λ _. ⌜ Printed (termText x behind) (now (out .entry)) at (now (out .exit)) (at + 17) ⌝ }
+{
+    hex::put_word(hex::pattern(x), out, at);
+    out[at + 16] = behind;
+}
+
+// One entry of the four lists.
+fn put_row(
+    i: usize,
+    times: &[f64],
+    raws: &[f64],
+    detrended: &[f64],
+    passed: &[f64],
+    out: &mut [u8],
+    at: usize,
+)
+    requires { ⌜ at + 68 ≤ length (now out) ⌝ }
+    ensures { λ _. ⌜ Printed (rowText i (now (times .entry)) (now (raws .entry)) (now (detrended .entry)) (now (passed .entry))) (now (out .entry)) at (now (out .exit)) (at + 68) ⌝ }
+{
+    put_term(number_at(times, i), 32, out, at);
+    put_term(number_at(raws, i), 32, out, at + 17);
+    put_term(number_at(detrended, i), 32, out, at + 34);
+    put_term(number_at(passed, i), 10, out, at + 51);
+}
+
+// So many entries of the four lists, from the i-th on.
+fn put_rows(
+    i: usize,
+    n: usize,
+    times: &[f64],
+    raws: &[f64],
+    detrended: &[f64],
+    passed: &[f64],
+    out: &mut [u8],
+) -> usize
+    requires { ⌜ (i ≤ 100000) × (n ≤ 500) × (34000 ≤ length (now out)) ⌝ }
+    ensures { λ r. ⌜ (Printed (rowsText i n (now (times .entry)) (now (raws .entry)) (now (detrended .entry)) (now (passed .entry))) (now (out .entry)) 0 (now (out .exit)) r) × Counts r (now (out .exit)) ⌝ }
+{
+    let mut k = 0;
+    while k < n {
+        put_row(i + k, times, raws, detrended, passed, out, 68 * k);
+        k += 1;
+    }
+    68 * k
+}
+
+fn say_refusal(n: u8) {
+    let mut out = [0u8; 64];
+    let end = put_refusal(n, &mut out);
+    io::write_all(1, &out[..end]);
+}
+
+fn say_head(kept: usize, entries: usize) {
+    let mut out = [0u8; 64];
+    let end = put_head(kept, entries, &mut out);
+    io::write_all(1, &out[0..end]);
+}
+
+// Writes so many entries from the i-th on.
+fn say_rows(i: usize, n: usize, times: &[f64], raws: &[f64], detrended: &[f64], passed: &[f64])
+    requires { ⌜ (i ≤ 100000) × (n ≤ 500) ⌝ }
+{
+    let mut out = [0u8; 34000];
+    let end = put_rows(i, n, times, raws, detrended, passed, &mut out);
+    io::write_all(1, &out[..end]);
+}
+
+// Writes the first entries, at most one for each time, in pieces.
+fn say_entries(kept: usize, times: &[f64], raws: &[f64], detrended: &[f64], passed: &[f64]) {
+    let last = least(least(kept, times.len()), 12000);
+    let mut i = 0;
+    while i < last {
+        let n = least(last - i, 500);
+        say_rows(i, n, times, raws, detrended, passed);
+        if n == 0 {
+            return;
+        }
+        i += n;
+    }
+}
+
+fn least(a: usize, b: usize) -> usize
+    ensures { λ r. ⌜ (r ≡ min a b) × (r ≤ a) × (r ≤ b) ⌝ }
+{
+    if a < b { a } else { b }
+}
+
+// ---- a submission's lists
+
+// Where each section's count stands among the numbers.
+struct Places {
+    held: usize,
+    fields: usize,
+    cstates: usize,
+    caccs: usize,
+    dstates: usize,
+    daccs: usize,
+    nodes: usize,
+    observations: usize,
+}
+
+// With so many coefficients to a field.
+fn places_in(numbers: &[f64], c: usize) -> Places
+    requires { ⌜ c ≤ 182 ⌝ }
+    ensures { λ r. ⌜ (r ≡ placesOf (now (numbers .entry)) c) × (r .held ≤ 20000000) × (r .fields ≤ 20000000) × (r .cstates ≤ 20000000) × (r .caccs ≤ 20000000) × (r .dstates ≤ 20000000) × (r .daccs ≤ 20000000) × (r .nodes ≤ 20000000) × (r .observations ≤ 20000000) ⌝ }
+{
+    let held = next_at(numbers, 0, 1);
+    let fields = next_at(numbers, held, 2 + c);
+    let cstates = next_at(numbers, fields, 3 + c);
+    let caccs = next_at(numbers, cstates, 7);
+    let dstates = next_at(numbers, caccs, 2);
+    let daccs = next_at(numbers, dstates, 7);
+    let nodes = next_at(numbers, daccs, 2);
+    let observations = next_at(numbers, nodes, 1);
+    Places {
+        held,
+        fields,
+        cstates,
+        caccs,
+        dstates,
+        daccs,
+        nodes,
+        observations,
+    }
+}
+
+// The keys of a section: how many there are, and they in the first places of out.
+fn keys_in(numbers: &[f64], at: usize, step: usize, out: &mut [i64]) -> usize
+    ensures { λ r. ⌜ (r ≤ length (now (out .exit))) × (at ≤ 20000000 → step ≤ 185 → length (now (out .entry)) ≤ 100000 → now (out .exit) ≡ keysFrom (now (numbers .entry)) (at + 1) step 0 (length (now (out .entry)))) ⌝ }
+{
+    if 20000000 < at {
+        return 0;
+    }
+    if 185 < step {
+        return 0;
+    }
+    if 100000 < out.len() {
+        return 0;
+    }
+    keys_from(numbers, at + 1, step, out);
+    least(count_at(numbers, at), out.len())
+}
+
+// The good bytes, the third word of each line.
+fn bytes_in(numbers: &[f64], at: usize, step: usize, out: &mut [u8]) -> usize
+    ensures { λ r. ⌜ (r ≤ length (now (out .exit))) × (at ≤ 20000000 → step ≤ 185 → length (now (out .entry)) ≤ 100000 → now (out .exit) ≡ bytesFrom (now (numbers .entry)) (at + 3) step 0 (length (now (out .entry)))) ⌝ }
+{
+    if 20000000 < at {
+        return 0;
+    }
+    if 185 < step {
+        return 0;
+    }
+    if 100000 < out.len() {
+        return 0;
+    }
+    bytes_from(numbers, at + 3, step, out);
+    least(count_at(numbers, at), out.len())
+}
+
+fn product(width: usize, n: usize) -> usize
+    requires { ⌜ (width ≤ 185) × (n ≤ 12000) ⌝ }
+    ensures { λ r. ⌜ r ≡ width * n ⌝ }
+{
+    width * n
+}
+
+// Of each line of a section `width` numbers, from the one `skip` places behind the count on.
+fn floats_in(
+    numbers: &[f64],
+    at: usize,
+    skip: usize,
+    step: usize,
+    width: usize,
+    out: &mut [f64],
+) -> usize
+    ensures { λ r. ⌜ (r ≤ length (now (out .exit))) × (at ≤ 20000000 → skip ≤ 2 → step ≤ 185 → 0 < width → width ≤ 185 → length (now (out .entry)) ≤ 100000 → now (out .exit) ≡ floatsFrom (now (numbers .entry)) (at + skip) step width 0 (length (now (out .entry)))) ⌝ }
+{
+    if 20000000 < at {
+        return 0;
+    }
+    if 2 < skip {
+        return 0;
+    }
+    if 185 < step {
+        return 0;
+    }
+    if 185 < width {
+        return 0;
+    }
+    if width == 0 {
+        return 0;
+    }
+    if 100000 < out.len() {
+        return 0;
+    }
+    floats_from(numbers, at + skip, step, width, out);
+    least(product(width, count_at(numbers, at)), out.len())
+}
+
+// The sheet of a submission's lists, or its refusal.
+fn told(
+    degree: usize,
+    field: &[f64],
+    a: &[f64],
+    b: &[f64],
+    times: &[f64],
+    added: &[f64],
+    ckeys: &[i64],
+    cstates: &[f64],
+    dkeys: &[i64],
+    dstates: &[f64],
+    cacckeys: &[i64],
+    caccs: &[f64],
+    dacckeys: &[i64],
+    daccs: &[f64],
+    nodes: &[f64],
+    obstimes: &[f64],
+    obsvalues: &[f64],
+    good: &[u8],
+    outtimes: &mut [f64],
+    outraws: &mut [f64],
+    outdetrended: &mut [f64],
+    outpassed: &mut [f64],
+    scratch: &mut [f64],
+) {
+    let answer = sheet::sheet(
+        degree,
+        field,
+        a,
+        b,
+        times,
+        added,
+        ckeys,
+        cstates,
+        dkeys,
+        dstates,
+        cacckeys,
+        caccs,
+        dacckeys,
+        daccs,
+        nodes,
+        obstimes,
+        obsvalues,
+        good,
+        outtimes,
+        outraws,
+        outdetrended,
+        outpassed,
+        scratch,
+    );
+    match answer {
+        sheet::SheetAnswer::Accepted(kept, entries) => {
+            say_head(kept, entries);
+            say_entries(
+                kept,
+                &outtimes[..],
+                &outraws[..],
+                &outdetrended[..],
+                &outpassed[..],
+            );
+        }
+        sheet::SheetAnswer::Refused(n) => say_refusal(n),
+    }
+}
+
+fn with_outputs(
+    m: usize,
+    degree: usize,
+    field: &[f64],
+    a: &[f64],
+    b: &[f64],
+    times: &[f64],
+    added: &[f64],
+    ckeys: &[i64],
+    cstates: &[f64],
+    dkeys: &[i64],
+    dstates: &[f64],
+    cacckeys: &[i64],
+    caccs: &[f64],
+    dacckeys: &[i64],
+    daccs: &[f64],
+    nodes: &[f64],
+    obstimes: &[f64],
+    obsvalues: &[f64],
+    good: &[u8],
+    scratch: &mut [f64],
+) {
+    let mut outtimes = [0.0; 12000];
+    let mut outraws = [0.0; 12000];
+    let mut outdetrended = [0.0; 12000];
+    let mut outpassed = [0.0; 12000];
+    let n = least(m, 12000);
+    told(
+        degree,
+        field,
+        a,
+        b,
+        times,
+        added,
+        ckeys,
+        cstates,
+        dkeys,
+        dstates,
+        cacckeys,
+        caccs,
+        dacckeys,
+        daccs,
+        nodes,
+        obstimes,
+        obsvalues,
+        good,
+        &mut outtimes[0..n],
+        &mut outraws[0..n],
+        &mut outdetrended[0..n],
+        &mut outpassed[0..n],
+        scratch,
+    );
+}
+
+// The lists are taken from the numbers, which stand at the head of scratch: nodes and observations.
+fn with_observations(
+    p: Places,
+    degree: usize,
+    field: &[f64],
+    a: &[f64],
+    b: &[f64],
+    times: &[f64],
+    added: &[f64],
+    ckeys: &[i64],
+    cstates: &[f64],
+    dkeys: &[i64],
+    dstates: &[f64],
+    cacckeys: &[i64],
+    caccs: &[f64],
+    dacckeys: &[i64],
+    daccs: &[f64],
+    scratch: &mut [f64],
+) {
+    let mut nodes = [0.0; 4];
+    let mut obstimes = [0.0; 12000];
+    let mut obsvalues = [0.0; 12000];
+    let mut good = [0u8; 12000];
+    let k = floats_in(&scratch[..], p.nodes, 1, 1, 1, &mut nodes);
+    let m = floats_in(&scratch[..], p.observations, 1, 3, 1, &mut obstimes);
+    let v = floats_in(&scratch[..], p.observations, 2, 3, 1, &mut obsvalues);
+    let g = bytes_in(&scratch[..], p.observations, 3, &mut good);
+    with_outputs(
+        m,
+        degree,
+        field,
+        a,
+        b,
+        times,
+        added,
+        ckeys,
+        cstates,
+        dkeys,
+        dstates,
+        cacckeys,
+        caccs,
+        dacckeys,
+        daccs,
+        &nodes[0..k],
+        &obstimes[0..m],
+        &obsvalues[0..v],
+        &good[0..g],
+        scratch,
+    );
+}
+
+fn with_accelerometers(
+    p: Places,
+    degree: usize,
+    field: &[f64],
+    a: &[f64],
+    b: &[f64],
+    times: &[f64],
+    added: &[f64],
+    ckeys: &[i64],
+    cstates: &[f64],
+    dkeys: &[i64],
+    dstates: &[f64],
+    scratch: &mut [f64],
+) {
+    let mut cacckeys = [0i64; 12000];
+    let mut caccs = [0.0; 12000];
+    let mut dacckeys = [0i64; 12000];
+    let mut daccs = [0.0; 12000];
+    let c = keys_in(&scratch[..], p.caccs, 2, &mut cacckeys);
+    let x = floats_in(&scratch[..], p.caccs, 2, 2, 1, &mut caccs);
+    let d = keys_in(&scratch[..], p.daccs, 2, &mut dacckeys);
+    let y = floats_in(&scratch[..], p.daccs, 2, 2, 1, &mut daccs);
+    with_observations(
+        p,
+        degree,
+        field,
+        a,
+        b,
+        times,
+        added,
+        ckeys,
+        cstates,
+        dkeys,
+        dstates,
+        &cacckeys[0..c],
+        &caccs[0..x],
+        &dacckeys[0..d],
+        &daccs[0..y],
+        scratch,
+    );
+}
+
+fn with_states(
+    p: Places,
+    degree: usize,
+    field: &[f64],
+    a: &[f64],
+    b: &[f64],
+    times: &[f64],
+    added: &[f64],
+    scratch: &mut [f64],
+) {
+    let mut ckeys = [0i64; 12000];
+    let mut cstates = [0.0; 72000];
+    let mut dkeys = [0i64; 12000];
+    let mut dstates = [0.0; 72000];
+    let c = keys_in(&scratch[..], p.cstates, 7, &mut ckeys);
+    let x = floats_in(&scratch[..], p.cstates, 2, 7, 6, &mut cstates);
+    let d = keys_in(&scratch[..], p.dstates, 7, &mut dkeys);
+    let y = floats_in(&scratch[..], p.dstates, 2, 7, 6, &mut dstates);
+    with_accelerometers(
+        p,
+        degree,
+        field,
+        a,
+        b,
+        times,
+        added,
+        &ckeys[0..c],
+        &cstates[0..x],
+        &dkeys[0..d],
+        &dstates[0..y],
+        scratch,
+    );
+}
+
+// A Legendre table in the first places of out, as many as n; how many there are.
+fn table_in(f: series::Factor, degree: usize, n: usize, out: &mut [f64]) -> usize
+    ensures { λ r. ⌜ (r ≡ min n (length (now (out .entry)))) × (r ≤ length (now (out .exit))) ⌝ }
+{
+    let m = least(n, out.len());
+    series::tabulate(f, degree, &mut out[0..m]);
+    m
+}
+
+fn with_tables(
+    p: Places,
+    degree: usize,
+    c: usize,
+    field: &[f64],
+    times: &[f64],
+    added: &[f64],
+    scratch: &mut [f64],
+) {
+    let mut a = [0.0; 91];
+    let mut b = [0.0; 91];
+    let x = table_in(series::Factor::RecursionA, degree, c / 2, &mut a);
+    let y = table_in(series::Factor::RecursionB, degree, c / 2, &mut b);
+    with_states(p, degree, field, &a[0..x], &b[0..y], times, added, scratch);
+}
+
+fn with_fields(p: Places, degree: usize, c: usize, scratch: &mut [f64])
+    requires { ⌜ c ≤ 182 ⌝ }
+{
+    let words = 2 + c;
+    let step = 3 + c;
+    let mut field = [0.0; 184];
+    let mut times = [0.0; 8];
+    let mut added = [0.0; 1472];
+    let h = floats_in(&scratch[..], p.held, 1, words, words, &mut field);
+    let f = floats_in(&scratch[..], p.fields, 1, step, 1, &mut times);
+    let g = floats_in(&scratch[..], p.fields, 2, step, words, &mut added);
+    with_tables(
+        p,
+        degree,
+        c,
+        &field[0..h],
+        &times[0..f],
+        &added[0..g],
+        scratch,
+    );
+}
+
+// Answers a text that was read.
+fn answer(at: reading::Reading, scratch: &mut [f64]) {
+    let fault = at.fault;
+    let section = at.section;
+    let degree = at.degree;
+    if fault != 0 {
+        say_refusal(fault);
+        return;
+    }
+    if section != 10 {
+        say_refusal(11);
+        return;
+    }
+    let c = reading::coefficients(degree);
+    let p = places_in(&scratch[..], c);
+    with_fields(p, degree, c, scratch);
+}
+
+// ---- the program
+
+// Reads a line that ends with a line feed, or as much of it as there is room for.
+fn read_header(line: &mut [u8]) -> usize
+    ensures { λ r. ⌜ Counts r (now (line .exit)) ⌝ }
+{
+    let mut n = 0;
+    while n < line.len() {
+        let mut byte = [0u8; 1];
+        let got = io::read_full(0, &mut byte);
+        if got == 0 {
+            return n;
+        }
+        line[n] = byte[0];
+        n += 1;
+        if byte[0] == 10 {
+            return n;
+        }
+    }
+    n
+}
+
+// The next line of the input, 0 bytes at its end.
+fn read_line(length: usize, line: &mut [u8]) -> usize
+    ensures { λ r. ⌜ Counts r (now (line .exit)) ⌝ }
+{
+    if length == 0 {
+        return read_header(line);
+    }
+    if line.len() < length {
+        return 0;
+    }
+    io::read_full(0, &mut line[0..length])
+}
+
+// Reads the input to its end, or to its first fault. The turns are more than a submission has lines.
+fn read_all(numbers: &mut [f64]) -> reading::Reading {
+    let mut line = [0u8; 3145];
+    let mut turns: usize = 100000;
+    let mut at = reading::start();
+    while 0 < turns {
+        let n = read_line(reading::line_length(at), &mut line);
+        at = reading::feed(&line[..n], at, numbers);
+        if at.fault != 0 {
+            return at;
+        }
+        if at.section == 10 {
+            return at;
+        }
+        turns -= 1;
+    }
+    at
+}
+
+fn main() {
+    let mut scratch = [0.0; 419784];
+    let at = read_all(&mut scratch);
+    answer(at, &mut scratch);
+}
