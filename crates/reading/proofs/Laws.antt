@@ -17,7 +17,7 @@ use Rattle.hex.specs.Digits.{isDigit, digitOf, wordAt, decimalAt, part}
 use Rattle.hex.specs.declared.Parsed.{Parsed}
 use Rattle.hex.specs.declared.Parsed.the-variants.{Value, Malformed}
 use Rattle.reading.specs.declared.Reading.{Reading}
-use Rattle.reading.specs.Text.{isWord, bitsOf, floatAt, column, longCount, countIn, beginsWith, headerWith, names, headerOf, outside, leastCounts, mostCounts, countRefusal, coefficients, wordsIn, separator, isTerm, isRow, degreeRefusal, rowRefusal, degreeAfter, Taken, refusedBy, goesOn, only, unlessFault, headerFault, announced, headed, takenHeader, rowFault, rowTaken, takenRow, takenEnd, taken, Fed, lineLength}
+use Rattle.reading.specs.Text.{isWord, bitsOf, floatAt, column, longCount, countIn, beginsWith, headerWith, names, headerOf, outside, leastCounts, mostCounts, countRefusal, coefficients, wordsIn, separator, isTerm, isRow, degreeRefusal, rowRefusal, degreeAfter, Taken, refusedBy, goesOn, only, unlessFault, headerFault, announced, headed, takenHeader, rowFault, rowTaken, takenRow, takenEnd, taken, readOf, Fed, lineLength}
 
 -- ---- words
 
@@ -411,3 +411,22 @@ module _ (room : ℕ) (line : List ℕ) (g r : Reading) (before after : List Flo
   unfolding taken
   feed-row h k l p =
       subst (λ (t : Taken). Fed t (g .filled) before r after) (sym (rw (eq-eqb (g .fault) 0 h, le-ltb 8 (g .section) k, ne-eqb (g .left) 0 l))) p
+
+-- ---- lines
+
+-- what is left by line after line is what the lines say
+pub reads-none : (room : ℕ) (g : Reading) (before : List Float) → Fed (readOf room [] g) (g .filled) before g before
+unfolding readOf
+reads-none room g before = fed-only g g g before refl refl
+
+pub reads-on : (room : ℕ) (line : List ℕ) (lines : List (List ℕ)) (g r r' : Reading) (filled : ℕ) (before after after' : List Float) → Fed (taken room line g) filled before r after →
+    Fed (readOf room lines r) (r .filled) after r' after' → Fed (readOf room (line ∷ lines) g) filled before r' after'
+unfolding readOf
+reads-on room line lines g r r' filled before after after' p q =
+    let rest : Reading → List Float = λ (x : Reading). (readOf room lines x) .numbers in
+    record {
+      reading = q .reading ∙ ap (λ (x : Reading). (readOf room lines x) .reading) (p .reading);
+      numbers =
+          q .numbers ∙ ap (λ (x : List Float). x ++ rest r) (p .numbers) ∙ append-assoc (take filled before) ((taken room line g) .numbers) (rest r)
+          ∙ ap (λ (x : Reading). take filled before ++ ((taken room line g) .numbers ++ rest x)) (p .reading);
+    }

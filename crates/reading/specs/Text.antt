@@ -175,6 +175,15 @@ taken room line r =
     (cond (ltb 8 (r .section)) (only (takenEnd line r)) (cond (eqb (r .left) 0) (takenHeader room line r) (takenRow room line r)))
     (only r)
 
+-- one line after another
+unfoldable pub readOf : ℕ → List (List ℕ) → Reading → Taken
+readOf room [] r = only r
+readOf room (line ∷ lines) r =
+    record {
+      reading = (readOf room lines ((taken room line r) .reading)) .reading;
+      numbers = (taken room line r) .numbers ++ (readOf room lines ((taken room line r) .reading)) .numbers;
+    }
+
 -- the numbers go behind those read before
 pub record Fed (t : Taken) (filled : ℕ) (before : List Float) (r : Reading) (after : List Float) : Type 0 where
   pub reading : r ≡ t .reading
