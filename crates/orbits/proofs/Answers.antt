@@ -11,9 +11,8 @@ use lib.ListN.{length, getD, replicate}
 use borrow.Author.Tests.{leb-true, eqb-true}
 use Rattle.laws.specs.Floats.{zero64}
 use Rattle.laws.specs.Checks.{all, isTime, rising, risingSeconds}
-use Rattle.slices.proofs.Calls.{cond-passes}
-use Rattle.lent.specs.Lent.{degreeFine, countsFine, modelFits, leastScratch, modelFine, keyedFine}
-use Rattle.lent.proofs.Passed.{both-pass, degree-passes}
+use Rattle.lent.specs.Lent.{degreeFine, countsFine, modelFits, leastScratch, wholeScratchFits, modelFine, keyedFine}
+use Rattle.lent.proofs.Passed.{both-pass, all-pass, degree-passes}
 use Rattle.finality.specs.Brackets.{covers}
 use Rattle.integrate.specs.Force.{frontSize, fullForce}
 use Rattle.fit.specs.Fit.{stateFor}
@@ -22,7 +21,7 @@ use Rattle.windows.proofs.Filling.{ends-at}
 use Rattle.orbits.specs.declared.FittedOrbits.the-variants.{Counted, Refused}
 use Rattle.orbits.specs.declared.work.Done.{Done}
 use Rattle.orbits.specs.Orbits.{Window, windowFit, between}
-use Rattle.orbits.specs.Calls.{Given, Outputs, outputs, placesFit, scratchFits, lengthsFit, refusal, fittedWindows, listed, left, handed, settled, orbitsCall}
+use Rattle.orbits.specs.Calls.{Given, Outputs, outputs, placesFit, lengthsFit, refusal, fittedWindows, listed, left, handed, settled, orbitsCall}
 use Rattle.orbits.specs.Work.{SoFar, Usable}
 
 -- ---- all tests passed
@@ -37,16 +36,13 @@ record Passed (g : Given) (fit : Bool) : Type 0 where
 passes : (g : Given) (fit : Bool) → refusal g fit ≡ 0 → Passed g fit
 unfolding refusal
 passes g fit h =
-    let a = cond-passes (degreeFine (g .model .degree)) _ 0 h in
-    let b = cond-passes (countsFine (length (g .model .times)) (length (g .keys)) 0 0 0 && leb (length (g .nodes)) 64) _ 1 (a .1) in
-    let c = cond-passes fit _ 2 (b .1) in
-    let d = cond-passes (modelFine (g .model .field) (g .a) (g .b) (g .model .times) (g .model .added) && (keyedFine (g .keys) (g .states) && all isTime (g .nodes))) _ 3 (c .1) in
-    let e = cond-passes (rising (g .model .times) && (risingSeconds (g .keys) && rising (g .nodes))) _ 4 (d .1) in
-    let values = both-pass (modelFine (g .model .field) (g .a) (g .b) (g .model .times) (g .model .added)) (keyedFine (g .keys) (g .states) && all isTime (g .nodes)) (d .0) .1 in
-    let order = both-pass (rising (g .model .times)) (risingSeconds (g .keys) && rising (g .nodes)) (e .0) .1 in
+    let a = all-pass (degreeFine (g .model .degree)) (countsFine (length (g .model .times)) (length (g .keys)) 0 0 0 && leb (length (g .nodes)) 64) fit
+    (modelFine (g .model .field) (g .a) (g .b) (g .model .times) (g .model .added) && (keyedFine (g .keys) (g .states) && all isTime (g .nodes))) (rising (g .model .times) && (risingSeconds (g .keys) && rising (g .nodes))) h in
+    let values = both-pass (modelFine (g .model .field) (g .a) (g .b) (g .model .times) (g .model .added)) (keyedFine (g .keys) (g .states) && all isTime (g .nodes)) (a .values) .1 in
+    let order = both-pass (rising (g .model .times)) (risingSeconds (g .keys) && rising (g .nodes)) (a .order) .1 in
     record {
-      degree = degree-passes (g .model .degree) (a .0);
-      lengths = c .0;
+      degree = degree-passes (g .model .degree) (a .degree);
+      lengths = a .lengths;
       times = both-pass (keyedFine (g .keys) (g .states)) (all isTime (g .nodes)) values .1;
       keys = both-pass (risingSeconds (g .keys)) (rising (g .nodes)) order .0;
       nodes = both-pass (risingSeconds (g .keys)) (rising (g .nodes)) order .1;
@@ -65,13 +61,14 @@ places-pass n keys states rms h =
     let c = both-pass (eqb states (6 * (3500 * (n - 1)))) (eqb rms (n - 1)) (b .1) in
     (eqb-true keys (3500 * (n - 1)) (b .0), eqb-true states (6 * (3500 * (n - 1))) (c .0), eqb-true rms (n - 1) (c .1))
 
-scratch-pass : (N fields n scratch : ℕ) → scratchFits N fields n scratch ≡ true → frontSize N + 90173 ≤ scratch
-unfolding scratchFits
+scratch-pass : (N fields n scratch : ℕ) → wholeScratchFits N fields n 0 scratch ≡ true → frontSize N + 90173 ≤ scratch
+unfolding wholeScratchFits
 scratch-pass N fields n scratch h =
-    let a = both-pass (leb n 64) (leb N 180 && (leb fields 32 && leb (leastScratch N fields 0 + 49200 * (n - 1)) scratch)) h .1 in
-    let b = both-pass (leb N 180) (leb fields 32 && leb (leastScratch N fields 0 + 49200 * (n - 1)) scratch) a .1 in
-    let c = leb-true (leastScratch N fields 0 + 49200 * (n - 1)) scratch (both-pass (leb fields 32) (leb (leastScratch N fields 0 + 49200 * (n - 1)) scratch) b .1) in
-    omega (arith, c)
+    let least : ℕ = leastScratch N fields 0 + 49200 * (n - 1) in
+    let a = both-pass (leb N 180) (leb fields 32 && (leb n 64 && (leb 0 100000 && leb least scratch))) h .1 in
+    let b = both-pass (leb fields 32) (leb n 64 && (leb 0 100000 && leb least scratch)) a .1 in
+    let c = both-pass (leb n 64) (leb 0 100000 && leb least scratch) b .1 in
+    omega (arith, leb-true least scratch (both-pass (leb 0 100000) (leb least scratch) c .1))
 
 module _ (g : Given) (o : Outputs) (scratch : ℕ) (fit : Bool) (n : ℕ) (ef : fit ≡ lengthsFit g o scratch) (e : n ≡ refusal g fit) (z : n ≡ 0) where
   passed : Passed g fit
@@ -87,7 +84,7 @@ module _ (g : Given) (o : Outputs) (scratch : ℕ) (fit : Bool) (n : ℕ) (ef : 
   places = placesFit (length (g .nodes)) (length (o .keys)) (length (o .states)) (length (o .rms))
 
   abbrev room : Bool
-  room = scratchFits (g .model .degree) (length (g .model .times)) (length (g .nodes)) scratch
+  room = wholeScratchFits (g .model .degree) (length (g .model .times)) (length (g .nodes)) 0 scratch
 
   lengths : ((model-fits && each-fits) ≡ true) × ((places && room) ≡ true)
   lengths = both-pass (model-fits && each-fits) (places && room) (sym ef ∙ passed .lengths)
@@ -111,10 +108,10 @@ module _ (g : Given) (o : Outputs) (scratch : ℕ) (fit : Bool) (n : ℕ) (ef : 
 -- the lengths of the outputs, tested apart
 pub fit-is : (g : Given) (o : Outputs) (scratch : ℕ) (p fit : Bool) → p ≡ placesFit (length (g .nodes)) (length (o .keys)) (length (o .states)) (length (o .rms)) →
     fit ≡ ((modelFits (g .model .degree) (length (g .model .times)) (length (g .model .field)) (length (g .model .added)) (length (g .a)) (length (g .b)) && eqb (length (g .states)) (6 * length (g .keys)))
-    && (p && scratchFits (g .model .degree) (length (g .model .times)) (length (g .nodes)) scratch)) → fit ≡ lengthsFit g o scratch
+    && (p && wholeScratchFits (g .model .degree) (length (g .model .times)) (length (g .nodes)) 0 scratch)) → fit ≡ lengthsFit g o scratch
 fit-is g o scratch p fit ep ef =
     ef ∙ ap (λ (x : Bool). (modelFits (g .model .degree) (length (g .model .times)) (length (g .model .field)) (length (g .model .added)) (length (g .a)) (length (g .b)) && eqb (length (g .states)) (6 * length (g .keys)))
-    && (x && scratchFits (g .model .degree) (length (g .model .times)) (length (g .nodes)) scratch)) ep
+    && (x && wholeScratchFits (g .model .degree) (length (g .model .times)) (length (g .nodes)) 0 scratch)) ep
 
 pub so-far-given : (g : Given) (r : Done) (o : Outputs) →
     SoFar (length (g .nodes) - 1) (between (windowFit (covers (g .model .times)) (fullForce (g .model) (g .a) (g .b)) (stateFor (g .keys) (g .states))) (g .nodes)) r o → SoFar (length (g .nodes) - 1) (fittedWindows g) r o

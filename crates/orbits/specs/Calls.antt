@@ -10,8 +10,7 @@ use lib.ListN.{length, replicate}
 use Rattle.laws.specs.Floats.{zero64}
 use Rattle.laws.specs.Checks.{all, isTime, rising, risingSeconds}
 use Rattle.laws.specs.Loops.{cleared}
-use Rattle.slices.specs.Calls.{firstFailed}
-use Rattle.lent.specs.Lent.{degreeFine, countsFine, modelFits, leastScratch, modelFine, keyedFine}
+use Rattle.lent.specs.Lent.{firstOf, degreeFine, countsFine, modelFits, wholeScratchFits, modelFine, keyedFine}
 use Rattle.finality.specs.Tables.{keyOf}
 use Rattle.finality.specs.Brackets.{covers}
 use Rattle.integrate.specs.Force.{Model, fullForce}
@@ -47,27 +46,21 @@ outputs keys states rms = record { keys = keys; states = states; rms = rms }
 unfoldable pub placesFit : ℕ → ℕ → ℕ → ℕ → Bool
 placesFit n keys states rms = leb n 64 && (eqb keys (3500 * (n - 1)) && (eqb states (6 * (3500 * (n - 1))) && eqb rms (n - 1)))
 
--- the scratch of one fit and 49,200 numbers for each pair
-unfoldable pub scratchFits : ℕ → ℕ → ℕ → ℕ → Bool
-scratchFits N fields n scratch = leb n 64 && (leb N 180 && (leb fields 32 && leb (leastScratch N fields 0 + 49200 * (n - 1)) scratch))
-
 abbrev pub lengthsFit : Given → Outputs → ℕ → Bool
 lengthsFit g o scratch =
     (modelFits (g .model .degree) (length (g .model .times)) (length (g .model .field)) (length (g .model .added)) (length (g .a)) (length (g .b))
     && eqb (length (g .states)) (6 * length (g .keys)))
     && (placesFit (length (g .nodes)) (length (o .keys)) (length (o .states)) (length (o .rms))
-    && scratchFits (g .model .degree) (length (g .model .times)) (length (g .nodes)) scratch)
+    && wholeScratchFits (g .model .degree) (length (g .model .times)) (length (g .nodes)) 0 scratch)
 
 -- fit: whether all lengths do; of the other lists that `countsFine` tests the call has none
 unfoldable pub refusal : Given → Bool → ℕ
 refusal g fit =
-    firstFailed
-    ((degreeFine (g .model .degree), 1)
-    ∷ (countsFine (length (g .model .times)) (length (g .keys)) 0 0 0 && leb (length (g .nodes)) 64, 2)
-    ∷ (fit, 3)
-    ∷ (modelFine (g .model .field) (g .a) (g .b) (g .model .times) (g .model .added) && (keyedFine (g .keys) (g .states) && all isTime (g .nodes)), 4)
-    ∷ (rising (g .model .times) && (risingSeconds (g .keys) && rising (g .nodes)), 5)
-    ∷ [])
+    firstOf (degreeFine (g .model .degree))
+    (countsFine (length (g .model .times)) (length (g .keys)) 0 0 0 && leb (length (g .nodes)) 64)
+    fit
+    (modelFine (g .model .field) (g .a) (g .b) (g .model .times) (g .model .added) && (keyedFine (g .keys) (g .states) && all isTime (g .nodes)))
+    (rising (g .model .times) && (risingSeconds (g .keys) && rising (g .nodes)))
 
 -- ---- the work
 

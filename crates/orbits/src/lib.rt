@@ -6,9 +6,9 @@ ghost use mathlib.Core.Bool.{_&&_};
 ghost use Prim.Native.Nat.{_-_, _*_};
 ghost use lib.Dec.{eqb};
 ghost use lib.ListN.{length};
-ghost use Rattle.lent.specs.Lent.{modelFits};
+ghost use Rattle.lent.specs.Lent.{modelFits, wholeScratchFits};
 ghost use Rattle.integrate.specs.Force.{model};
-ghost use Rattle.orbits.specs.Calls.{given, outputs, placesFit, scratchFits, refusal as refusalOf, left, orbitsCall};
+ghost use Rattle.orbits.specs.Calls.{given, outputs, placesFit, refusal as refusalOf, left, orbitsCall};
 
 // How many states and how many windows were fitted, or the number of the refusal.
 pub enum FittedOrbits {
@@ -37,19 +37,6 @@ fn places_fit(n: usize, keys: usize, states: usize, rms: usize) -> bool
     )
 }
 
-fn scratch_fits(degree: usize, fields: usize, n: usize, scratch: usize) -> bool
-    ensures { λ r. ⌜ r ≡ scratchFits degree fields n scratch ⌝ }
-{
-    if 64 < n {
-        return false;
-    }
-    let more = 49200 * pairs(n);
-    if scratch < more {
-        return false;
-    }
-    lent::scratch_fits(degree, fields, 0, scratch - more)
-}
-
 // Lengths of what is lent; places: whether those of the outputs fit.
 fn lengths_fit(
     degree: usize,
@@ -64,15 +51,13 @@ fn lengths_fit(
     places: bool,
     scratch: usize,
 ) -> bool
-    ensures { λ r. ⌜ r ≡ (modelFits degree (length (now (times .entry))) (length (now (field .entry))) (length (now (added .entry))) (length (now (a .entry))) (length (now (b .entry))) && eqb (length (now (states .entry))) (6 * length (now (keys .entry)))) && (places && scratchFits degree (length (now (times .entry))) nodes scratch) ⌝ }
+    ensures { λ r. ⌜ r ≡ (modelFits degree (length (now (times .entry))) (length (now (field .entry))) (length (now (added .entry))) (length (now (a .entry))) (length (now (b .entry))) && eqb (length (now (states .entry))) (6 * length (now (keys .entry)))) && (places && wholeScratchFits degree (length (now (times .entry))) nodes 0 scratch) ⌝ }
 {
     let fields = times.len();
     let model = lent::model_fits(degree, fields, field.len(), added.len(), a.len(), b.len());
     let each = states.len() == 6 * keys.len();
-    slices::both(
-        slices::both(model, each),
-        slices::both(places, scratch_fits(degree, fields, nodes, scratch)),
-    )
+    let room = lent::whole_scratch_fits(degree, fields, nodes, 0, scratch);
+    slices::both(slices::both(model, each), slices::both(places, room))
 }
 
 // fit: whether all lengths do.
@@ -102,12 +87,7 @@ fn refusal(
         slices::rising(times),
         slices::both(slices::rising_keys(keys), slices::rising(nodes)),
     );
-    let last = slices::unless(values, 4, slices::unless(order, 5, 0));
-    slices::unless(
-        lent::degree_fine(degree),
-        1,
-        slices::unless(counts, 2, slices::unless(fit, 3, last)),
-    )
+    lent::first_of(lent::degree_fine(degree), counts, fit, values, order)
 }
 
 // The dynamic orbits fitted between neighbouring nodes: the states inside each window with their seconds, and an rms a window, without the windows that are skipped.
