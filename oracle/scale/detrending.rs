@@ -1,7 +1,7 @@
 // Revolutions and detrending: windows about 50 epochs, times on nodes, zeros, singular ranges, 100,000 times and one more, 64 nodes
 // and one more, each cause of refusal.
 use crate::fieldlists::{finite, is_time, rising};
-use crate::generate::{gauss, uni};
+use crate::generate::{gauss, unit};
 use crate::lent::*;
 use crate::source::{Rng, detrend, revolutions};
 use crate::tally::Tally;
@@ -18,7 +18,7 @@ fn parting(random: &mut Rng, times: &[f64]) -> Vec<f64> {
     let mut at = random.below(30);
     while at < times.len() && nodes.len() < 64 {
         let t = times[at];
-        let node = match random.below(4) { 0 => t, 1 => t.next_up(), 2 => if t > 0.0 { t.next_down() } else { t }, _ => t + 0.7 * uni(random) };
+        let node = match random.below(4) { 0 => t, 1 => t.next_up(), 2 => if t > 0.0 { t.next_down() } else { t }, _ => t + 0.7 * unit(random) };
         if nodes.last().is_none_or(|last| *last < node) { nodes.push(node); }
         at += if times.len() > 10_000 { 1_000 + random.below(2_000) } else { [1, 20, 48, 49, 50, 51, 52, 90, 200][random.below(9)] };
     }
@@ -70,12 +70,12 @@ fn listing(tally: &mut Tally, rounds: u64) {
 /// Ranges of any kind: of revolutions, empty, overlapping, short.
 fn ranges(random: &mut Rng, n: usize) -> Vec<(usize, usize, f64, f64)> {
     let count = match random.below(30) { 0 => 63, 1 => 64, 2 => 0, _ => 1 + random.below(6) };
-    let mut start = 1e3 * uni(random);
+    let mut start = 1e3 * unit(random);
     (0..count).map(|_| {
         let (a, b) = (random.below(n + 1), random.below(n + 1));
         let range = match random.below(6) { 0 => (a, a), 1 => (a, (a + random.below(8)).min(n)), _ => (a.min(b), a.max(b)) };
-        start += 1.0 + 100.0 * uni(random);
-        let period = match random.below(60) { 0 => 0.0, 1 => 1e-5, 2..6 => -5_650.0, _ => 200.0 + 6_000.0 * uni(random) };
+        start += 1.0 + 100.0 * unit(random);
+        let period = match random.below(60) { 0 => 0.0, 1 => 1e-5, 2..6 => -5_650.0, _ => 200.0 + 6_000.0 * unit(random) };
         (range.0, range.1, start, period)
     }).collect()
 }

@@ -1,65 +1,22 @@
 // The records of a list of observations: bounds of every list, each length off by one, each cause of refusal, seconds without an entry.
-use crate::fieldlists::{coefficients, finite, is_time, places, rising};
+use crate::fieldlists::{Fields, LAST, LAST_KEY, Observing, Rows, record_fine};
 use crate::fields::field;
-use crate::generate::{gauss, uni};
+use crate::generate::{gauss, unit};
 use crate::lent::*;
-use crate::source::{Coefficients, Epoch, Inputs, Legendre, Model, Rng, States, residuals, set_nmax};
+use crate::source::{Epoch, Rng, residuals};
 use crate::tally::Tally;
 use pozsmeteg::raw;
 
-pub const TOP: i64 = 2147483648;
-
-/// The gravity model of a call, as it is lent.
-#[derive(Clone)]
-pub struct Fields {
-    pub degree: usize,
-    pub field: Vec<f64>,
-    pub a: Vec<f64>,
-    pub b: Vec<f64>,
-    pub times: Vec<f64>,
-    pub added: Vec<f64>,
-}
-
 impl Fields {
     pub fn new(random: &mut Rng, n: usize, times: Vec<f64>) -> Fields {
-        let table = Legendre::new(n);
         let mut main = field(random, n, 1.0, 1e-6);
         main[2 + 3] = -4.841_65e-4;
         let added = times.iter().flat_map(|_| field(random, n, 0.0, 1e-9)).collect();
-        Fields { degree: n, field: main, a: table.a.clone(), b: table.b.clone(), times, added }
+        Fields::of(n, main, times, added)
     }
 
     pub fn lent(&self) -> raw::Model<'_> {
         raw::Model { degree: self.degree, field: &self.field, a: &self.a, b: &self.b, times: &self.times, added: &self.added }
-    }
-
-    pub fn least_scratch(&self) -> usize {
-        let l = places(self.degree.min(180));
-        2 * self.times.len().min(32) * l + 8 * l + 150_000
-    }
-
-    pub fn source(&self) -> Model {
-        set_nmax(self.degree);
-        let size = 2 + 2 * places(self.degree);
-        let added: Vec<(f64, Coefficients)> = self.times.iter().zip(self.added.chunks(size)).map(|(t, f)| (*t, coefficients(self.degree, f))).collect();
-        Model::new(&coefficients(self.degree, &self.field), &added)
-    }
-
-    pub fn degree_fine(&self) -> bool {
-        (2..=180).contains(&self.degree)
-    }
-
-    pub fn counted(&self) -> bool {
-        (2..=32).contains(&self.times.len())
-    }
-
-    pub fn fits(&self) -> bool {
-        let l = places(self.degree);
-        self.field.len() == 2 + 2 * l && self.a.len() == l && self.b.len() == l && self.added.len() == self.times.len() * (2 + 2 * l)
-    }
-
-    pub fn fine(&self) -> bool {
-        finite(&self.field) && finite(&self.a) && finite(&self.b) && finite(&self.added) && self.times.iter().all(|t| is_time(*t))
     }
 
     /// One cause of refusal, at times one that is none.
@@ -83,29 +40,9 @@ impl Fields {
     }
 }
 
-/// Values beside their whole seconds.
-#[derive(Clone)]
-pub struct Rows {
-    pub keys: Vec<i64>,
-    pub values: Vec<f64>,
-    pub width: usize,
-}
-
 impl Rows {
     pub fn lent(&self) -> raw::Keyed<'_> {
         raw::Keyed { keys: &self.keys, values: &self.values }
-    }
-
-    pub fn fits(&self) -> bool {
-        self.values.len() == self.width * self.keys.len()
-    }
-
-    pub fn fine(&self) -> bool {
-        finite(&self.values) && self.keys.iter().all(|k| (0..=TOP).contains(k))
-    }
-
-    pub fn states(&self) -> States {
-        self.keys.iter().zip(self.values.as_chunks::<6>().0).map(|(k, s)| (*k, ([s[0], s[1], s[2]], [s[3], s[4], s[5]]))).collect()
     }
 
     pub fn damage(&mut self, random: &mut Rng) {
@@ -120,16 +57,6 @@ impl Rows {
             _ => put(random, &mut self.values, 1e300),
         }
     }
-}
-
-struct Asked {
-    fields: Fields,
-    rows: [Rows; 4],
-    obs: Vec<f64>,
-    values: Vec<f64>,
-    good: Vec<u8>,
-    outs: [usize; 5],
-    scratch: usize,
 }
 
 /// A polar orbit, so many radians ahead.
@@ -148,25 +75,25 @@ fn keys(random: &mut Rng, base: i64) -> Vec<i64> {
     (0..n).map(|_| { let now = key; key += if n > 1000 || random.below(25) > 0 { 1 } else { 1 + random.below(4) as i64 }; now }).collect()
 }
 
-impl Asked {
-    fn new(random: &mut Rng) -> Asked {
+impl Observing {
+    fn new(random: &mut Rng) -> Observing {
         let n = match random.below(50) { 0 => 180, 1 => 20 + random.below(20), _ => 2 + random.below(7) };
-        let base = match random.below(6) { 0 => 0, 1 => TOP - 40, _ => random.below(1 << 30) as i64 };
+        let base = match random.below(6) { 0 => 0, 1 => LAST_KEY - 40, _ => random.below(1 << 30) as i64 };
         let count = match random.below(20) { 0 => 32, 1 => 33, _ => 2 + random.below(3) };
         let first = (base - random.below(30) as i64).max(0) as f64;
         let mut times: Vec<f64> = (0..count).map(|k| first + if count > 5 { k as f64 } else { 30.5 * k as f64 }).collect();
-        times.iter_mut().for_each(|t| *t = t.min(TOP as f64));
+        times.iter_mut().for_each(|t| *t = t.min(LAST));
         let fields = Fields::new(random, n, times);
         let (c, d) = (keys(random, base), keys(random, base));
         let mut acc = || { let keys = keys(random, base); Rows { values: keys.iter().map(|_| 1e-7 * gauss(random)).collect(), keys, width: 1 } };
         let (c_acc, d_acc) = (acc(), acc());
         let m = match random.below(100) { 0 => 0, 1 => 1, _ => random.below(25) };
         let mut t = base as f64;
-        let obs: Vec<f64> = (0..m).map(|_| { let now = t; t += if random.below(3) == 0 { 0.01 + 5.0 * uni(random) } else { 1.0 + random.below(3) as f64 }; now }).collect();
+        let obs: Vec<f64> = (0..m).map(|_| { let now = t; t += if random.below(3) == 0 { 0.01 + 5.0 * unit(random) } else { 1.0 + random.below(3) as f64 }; now }).collect();
         let values = obs.iter().map(|_| 1e-3 * gauss(random)).collect();
         let good = obs.iter().map(|_| [0, 1, 1, 1, 255][random.below(5)]).collect();
         let scratch = scratch_length(random, fields.least_scratch() + 10 * m);
-        Asked { fields, rows: [states(&c, 0.0), states(&d, 0.032), c_acc, d_acc], obs, values, good, outs: [m; 5], scratch }
+        Observing { fields, rows: [states(&c, 0.0), states(&d, 0.032), c_acc, d_acc], obs, values, good, outs: [m; 5], scratch }
     }
 
     fn damage(&mut self, random: &mut Rng) {
@@ -192,28 +119,6 @@ impl Asked {
             },
         }
     }
-
-    fn refusal(&self) -> u8 {
-        let (f, m) = (&self.fields, self.obs.len());
-        if !f.degree_fine() { return 1 }
-        if !f.counted() || self.rows.iter().any(|r| r.keys.len() > 200_000) || m > 100_000 { return 2 }
-        if !f.fits() || !self.rows.iter().all(Rows::fits) || self.values.len() != m || self.good.len() != m || self.outs != [m; 5] || self.scratch < f.least_scratch() + 10 * m { return 3 }
-        if !f.fine() || !self.rows.iter().all(Rows::fine) || !finite(&self.values) || !self.obs.iter().all(|t| is_time(*t)) { return 4 }
-        if !rising(&f.times) || !self.rows.iter().all(|r| rising(&r.keys)) || !rising(&self.obs) { return 5 }
-        0
-    }
-
-    fn records(&self) -> Vec<Epoch> {
-        let model = self.fields.source();
-        let [c, d, ca, da] = &self.rows;
-        let numbers = |r: &Rows| r.keys.iter().copied().zip(r.values.iter().copied()).collect();
-        let obs: Vec<(f64, f64, bool)> = (0..self.obs.len()).map(|i| (self.obs[i], self.values[i], self.good[i] != 0)).collect();
-        residuals(&Inputs { model: &model, c: &c.states(), d: &d.states(), c_acc: &numbers(ca), d_acc: &numbers(da) }, &obs)
-    }
-}
-
-fn fine(e: &Epoch) -> bool {
-    e.t.is_finite() && e.residual.is_finite() && finite(&e.terms) && finite(&e.mid) && finite(&e.vel)
 }
 
 pub fn compare(tally: &mut Tally, rounds: u64) {
@@ -221,7 +126,7 @@ pub fn compare(tally: &mut Tally, rounds: u64) {
     let mut records = 0;
     for case in 0..rounds {
         let mut random = tally.random(case);
-        let mut asked = Asked::new(&mut random);
+        let mut asked = Observing::new(&mut random);
         for _ in 0..[0, 0, 0, 1, 1, 2][random.below(6)] { asked.damage(&mut random) }
         let widths = [1, 1, 5, 3, 3];
         let [mut times, mut values, mut terms, mut mids, mut vels] = [0, 1, 2, 3, 4].map(|k| Lent::new(&mut random, widths[k] * asked.outs[k]));
@@ -234,9 +139,9 @@ pub fn compare(tally: &mut Tally, rounds: u64) {
             raw::Records { times: &mut times.now, residuals: &mut values.now, terms: terms.now.as_chunks_mut().0, mids: mids.now.as_chunks_mut().0, vels: vels.now.as_chunks_mut().0 },
             &mut counts, &mut scratch.now,
         );
-        let early = asked.refusal();
-        let kept = if early == 0 { asked.records() } else { vec![] };
-        let number = if early != 0 { early } else if kept.iter().all(fine) { 0 } else { 10 };
+        let early = asked.refusal(true);
+        let kept = if early == 0 { asked.records(|inputs| residuals(inputs, &asked.observations())) } else { vec![] };
+        let number = if early != 0 { early } else if kept.iter().all(record_fine) { 0 } else { 10 };
         tally.answered(number);
         records += kept.len();
         let padded = |width: usize, part: &dyn Fn(&Epoch) -> Vec<f64>| { let mut out: Vec<f64> = kept.iter().flat_map(|e| part(e)).collect(); out.resize(width * asked.obs.len(), 0.0); out };

@@ -1,6 +1,6 @@
 // Legendre tables and partials: degrees at and beyond the bounds, each length off by one, each input that is not finite.
 use crate::fieldlists::{coefficients, finite, places};
-use crate::generate::{gauss, uni};
+use crate::generate::{gauss, unit};
 use crate::lent::*;
 use crate::source::{Legendre, Rng};
 use crate::tally::Tally;
@@ -52,8 +52,8 @@ fn latitude(random: &mut Rng) -> f64 {
         1 => -pole,
         2 => pole.next_down(),
         3 => if random.below(2) == 0 { 0.0 } else { -0.0 },
-        4 => 4e6 * (uni(random) - 0.5),
-        _ => pole * (2.0 * uni(random) - 1.0),
+        4 => 4e6 * (unit(random) - 0.5),
+        _ => pole * (2.0 * unit(random) - 1.0),
     }
 }
 
@@ -68,7 +68,7 @@ fn partials(tally: &mut Tally, rounds: u64) {
         let (mut a, mut b) = (table.a.clone(), table.b.clone());
         a.resize(l, 0.0);
         b.resize(l, 0.0);
-        let mut place = [6.878e6 + 1e5 * gauss(&mut random), latitude(&mut random), 7.0 * (uni(&mut random) - 0.5)];
+        let mut place = [6.878e6 + 1e5 * gauss(&mut random), latitude(&mut random), 7.0 * (unit(&mut random) - 0.5)];
         for _ in 0..[0, 0, 0, 1, 1, 2][random.below(6)] {
             let bad = strange(&mut random);
             match random.below(10) {
@@ -80,7 +80,7 @@ fn partials(tally: &mut Tally, rounds: u64) {
                 5 => put(&mut random, &mut b, bad),
                 6 => place[random.below(3)] = bad,
                 7 => place[0] = [0.0, -0.0, 1e-300, 1e300][random.below(4)],
-                8 => place[2] = 1e6 + 1e5 * uni(&mut random),
+                8 => place[2] = 1e6 + 1e5 * unit(&mut random),
                 _ => put(&mut random, &mut values, 1e308),
             }
         }

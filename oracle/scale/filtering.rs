@@ -1,6 +1,6 @@
 // The band-pass: runs about 64 samples, 100,000 samples and one more, each cause of refusal.
 use crate::fieldlists::{finite, is_time, rising};
-use crate::generate::{gauss, uni};
+use crate::generate::{gauss, unit};
 use crate::lent::*;
 use crate::source::band_pass;
 use crate::tally::Tally;
@@ -13,7 +13,7 @@ pub fn compare(tally: &mut Tally, rounds: u64) {
         let n = match random.below(200) { 0 => 100_000, 1 => 100_001, 2..10 => random.below(4), 10..60 => 62 + random.below(6), 60..70 => 1_500 + random.below(10), _ => random.below(1_000) };
         let mut times = if n > 10_000 { (0..n).map(|k| 2.0 * k as f64).collect() } else { rising_times(&mut random, n) };
         let size = 10f64.powi(random.below(20) as i32 - 12);
-        let wave = 0.05 * uni(&mut random);
+        let wave = 0.05 * unit(&mut random);
         let mut x: Vec<f64> = times.iter().map(|t| size * ((wave * t).sin() + 0.1 * gauss(&mut random))).collect();
         let mut places = n;
         for _ in 0..[0, 0, 0, 1, 1, 2][random.below(6)] {

@@ -1,6 +1,6 @@
 // Horizon, final count and final entries: ends of lists at and beside 1,804 s after a node, empty lists, runs that end at and beside
 // 3.0 s before the horizon.
-use crate::generate::uni;
+use crate::generate::unit;
 use crate::lent::rising_times;
 use crate::source::Rng;
 use crate::submission::{FieldData, Submission};
@@ -10,15 +10,15 @@ use pozsmeteg::raw;
 
 /// Where a list ends: beside a node's reach, or anywhere.
 fn last(random: &mut Rng, nodes: &[f64]) -> f64 {
-    if nodes.is_empty() { return 1e4 * uni(random) }
+    if nodes.is_empty() { return 1e4 * unit(random) }
     let z = nodes[random.below(nodes.len())] + 1804.0;
-    match random.below(5) { 0 => z.next_down(), 1 => z.next_up(), 2 => z, 3 => z.ceil(), _ => z + 4e3 * (uni(random) - 0.3) }
+    match random.below(5) { 0 => z.next_down(), 1 => z.next_up(), 2 => z, 3 => z.ceil(), _ => z + 4e3 * (unit(random) - 0.3) }
 }
 
 fn submission(random: &mut Rng) -> (Submission, Vec<f64>) {
     let count = [0, 1, 2, 5, 64][random.below(5)];
-    let mut t = 3e3 * uni(random);
-    let nodes: Vec<f64> = (0..count).map(|_| { t += if random.below(3) == 0 { 0.3 } else { 50.0 + 6e3 * uni(random) }; if random.below(2) == 0 { t } else { t.floor() } }).collect();
+    let mut t = 3e3 * unit(random);
+    let nodes: Vec<f64> = (0..count).map(|_| { t += if random.below(3) == 0 { 0.3 } else { 50.0 + 6e3 * unit(random) }; if random.below(2) == 0 { t } else { t.floor() } }).collect();
     let mut nodes = nodes;
     nodes.dedup();
     let none = || FieldData { gm: 0.0, radius: 0.0, c: vec![], s: vec![] };

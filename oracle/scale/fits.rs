@@ -1,9 +1,8 @@
 // Single fits: short and long arcs, whole, fractional and negative starts, gaps in the states, the edges of the fields, each cause of
 // refusal, 5,302 steps and one more, 200,000 keys and one more.
 use crate::elementary::sine_cosine;
-use crate::epochs::{Fields, Rows, TOP};
-use crate::fieldlists::rising;
-use crate::generate::{gauss, rk1, uni};
+use crate::fieldlists::{Fields, LAST, LAST_KEY, Rows, rising};
+use crate::generate::{gauss, rk1, unit};
 use crate::lent::*;
 use crate::source::{Arc, GM_E, OMEGA, Rng, add, fictitious, j2_gravity};
 use crate::tally::Tally;
@@ -22,13 +21,13 @@ struct Asked {
 fn orbit(random: &mut Rng, first: i64, seconds: usize, gaps: usize) -> Rows {
     let radius = 6.871e6;
     let speed = (GM_E / radius).sqrt();
-    let ((su, cu), (si, ci)) = (sine_cosine(6.0 * uni(random)), sine_cosine(1.55));
+    let ((su, cu), (si, ci)) = (sine_cosine(6.0 * unit(random)), sine_cosine(1.55));
     let mut x = [radius * cu, radius * su * ci, radius * su * si];
     let mut v = [-speed * su + OMEGA * x[1], speed * cu * ci - OMEGA * x[0], speed * cu * si];
     let mut out = Rows { keys: vec![], values: vec![], width: 6 };
     for k in 0..seconds as i64 {
         let key = first + k;
-        if key >= 0 && key <= TOP && (gaps == 0 || random.below(gaps) > 0) {
+        if key >= 0 && key <= LAST_KEY && (gaps == 0 || random.below(gaps) > 0) {
             out.keys.push(key);
             out.values.extend(x.iter().chain(&v).enumerate().map(|(i, w)| w + 0.01 * if i < 3 { 1.0 } else { 1e-3 } * gauss(random)));
         }
@@ -41,9 +40,9 @@ impl Asked {
     fn new(random: &mut Rng) -> Asked {
         let n = match random.below(60) { 0 => 20, _ => 2 + random.below(5) };
         let steps = match random.below(200) { 0 => 5_302, 1..20 => random.below(12), _ => 300 + random.below(400) };
-        let base = match random.below(8) { 0 => -(random.below(20) as i64), 1 => TOP - 2 * steps as i64 - random.below(4) as i64, _ => random.below(1 << 30) as i64 };
-        let t0 = base as f64 + match random.below(3) { 0 => 0.0, 1 => uni(random), _ => 2.0f64.powi(-20) };
-        let period = match random.below(12) { 0 => 0.0, 1 => -700.0, 2 => 1e-6, _ => 2.0 * steps as f64 * (0.5 + 0.3 * uni(random)) };
+        let base = match random.below(8) { 0 => -(random.below(20) as i64), 1 => LAST_KEY - 2 * steps as i64 - random.below(4) as i64, _ => random.below(1 << 30) as i64 };
+        let t0 = base as f64 + match random.below(3) { 0 => 0.0, 1 => unit(random), _ => 2.0f64.powi(-20) };
+        let period = match random.below(12) { 0 => 0.0, 1 => -700.0, 2 => 1e-6, _ => 2.0 * steps as f64 * (0.5 + 0.3 * unit(random)) };
         let last = t0 + 2.0 * steps as f64;
         let mut times = vec![(t0 - 10.0).max(0.0), t0 + 0.4 * (last - t0), last + 10.0];
         match random.below(12) {
@@ -53,7 +52,7 @@ impl Asked {
             3 => times[0] = t0.next_up().max(0.0),
             _ => (),
         }
-        times.iter_mut().for_each(|t| *t = t.clamp(0.0, TOP as f64));
+        times.iter_mut().for_each(|t| *t = t.clamp(0.0, LAST));
         times.dedup();
         let fields = Fields::new(random, n, times);
         let gaps = [0, 0, 2, 4, 20][random.below(5)];
@@ -66,7 +65,7 @@ impl Asked {
             states.values = at.iter().flat_map(|i| states.values[6 * i..6 * i + 6].to_vec()).collect();
             states.keys = at.iter().map(|i| states.keys[*i]).collect();
         }
-        let arc = raw::Arc { t0, steps, node: (t0 + 100.0 * uni(random)).clamp(0.0, TOP as f64), period };
+        let arc = raw::Arc { t0, steps, node: (t0 + 100.0 * unit(random)).clamp(0.0, LAST), period };
         let scratch = scratch_length(random, fields.least_scratch());
         Asked { fields, states, arc, places: 6 * (steps + 1), scratch }
     }

@@ -1,6 +1,6 @@
 // A submission as the flat lists that the library is lent.
 use crate::source::Legendre;
-use crate::submission::{FieldData, Submission};
+use crate::submission::Submission;
 use pozsmeteg::raw;
 
 pub struct Rows {
@@ -28,16 +28,12 @@ pub struct Flat {
     good: Vec<u8>,
 }
 
-fn flat(f: &FieldData) -> Vec<f64> {
-    [&[f.gm, f.radius], &f.c[..], &f.s[..]].concat()
-}
-
 impl Flat {
     /// Tables of a degree that is none are those of the nearest one that is.
     pub fn new(s: &Submission) -> Flat {
         Flat {
-            degree: s.n, field: flat(&s.stat), tables: Legendre::new(s.n.clamp(2, 180)),
-            times: s.fields.iter().map(|f| f.0).collect(), added: s.fields.iter().flat_map(|f| flat(&f.1)).collect(),
+            degree: s.n, field: s.stat.flat(), tables: Legendre::new(s.n.clamp(2, 180)),
+            times: s.fields.iter().map(|f| f.0).collect(), added: s.fields.iter().flat_map(|f| f.1.flat()).collect(),
             states: [0, 1].map(|i| Rows { keys: s.states[i].iter().map(|r| r.0).collect(), values: s.states[i].iter().flat_map(|r| r.1).collect() }),
             accs: [0, 1].map(|i| Rows { keys: s.acc[i].iter().map(|r| r.0).collect(), values: s.acc[i].iter().map(|r| r.1).collect() }),
             nodes: s.nodes.clone(), seen: s.obs.iter().map(|o| o.0).collect(), values: s.obs.iter().map(|o| o.1).collect(), good: s.obs.iter().map(|o| o.2).collect(),

@@ -1,5 +1,5 @@
 // Lent slices: what stood in them before a call, and what document 01's table leaves there.
-use crate::generate::uni;
+use crate::generate::unit;
 use crate::source::Rng;
 
 pub struct Lent {
@@ -102,15 +102,15 @@ pub fn unsorted<T: Copy>(random: &mut Rng, list: &mut [T]) {
 
 /// Rising times of steps about 2 s, some of 3.0 s and its neighbours, some gaps.
 pub fn rising_times(random: &mut Rng, n: usize) -> Vec<f64> {
-    let mut t = match random.below(4) { 0 => 0.0, 1 => -0.0, 2 => 1e9 * uni(random), _ => (random.below(100_000)) as f64 };
+    let mut t = match random.below(4) { 0 => 0.0, 1 => -0.0, 2 => 1e9 * unit(random), _ => (random.below(100_000)) as f64 };
     (0..n).map(|_| {
         let now = t;
         t += match random.below(60) {
             0 => 3.0,
             1 => 3.0f64.next_up(),
             2 => 3.0f64.next_down(),
-            3 => 4.0 + 20.0 * uni(random),
-            4 => 1e-3 + uni(random),
+            3 => 4.0 + 20.0 * unit(random),
+            4 => 1e-3 + unit(random),
             _ => 2.0,
         };
         now

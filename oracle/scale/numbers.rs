@@ -1,6 +1,6 @@
 // The elementary numbers: random bit patterns, the places where the reduction and the branches turn, and the edges.
 use crate::elementary;
-use crate::generate::uni;
+use crate::generate::unit;
 use crate::source::Rng;
 use crate::tally::Tally;
 use pozsmeteg::raw;
@@ -25,7 +25,7 @@ fn pattern(random: &mut Rng) -> f64 {
 }
 
 fn signed(random: &mut Rng) -> f64 {
-    2.0 * uni(random) - 1.0
+    2.0 * unit(random) - 1.0
 }
 
 /// Of any size between 2^-60 and 2^22.
@@ -53,7 +53,7 @@ fn size(random: &mut Rng) -> f64 {
         2 => { let m = (1u64 << 52 | random.next_u64() >> 12) as f64; near(random, m * m) }
         3 => { let m = (1u64 << 26 | random.next_u64() >> 38) as f64 + 0.5; near(random, m * m) }
         4 => f64::from_bits(random.next_u64() >> (1 + random.below(60))),
-        _ => 1e7 * uni(random),
+        _ => 1e7 * unit(random),
     }
 }
 

@@ -1,9 +1,10 @@
 // The whole path beside the oracle's modules 8 and 9, and demand 3: pairs of submissions, the second beginning with the first.
+use crate::fieldlists::LAST;
 use crate::flat::Flat;
-use crate::generate::{Plan, gauss, generate, random_field, uni};
+use crate::generate::{Plan, gauss, generate, random_field, unit};
 use crate::lent::*;
 use crate::source::Rng;
-use crate::submission::{Submission, TOP, check};
+use crate::submission::{Submission, check};
 use crate::tally::Tally;
 use crate::whole::whole;
 use pozsmeteg::raw;
@@ -74,14 +75,14 @@ fn plan(random: &mut Rng, n: usize, most: usize) -> Plan {
 /// A submission of some odd shape.
 fn shaped(random: &mut Rng, n: usize, most: usize) -> Submission {
     let mut s = generate(&plan(random, n, most));
-    for f in s.fields.iter_mut() { f.0 = f.0.clamp(0.0, TOP) }
+    for f in s.fields.iter_mut() { f.0 = f.0.clamp(0.0, LAST) }
     s.fields.dedup_by(|b, a| a.0 == b.0);
     for i in 0..2 {
-        s.states[i].retain(|r| r.0 as f64 <= TOP);
-        s.acc[i].retain(|r| r.0 as f64 <= TOP);
+        s.states[i].retain(|r| r.0 as f64 <= LAST);
+        s.acc[i].retain(|r| r.0 as f64 <= LAST);
     }
-    s.obs.retain(|o| o.0 <= TOP);
-    s.nodes.retain(|t| *t <= TOP);
+    s.obs.retain(|o| o.0 <= LAST);
+    s.nodes.retain(|t| *t <= LAST);
     if s.obs.is_empty() || s.nodes.len() < 2 { return s }
     if random.below(3) > 0 {
         let (b, w, every) = (s.obs[0].0, 9.0 + random.below(40) as f64, 2 + random.below(4) as i64);
@@ -97,7 +98,7 @@ fn odd(random: &mut Rng, s: &mut Submission) {
     match random.below(14) {
         0 => s.obs.iter_mut().for_each(|o| o.0 = o.0.floor() + 0.96875),
         1 => { s.nodes.iter_mut().for_each(|t| *t = 2.0 * (*t / 2.0).floor()); s.nodes.dedup() }
-        2 => { s.nodes.extend([a + 1.0 + uni(random), a + 3.9, a + 7.5]); sort(&mut s.nodes) }
+        2 => { s.nodes.extend([a + 1.0 + unit(random), a + 3.9, a + 7.5]); sort(&mut s.nodes) }
         // windows so short that the angle of their waves is beyond 2^20
         3 => { let e = 2.0 * (a / 2.0).floor(); s.nodes.extend([e, e + 0.001]); sort(&mut s.nodes) }
         4 => { let e = s.nodes[s.nodes.len() - 1]; s.nodes.extend([e + 1.5, e + 2.9]) }
@@ -224,7 +225,7 @@ fn longer(random: &mut Rng, s: &Submission) -> Submission {
     let mut out = s.clone();
     if random.below(2) == 0 && let Some(last) = s.nodes.last() {
         let mut t = *last;
-        for _ in 0..1 + random.below(3) { t += [0.3, 1.0, 2.9, 3.0, 150.0, 900.0, 7000.0][random.below(7)]; if t <= TOP && out.nodes.len() < 64 { out.nodes.push(t) } }
+        for _ in 0..1 + random.below(3) { t += [0.3, 1.0, 2.9, 3.0, 150.0, 900.0, 7000.0][random.below(7)]; if t <= LAST && out.nodes.len() < 64 { out.nodes.push(t) } }
     }
     if random.below(2) == 0 && let Some(last) = s.fields.last() {
         let mut t = last.0;
@@ -232,19 +233,19 @@ fn longer(random: &mut Rng, s: &Submission) -> Submission {
             t += [1.0, 10.0, 5000.0][random.below(3)];
             let mut f = random_field(random, s.n, 1e14, 7e6, 1e-4, false);
             f.c[0] = 0.3;
-            if t <= TOP && out.fields.len() < 32 { out.fields.push((t, f)) }
+            if t <= LAST && out.fields.len() < 32 { out.fields.push((t, f)) }
         }
     }
     for i in 0..2 {
         if random.below(2) == 0 && let Some((mut key, state)) = s.states[i].last().copied() {
-            for _ in 0..1 + random.below(1200) { key += 1 + (random.below(12) == 0) as i64; if key as f64 <= TOP { out.states[i].push((key, state.map(|v| v * (1.0 + 1e-3 * gauss(random))))) } }
+            for _ in 0..1 + random.below(1200) { key += 1 + (random.below(12) == 0) as i64; if key as f64 <= LAST { out.states[i].push((key, state.map(|v| v * (1.0 + 1e-3 * gauss(random))))) } }
         }
         if random.below(2) == 0 && let Some((mut key, _)) = s.acc[i].last().copied() {
-            for _ in 0..1 + random.below(1200) { key += 1; if key as f64 <= TOP { out.acc[i].push((key, 1e3 * gauss(random))) } }
+            for _ in 0..1 + random.below(1200) { key += 1; if key as f64 <= LAST { out.acc[i].push((key, 1e3 * gauss(random))) } }
         }
     }
     if random.below(2) == 0 && let Some((mut t, _, _)) = s.obs.last().copied() {
-        for _ in 0..1 + random.below(600) { t += [0.25, 1.0, 2.0, 3.0, 5.0][random.below(5)]; if t <= TOP { out.obs.push((t, 1e6 * gauss(random), random.below(2) as u8)) } }
+        for _ in 0..1 + random.below(600) { t += [0.25, 1.0, 2.0, 3.0, 5.0][random.below(5)]; if t <= LAST { out.obs.push((t, 1e6 * gauss(random), random.below(2) as u8)) } }
     }
     out
 }

@@ -1,5 +1,7 @@
 // Revolutions, detrending and nodes: windows of 49, 50 and 51 epochs, samples before the first node and after the last, times on a node, gaps, zero values, singular
 // fits, overlapping and empty ranges, crossings at ±0.0 and beside gaps, and each refusal but those that need lists of more than 100,000.
+use crate::fieldlists::finite;
+use crate::generate::unit;
 use crate::list::List;
 use crate::source::{Epoch, Rng, Satellite, ascending_nodes, detrend, remove_per_revolution, revolutions};
 use std::collections::HashMap;
@@ -11,20 +13,13 @@ const NODES: u64 = 3;
 
 const HELD: f64 = 7.0;
 
-fn unit(random: &mut Rng) -> f64 {
-    (random.next_u64() >> 11) as f64 / (1u64 << 53) as f64
-}
-
 fn slice(list: &mut List, values: &[f64]) {
-    list.ask(values.len() as u64);
-    list.ask(values.len() as u64);
-    list.ask_all(values);
+    list.ask_first(values.len(), values);
 }
 
 fn counts(list: &mut List, values: &[usize]) {
-    list.ask(values.len() as u64);
-    list.ask(values.len() as u64);
-    values.iter().for_each(|v| list.ask(*v as u64));
+    list.ask_counts(&[values.len(), values.len()]);
+    list.ask_counts(values);
 }
 
 /// Times two seconds apart, with a gap now and then.
@@ -53,7 +48,7 @@ fn ask_revolutions(list: &mut List, times: &[f64], nodes: &[f64], places: [usize
     list.call(REVOLUTIONS);
     slice(list, times);
     slice(list, nodes);
-    places.iter().for_each(|p| list.ask(*p as u64));
+    list.ask_counts(&places);
 }
 
 fn accepted_revolutions(list: &mut List, times: &[f64], nodes: &[f64]) {
@@ -100,7 +95,7 @@ fn worked(list: &mut List, times: &[f64], values: &[f64], r: &Ranges) {
     let mut out = values.to_vec();
     let all: Vec<_> = (0..r.firsts.len()).map(|k| (r.firsts[k]..r.ends[k], r.starts[k], r.periods[k])).collect();
     detrend(times, &mut out, &all);
-    if out.iter().all(|v| v.is_finite()) {
+    if finite(&out) {
         list.tell(0);
         list.tell_all(&out);
     } else {
@@ -114,7 +109,7 @@ fn refused(list: &mut List, number: u64, times: &[f64], values: &[f64], r: &Rang
     ask_detrend(list, times, values, r, room);
     list.tell(number);
     list.tell_all(values);
-    list.tell((room > 0) as u64);
+    list.tell_left(true, room);
 }
 
 fn removed(list: &mut List, times: &[f64], values: &[f64], nodes: &[f64], short: usize) {
@@ -148,7 +143,7 @@ fn found_nodes(list: &mut List, keys: &[i64], heights: &[f64]) {
     ask_nodes(list, keys, &states, keys.len());
     let sat = Satellite { states: keys.iter().zip(heights).map(|(k, z)| (*k, ([1.0, 2.0, *z], [4.0, 5.0, 6.0]))).collect(), accel_x: HashMap::new() };
     let nodes = ascending_nodes(&sat);
-    if nodes.iter().all(|t| t.is_finite()) {
+    if finite(&nodes) {
         list.tell(0);
         list.tell(nodes.len() as u64);
         for k in 0..keys.len() { list.tell_float(nodes.get(k).copied().unwrap_or(0.0)); }

@@ -1,8 +1,9 @@
 // The fields of module 1. Answers by the source's `Legendre`, `Coefficients` and `Partials`; refusals by document 01's table. Outputs
 // stand at 3.0 and scratch at 7.0 before a call: all unchanged after refusals 1 to 4, +0.0 after 10.
-use crate::fieldlists::{coefficients, finite, places};
+use crate::fieldlists::{WILD, coefficients, finite, is_degree, places};
+use crate::generate::unit;
 use crate::list::{List, step};
-use crate::source::{Coefficients, Legendre, Partials, Rng, derive, idx};
+use crate::source::{Legendre, Partials, Rng, derive, idx};
 use std::f64::consts::{FRAC_PI_2, PI};
 
 const INDEX: u64 = 0;
@@ -13,16 +14,18 @@ const DERIVE: u64 = 4;
 const COMPUTE: u64 = 5;
 const PARTIALS: u64 = 6;
 
-fn good(n: usize) -> bool {
-    (2..=180).contains(&n)
+/// The refusal before the work: by the degree, by the lengths, by the numbers.
+fn early(n: usize, lengths: bool, numbers: bool) -> u64 {
+    if !is_degree(n) { 1 } else if !lengths { 3 } else if !numbers { 4 } else { 0 }
 }
 
 fn tell_some(list: &mut List, values: &[f64], between: usize) {
     values.iter().step_by(between + 1).for_each(|v| list.tell_float(*v));
 }
 
-fn unit(random: &mut Rng) -> f64 {
-    2.0 * ((random.next_u64() >> 11) as f64 / (1u64 << 53) as f64) - 1.0
+/// From -1 to 1.
+fn signed(random: &mut Rng) -> f64 {
+    2.0 * unit(random) - 1.0
 }
 
 /// GM, radius, C, S of a plausible field.
@@ -31,7 +34,7 @@ fn field(random: &mut Rng, n: usize) -> Vec<f64> {
     for _ in 0..2 {
         for d in 0..=n {
             for _ in 0..=d {
-                out.push(1e-5 / (1.0 + (d * d) as f64) * unit(random));
+                out.push(1e-5 / (1.0 + (d * d) as f64) * signed(random));
             }
         }
     }
@@ -41,16 +44,15 @@ fn field(random: &mut Rng, n: usize) -> Vec<f64> {
 
 /// The answer's number and the outputs: by an early refusal, or by the numbers worked out.
 fn outputs(list: &mut List, early: u64, lengths: &[usize], scratch: usize, between: usize, work: impl Fn() -> Vec<Vec<f64>>) {
-    let (number, new, state) = if early != 0 {
-        // an empty scratch is told as +0.0
-        (early, lengths.iter().map(|l| vec![3.0; *l]).collect(), (scratch > 0) as u64)
+    let (number, new, unchanged) = if early != 0 {
+        (early, lengths.iter().map(|l| vec![3.0; *l]).collect(), true)
     } else {
         let new = work();
-        if new.iter().all(|x| finite(x)) { (0, new, 0) } else { (10, lengths.iter().map(|l| vec![0.0; *l]).collect(), 0) }
+        if new.iter().all(|x| finite(x)) { (0, new, false) } else { (10, lengths.iter().map(|l| vec![0.0; *l]).collect(), false) }
     };
     list.tell(number);
     new.iter().for_each(|x: &Vec<f64>| tell_some(list, x, between));
-    list.tell(state);
+    list.tell_left(unchanged, scratch);
 }
 
 fn index(list: &mut List, n: usize, m: usize) {
@@ -81,10 +83,9 @@ fn neu(list: &mut List, v: [f64; 6]) {
 
 fn new(list: &mut List, n: usize, la: usize, lb: usize, scratch: usize, between: usize) {
     list.call(NEW);
-    for x in [n, la, lb, scratch, between] {
-        list.ask(x as u64);
-    }
-    let early = if !good(n) { 1 } else if la != places(n) || lb != places(n) || scratch < 8 * places(n) { 3 } else { 0 };
+    list.ask_counts(&[n, la, lb, scratch, between]);
+    let l = places(n);
+    let early = early(n, la == l && lb == l && scratch >= 8 * l, true);
     outputs(list, early, &[la, lb], scratch, between, || {
         let t = Legendre::new(n);
         vec![t.a.clone(), t.b.clone()]
@@ -94,23 +95,11 @@ fn new(list: &mut List, n: usize, la: usize, lb: usize, scratch: usize, between:
 fn rescaled(list: &mut List, n: usize, field: &[f64], gm: f64, radius: f64, lc: usize, ls: usize, scratch: usize) {
     list.call(RESCALED);
     list.ask(n as u64);
-    list.ask(field.len() as u64);
-    list.ask_all(field);
-    for x in [lc, ls, scratch] {
-        list.ask(x as u64);
-    }
-    list.ask_float(gm);
-    list.ask_float(radius);
+    list.ask_list(field);
+    list.ask_counts(&[lc, ls, scratch]);
+    list.ask_all(&[gm, radius]);
     let l = places(n);
-    let early = if !good(n) {
-        1
-    } else if field.len() != 2 + 2 * l || lc != l || ls != l || scratch < 8 * l {
-        3
-    } else if !finite(field) || !gm.is_finite() || !radius.is_finite() {
-        4
-    } else {
-        0
-    };
+    let early = early(n, field.len() == 2 + 2 * l && lc == l && ls == l && scratch >= 8 * l, finite(field) && finite(&[gm, radius]));
     outputs(list, early, &[lc, ls], scratch, 0, || {
         let out = coefficients(n, field).rescaled(gm, radius);
         vec![out.c.clone(), out.s.clone()]
@@ -120,12 +109,10 @@ fn rescaled(list: &mut List, n: usize, field: &[f64], gm: f64, radius: f64, lc: 
 fn derived(list: &mut List, n: usize, p: &[f64], ld: usize, scratch: usize) {
     list.call(DERIVE);
     list.ask(n as u64);
-    list.ask(p.len() as u64);
-    list.ask_all(p);
-    list.ask(ld as u64);
-    list.ask(scratch as u64);
+    list.ask_list(p);
+    list.ask_counts(&[ld, scratch]);
     let l = places(n);
-    let early = if !good(n) { 1 } else if p.len() != l || ld != l || scratch < 8 * l { 3 } else if !finite(p) { 4 } else { 0 };
+    let early = early(n, p.len() == l && ld == l && scratch >= 8 * l, finite(p));
     outputs(list, early, &[ld], scratch, 0, || {
         let mut dp = vec![0.0; l];
         derive(p, &mut dp, n);
@@ -135,25 +122,13 @@ fn derived(list: &mut List, n: usize, p: &[f64], ld: usize, scratch: usize) {
 
 fn compute(list: &mut List, n: usize, la: usize, lb: usize, first: f64, lat: f64, lp: usize, ld: usize, scratch: usize, between: usize) {
     list.call(COMPUTE);
-    list.ask(n as u64);
-    list.ask(la as u64);
-    list.ask(lb as u64);
+    list.ask_counts(&[n, la, lb]);
     list.ask_float(first);
-    for x in [lp, ld, scratch] {
-        list.ask(x as u64);
-    }
+    list.ask_counts(&[lp, ld, scratch]);
     list.ask_float(lat);
     list.ask(between as u64);
     let l = places(n);
-    let early = if !good(n) {
-        1
-    } else if la != l || lb != l || lp != l || ld != l || scratch < 8 * l {
-        3
-    } else if !first.is_finite() || !lat.is_finite() {
-        4
-    } else {
-        0
-    };
+    let early = early(n, [la, lb, lp, ld] == [l; 4] && scratch >= 8 * l, finite(&[first, lat]));
     outputs(list, early, &[lp, ld], scratch, between, || {
         let mut t = Legendre::new(n);
         t.compute_with_derivative(lat);
@@ -164,32 +139,22 @@ fn compute(list: &mut List, n: usize, la: usize, lb: usize, first: f64, lat: f64
 fn partials(list: &mut List, n: usize, field: &[f64], la: usize, lb: usize, first: f64, scratch: usize, at: &[[f64; 3]]) {
     list.call(PARTIALS);
     list.ask(n as u64);
-    list.ask(field.len() as u64);
-    list.ask_all(field);
-    list.ask(la as u64);
-    list.ask(lb as u64);
+    list.ask_list(field);
+    list.ask_counts(&[la, lb]);
     list.ask_float(first);
-    list.ask(scratch as u64);
-    list.ask(at.len() as u64);
+    list.ask_counts(&[scratch, at.len()]);
     let l = places(n);
-    let mut state = (scratch > 0) as u64;
+    let lengths = field.len() == 2 + 2 * l && la == l && lb == l && scratch >= 8 * l;
+    let mut unchanged = true;
     for place in at {
         list.ask_all(place);
-        let early = if !good(n) {
-            1
-        } else if field.len() != 2 + 2 * l || la != l || lb != l || scratch < 8 * l {
-            3
-        } else if !finite(field) || !first.is_finite() || !finite(place) {
-            4
-        } else {
-            0
-        };
+        let early = early(n, lengths, finite(field) && first.is_finite() && finite(place));
         if early != 0 {
             list.tell(early);
         } else {
             let p = coefficients(n, field).partials(place[0], place[1], place[2]);
             let four = [p.v, p.dr, p.dlat, p.dlon];
-            state = 0;
+            unchanged = false;
             if finite(&four) {
                 list.tell(0);
                 list.tell_all(&four);
@@ -197,7 +162,7 @@ fn partials(list: &mut List, n: usize, field: &[f64], la: usize, lb: usize, firs
                 list.tell(10);
             }
         }
-        list.tell(state);
+        list.tell_left(unchanged, scratch);
     }
 }
 
@@ -207,7 +172,7 @@ pub fn make(list: &mut List, seed: u64) {
         index(list, n, m);
     }
     for _ in 0..40 {
-        neu(list, std::array::from_fn(|i| if i == 4 { 6.8e6 } else { 2.0 * unit(&mut random) }));
+        neu(list, std::array::from_fn(|i| if i == 4 { 6.8e6 } else { 2.0 * signed(&mut random) }));
     }
     let fine = [1.0, -2.0, 3.0, -4.0, 7e6, 0.5];
     for i in 0..6 {
@@ -241,7 +206,7 @@ pub fn make(list: &mut List, seed: u64) {
     for n in [2, 3, 12, 60] {
         let l = places(n);
         let f = field(&mut random, n);
-        let p: Vec<f64> = (0..l).map(|_| unit(&mut random)).collect();
+        let p: Vec<f64> = (0..l).map(|_| signed(&mut random)).collect();
         derived(list, n, &p, l, 8 * l);
         for (gm, radius) in [(f[0], f[1]), (3.986004418e14, 6378137.0), (1.0, -2.0), (0.0, 1.0), (1.0, 1e-300)] {
             rescaled(list, n, &f, gm, radius, l, l, 8 * l);
@@ -258,7 +223,7 @@ pub fn make(list: &mut List, seed: u64) {
     }
     compute(list, 2, 5, 6, 0.0, 0.1, 6, 6, 48, 0);
     compute(list, 2, 6, 7, 0.0, 0.1, 6, 6, 48, 0);
-    for bad in [f64::NAN, f64::INFINITY, f64::NEG_INFINITY] {
+    for bad in WILD {
         let mut g = f.clone();
         g[13] = bad;
         rescaled(list, 2, &g, 1.0, 1.0, 6, 6, 48);

@@ -1,4 +1,6 @@
 // The filter: bands; runs of 1 to 1,502 samples; gaps; 0 to 8 sections; each refusal of each call, with what it leaves behind.
+use crate::fieldlists::{WILD, finite};
+use crate::generate::unit;
 use crate::list::{List, step};
 use crate::source::{Rng, band_pass, butterworth_band, filtfilt, run};
 
@@ -7,130 +9,99 @@ const RUN: u64 = 1;
 const FILTFILT: u64 = 2;
 const BAND_PASS: u64 = 3;
 
-// What stands in each place of outputs and scratch before a call, and what the program answers for a whole slice: all +0.0, as before, neither.
-const CLEARED: u64 = 0;
-const KEPT: u64 = 1;
-
 type Section = [f64; 5];
 
-/// A slice of `length` places: the values given, then +0.0.
-fn slice(list: &mut List, length: usize, values: &[f64]) {
-    list.ask(length as u64);
-    list.ask(values.len() as u64);
-    list.ask_all(values);
+/// An answer that stands in an output of its own, or the output cleared after 10; and the cleared scratch.
+fn tell_answer(list: &mut List, y: &[f64]) {
+    if finite(y) {
+        list.tell(0);
+        list.tell_all(y);
+    } else {
+        list.tell(10);
+        list.tell_left(false, y.len());
+    }
+    list.tell_left(false, 8 * y.len());
 }
 
-fn kept_or_cleared(length: usize, number: u64) -> u64 {
-    if length > 0 && number < 6 { KEPT } else { CLEARED }
+/// A refusal 2 to 5, and so many places of output and scratch unchanged.
+fn tell_refused(list: &mut List, number: u64, places: usize, room: usize) {
+    list.tell(number);
+    list.tell_left(true, places);
+    list.tell_left(true, room);
 }
 
 fn band(list: &mut List, low: f64, high: f64, dt: f64) {
     list.call(BAND);
     list.ask_all(&[low, high, dt]);
     let flat: Vec<f64> = butterworth_band(low, high, dt).into_iter().flatten().collect();
-    if ![low, high, dt].iter().all(|v| v.is_finite()) {
-        list.tell(4);
-        list.tell_all(&[0.0; 20]);
-    } else if flat.iter().all(|v| v.is_finite()) {
-        list.tell(0);
-        list.tell_all(&flat);
-    } else {
-        list.tell(10);
-        list.tell_all(&[0.0; 20]);
-    }
+    let number = if !finite(&[low, high, dt]) { 4 } else if !finite(&flat) { 10 } else { 0 };
+    list.tell(number);
+    list.tell_all(if number == 0 { &flat } else { &[0.0; 20] });
 }
 
 fn flat(sections: &[Section]) -> Vec<f64> {
     sections.iter().flatten().copied().collect()
 }
 
-fn all_finite(x: &[f64]) -> bool {
-    x.iter().all(|v| v.is_finite())
-}
-
 fn accepted_run(list: &mut List, sections: &[Section], x: &[f64], spare: usize) {
     let mut y = x.to_vec();
     run(sections, &mut y);
     list.call(RUN);
-    slice(list, 5 * sections.len(), &flat(sections));
-    slice(list, x.len(), x);
+    list.ask_first(5 * sections.len(), &flat(sections));
+    list.ask_first(x.len(), x);
     list.ask((8 * x.len() + spare) as u64);
-    let fine = all_finite(&y);
+    let fine = finite(&y);
     list.tell(if fine { 0 } else { 10 });
     list.tell_all(&if fine { y } else { vec![0.0; x.len()] });
-    list.tell(CLEARED);
+    list.tell_left(false, x.len());
 }
 
 fn refused_run(list: &mut List, number: u64, cs: (usize, &[f64]), x: (usize, &[f64]), room: usize) {
     list.call(RUN);
-    slice(list, cs.0, cs.1);
-    slice(list, x.0, x.1);
+    list.ask_first(cs.0, cs.1);
+    list.ask_first(x.0, x.1);
     list.ask(room as u64);
     list.tell(number);
     list.tell_all(x.1);
-    list.tell(kept_or_cleared(room, number));
+    list.tell_left(true, room);
 }
 
 fn accepted_filtfilt(list: &mut List, sections: &[Section], x: &[f64], pad: usize, spare: usize) {
     list.call(FILTFILT);
-    slice(list, 5 * sections.len(), &flat(sections));
-    slice(list, x.len(), x);
+    list.ask_first(5 * sections.len(), &flat(sections));
+    list.ask_first(x.len(), x);
     list.ask(pad as u64);
     list.ask(x.len() as u64);
     list.ask((8 * x.len() + spare) as u64);
-    let y = filtfilt(sections, x, pad);
-    if all_finite(&y) {
-        list.tell(0);
-        list.tell_all(&y);
-    } else {
-        list.tell(10);
-        list.tell(CLEARED);
-    }
-    list.tell(CLEARED);
+    tell_answer(list, &filtfilt(sections, x, pad));
 }
 
 fn refused_filtfilt(list: &mut List, number: u64, cs: (usize, &[f64]), x: (usize, &[f64]), places: usize, room: usize) {
     list.call(FILTFILT);
-    slice(list, cs.0, cs.1);
-    slice(list, x.0, x.1);
+    list.ask_first(cs.0, cs.1);
+    list.ask_first(x.0, x.1);
     list.ask(3);
     list.ask(places as u64);
     list.ask(room as u64);
-    list.tell(number);
-    list.tell(kept_or_cleared(places, number));
-    list.tell(kept_or_cleared(room, number));
+    tell_refused(list, number, places, room);
 }
 
 fn accepted_pass(list: &mut List, times: &[f64], x: &[f64], spare: usize) {
     list.call(BAND_PASS);
-    slice(list, times.len(), times);
-    slice(list, x.len(), x);
+    list.ask_first(times.len(), times);
+    list.ask_first(x.len(), x);
     list.ask(x.len() as u64);
     list.ask((8 * x.len() + spare) as u64);
-    let y = band_pass(times, x);
-    if all_finite(&y) {
-        list.tell(0);
-        list.tell_all(&y);
-    } else {
-        list.tell(10);
-        list.tell(CLEARED);
-    }
-    list.tell(CLEARED);
+    tell_answer(list, &band_pass(times, x));
 }
 
 fn refused_pass(list: &mut List, number: u64, times: (usize, &[f64]), x: (usize, &[f64]), places: usize, room: usize) {
     list.call(BAND_PASS);
-    slice(list, times.0, times.1);
-    slice(list, x.0, x.1);
+    list.ask_first(times.0, times.1);
+    list.ask_first(x.0, x.1);
     list.ask(places as u64);
     list.ask(room as u64);
-    list.tell(number);
-    list.tell(kept_or_cleared(places, number));
-    list.tell(kept_or_cleared(room, number));
-}
-
-fn unit(random: &mut Rng) -> f64 {
-    (random.next_u64() >> 11) as f64 / (1u64 << 53) as f64
+    tell_refused(list, number, places, room);
 }
 
 fn noise(random: &mut Rng, n: usize) -> Vec<f64> {
@@ -154,7 +125,7 @@ fn bands(list: &mut List, random: &mut Rng) {
     band(list, 0.25, 0.5, 1.0);
     band(list, 1e5, 1e5, 2.0);
     band(list, 1e-3, 1e6, 2.0);
-    for bad in [f64::NAN, f64::INFINITY, f64::NEG_INFINITY] {
+    for bad in WILD {
         band(list, bad, 10e-3, 2.0);
         band(list, 1e-3, bad, 2.0);
         band(list, 1e-3, 10e-3, bad);
@@ -187,7 +158,7 @@ fn runs(list: &mut List, random: &mut Rng) {
     refused_run(list, 3, (39, &c[..39]), (6, &x), 48);
     refused_run(list, 3, (5, &c[..5]), (6, &x), 47);
     refused_run(list, 3, (5, &c[..5]), (100000, &x), 48);
-    for bad in [f64::NAN, f64::INFINITY, f64::NEG_INFINITY] {
+    for bad in WILD {
         refused_run(list, 4, (5, &[1.0, 2.0, bad, 0.0, 0.0]), (6, &x), 48);
         refused_run(list, 4, (5, &c[..5]), (3, &[1.0, bad, 0.0]), 24);
         // two causes: the lower number
@@ -217,7 +188,7 @@ fn zero_phase(list: &mut List, random: &mut Rng) {
     refused_filtfilt(list, 3, (5, &c[..5]), (6, &x), 5, 48);
     refused_filtfilt(list, 3, (5, &c[..5]), (6, &x), 7, 48);
     refused_filtfilt(list, 3, (5, &c[..5]), (6, &x), 6, 47);
-    for bad in [f64::NAN, f64::INFINITY, f64::NEG_INFINITY] {
+    for bad in WILD {
         refused_filtfilt(list, 4, (5, &[bad, 2.0, 1.0, 0.0, 0.0]), (6, &x), 6, 48);
         refused_filtfilt(list, 4, (5, &c[..5]), (3, &[1.0, 0.0, bad]), 3, 24);
         refused_filtfilt(list, 3, (5, &c[..5]), (3, &[1.0, 0.0, bad]), 2, 24);
@@ -270,7 +241,7 @@ fn passes(list: &mut List, random: &mut Rng) {
         refused_pass(list, 4, (3, &[0.0, bad, 4.0]), (3, &x[..3]), 3, 24);
         refused_pass(list, 3, (3, &[0.0, bad, 4.0]), (3, &x[..3]), 3, 23);
     }
-    for bad in [f64::NAN, f64::INFINITY, f64::NEG_INFINITY] {
+    for bad in WILD {
         refused_pass(list, 4, (3, &t[..3]), (3, &[1.0, 2.0, bad]), 3, 24);
         refused_pass(list, 4, (3, &[4.0, 2.0, 0.0]), (3, &[1.0, 2.0, bad]), 3, 24);
     }

@@ -1,9 +1,10 @@
 // The forces of module 2. Answers by the source; refusals by document 01's table: 4 for an argument that is not finite or
 // a time outside 0 to 2^31, 10 for an answer that is not finite; 1 and 3 too where a field is lent. Scratch stands at 7.0
 // before a call: +0.0 after an answer and after 10, unchanged after the others.
-use crate::fieldlists::{LAST, finite, is_time};
+use crate::fieldlists::{LAST, WILD, coefficients, finite, is_degree, is_time, places, random_list, with};
+use crate::generate::unit;
 use crate::list::{List, step};
-use crate::source::{Coefficients, GM_MOON, GM_SUN, Legendre, Rng, V3, empirical, fictitious, gravity, idx, j2_gravity, set_nmax, solid_tide, sun_moon, third_body, tides};
+use crate::source::{GM_MOON, GM_SUN, Legendre, Rng, V3, empirical, fictitious, gravity, j2_gravity, set_nmax, solid_tide, sun_moon, third_body, tides};
 
 const SUN_MOON: u64 = 0;
 const THIRD_BODY: u64 = 1;
@@ -25,7 +26,7 @@ fn told(list: &mut List, fine: bool, values: &[f64]) {
     }
 }
 
-fn places(list: &mut List, t: f64) {
+fn sun_and_moon(list: &mut List, t: f64) {
     list.call(SUN_MOON);
     list.ask_float(t);
     let (sun, moon) = sun_moon(t);
@@ -45,16 +46,9 @@ fn raised(list: &mut List, sun: V3, moon: V3) {
     list.ask_all(&asked);
     let tide = solid_tide(sun, moon);
     let values = [tide.c.clone(), tide.s.clone()].concat();
-    if !finite(&asked) {
-        list.tell(4);
-        list.tell_all(&[0.0; 20]);
-    } else if !finite(&values) {
-        list.tell(10);
-        list.tell_all(&[0.0; 20]);
-    } else {
-        list.tell(0);
-        list.tell_all(&values);
-    }
+    let number = if !finite(&asked) { 4 } else if !finite(&values) { 10 } else { 0 };
+    list.tell(number);
+    list.tell_all(if number == 0 { &values } else { &[0.0; 20] });
 }
 
 fn pulled(list: &mut List, t: f64, x: V3) {
@@ -84,10 +78,6 @@ fn flattened(list: &mut List, x: V3) {
     told(list, finite(&x), &j2_gravity(x));
 }
 
-fn places_of(n: usize) -> usize {
-    (n + 1) * (n + 2) / 2
-}
-
 #[derive(Clone)]
 struct Lent {
     degree: usize,
@@ -100,20 +90,17 @@ struct Lent {
 
 impl Lent {
     fn new(random: &mut Rng, n: usize, x: V3) -> Lent {
-        let mut field = vec![3.986_004_415e14, 6_378_136.3];
-        for _ in 0..2 * places_of(n) {
-            field.push(1e-5 * ((random.next_u64() >> 11) as f64 / (1u64 << 53) as f64 - 0.5));
-        }
+        let mut field = random_list(random, n, 3.986_004_415e14, 6_378_136.3, 1e-5);
         field[2] = 1.0;
         let tables = Legendre::new(n);
-        Lent { degree: n, field, a: tables.a.clone(), b: tables.b.clone(), x, scratch: 8 * places_of(n) }
+        Lent { degree: n, field, a: tables.a.clone(), b: tables.b.clone(), x, scratch: 8 * places(n) }
     }
 
     fn refusal(&self) -> u64 {
-        if !(2..=180).contains(&self.degree) {
+        if !is_degree(self.degree) {
             return 1;
         }
-        let l = places_of(self.degree);
+        let l = places(self.degree);
         if self.field.len() != 2 + 2 * l || self.a.len() != l || self.b.len() != l || self.scratch < 8 * l {
             return 3;
         }
@@ -127,34 +114,19 @@ impl Lent {
         list.call(GRAVITY);
         list.ask(self.degree as u64);
         for part in [&self.field, &self.a, &self.b] {
-            list.ask(part.len() as u64);
-            list.ask_all(part);
+            list.ask_list(part);
         }
         list.ask_all(&self.x);
         list.ask(self.scratch as u64);
         let early = self.refusal();
         if early != 0 {
             list.tell(early);
-            // an empty scratch is told as +0.0
-            list.tell((self.scratch > 0) as u64);
+            list.tell_left(true, self.scratch);
             return;
         }
         set_nmax(self.degree);
-        let l = places_of(self.degree);
-        let mut c = Coefficients::zeros(self.field[0], self.field[1], self.degree);
-        for n in 0..=self.degree {
-            for m in 0..=n {
-                c.set(n, m, self.field[2 + idx(n, m)], self.field[2 + l + idx(n, m)]);
-            }
-        }
-        told(list, true, &gravity(&c, self.x));
-        list.tell(0);
-    }
-
-    fn changed(&self, change: impl Fn(&mut Lent)) -> Lent {
-        let mut out = self.clone();
-        change(&mut out);
-        out
+        told(list, true, &gravity(&coefficients(self.degree, &self.field), self.x));
+        list.tell_left(false, self.scratch);
     }
 }
 
@@ -165,34 +137,34 @@ fn lent(list: &mut List, random: &mut Rng) {
     }
     for n in [2, 5, 8, 20] {
         for k in 0..6 {
-            let mut part = || 1.5e7 * ((random.next_u64() >> 11) as f64 / (1u64 << 53) as f64 - 0.5);
+            let mut part = || 1.5e7 * (unit(random) - 0.5);
             let x = if k == 0 { [1e-3 * part(), 0.0, part()] } else { [part(), part(), part()] };
             Lent::new(random, n, x).call(list);
         }
     }
     let base = Lent::new(random, 2, [7e6, -1e5, 2e5]);
     for n in [0, 1, 181, 1000] {
-        base.changed(|l| l.degree = n).call(list);
-        base.changed(|l| { l.degree = n; l.field.clear(); l.x[0] = f64::NAN }).call(list);
+        with(&base, |l| l.degree = n).call(list);
+        with(&base, |l| { l.degree = n; l.field.clear(); l.x[0] = f64::NAN }).call(list);
     }
-    base.changed(|l| { l.field.pop(); }).call(list);
-    base.changed(|l| l.field.push(f64::NAN)).call(list);
-    base.changed(|l| { l.a.pop(); }).call(list);
-    base.changed(|l| l.a.push(1.0)).call(list);
-    base.changed(|l| { l.b.pop(); }).call(list);
-    base.changed(|l| l.b.push(1.0)).call(list);
-    base.changed(|l| l.scratch -= 1).call(list);
-    base.changed(|l| l.scratch = 0).call(list);
-    base.changed(|l| l.scratch += 77).call(list);
+    with(&base, |l| { l.field.pop(); }).call(list);
+    with(&base, |l| l.field.push(f64::NAN)).call(list);
+    with(&base, |l| { l.a.pop(); }).call(list);
+    with(&base, |l| l.a.push(1.0)).call(list);
+    with(&base, |l| { l.b.pop(); }).call(list);
+    with(&base, |l| l.b.push(1.0)).call(list);
+    with(&base, |l| l.scratch -= 1).call(list);
+    with(&base, |l| l.scratch = 0).call(list);
+    with(&base, |l| l.scratch += 77).call(list);
     for w in WILD {
         for k in [0, 1, 2, base.field.len() - 1] {
-            base.changed(|l| l.field[k] = w).call(list);
+            with(&base, |l| l.field[k] = w).call(list);
         }
-        base.changed(|l| l.a[5] = w).call(list);
-        base.changed(|l| l.b[0] = w).call(list);
-        base.changed(|l| l.x[2] = w).call(list);
+        with(&base, |l| l.a[5] = w).call(list);
+        with(&base, |l| l.b[0] = w).call(list);
+        with(&base, |l| l.x[2] = w).call(list);
     }
-    base.changed(|l| l.field[0] = f64::MAX).call(list);
+    with(&base, |l| l.field[0] = f64::MAX).call(list);
 }
 
 // On the axes, beside them, near the centre, far out, at the centre.
@@ -217,15 +189,12 @@ fn edges() -> Vec<f64> {
     vec![0.0, -0.0, 5e-324, 5.0, 43200.0, 86400.0, 695_492_103.0, 1e9 + 0.25, step(LAST, -1), LAST]
 }
 
-// Each number of each kind in the place of an argument that should be finite.
-const WILD: [f64; 3] = [f64::NAN, f64::INFINITY, f64::NEG_INFINITY];
-
 fn refusals(list: &mut List) {
     let x = [7e6, -1e5, 2e5];
     let v = [100.0, 7000.0, -300.0];
     let (sun, moon) = sun_moon(1000.0);
     for t in [step(LAST, 1), -5e-324, -1.0, 1e300, f64::NAN, f64::INFINITY, f64::NEG_INFINITY] {
-        places(list, t);
+        sun_and_moon(list, t);
         pulled(list, t, x);
         pulled(list, t, [f64::NAN, 0.0, 0.0]);
     }
@@ -259,9 +228,9 @@ fn refusals(list: &mut List) {
 pub fn make(list: &mut List, seed: u64) {
     let mut random = Rng::new(seed);
     lent(list, &mut random);
-    let mut unit = || (random.next_u64() >> 11) as f64 / (1u64 << 53) as f64;
+    let mut unit = || unit(&mut random);
     for t in edges() {
-        places(list, t);
+        sun_and_moon(list, t);
         for x in corners() {
             pulled(list, t, x);
         }
@@ -295,7 +264,7 @@ pub fn make(list: &mut List, seed: u64) {
         let (sun, moon) = sun_moon(t);
         let u = 40.0 * (unit() - 0.5);
         let e: Vec<f64> = (0..9).map(|_| unit() - 0.5).collect();
-        places(list, t);
+        sun_and_moon(list, t);
         body(list, x, moon, GM_MOON);
         body(list, x, sun, GM_SUN);
         raised(list, sun, moon);

@@ -1,5 +1,4 @@
 // A seeded generator of physically sensible submissions.
-use crate::elementary::Elementary01;
 use crate::source::*;
 use crate::submission::*;
 use std::f64::consts::PI;
@@ -19,8 +18,8 @@ pub struct Plan {
     pub field_step: f64,
 }
 
-pub fn uni(r: &mut Rng) -> f64 { (r.next_u64() >> 11) as f64 / (1u64 << 53) as f64 }
-pub fn gauss(r: &mut Rng) -> f64 { (0..12).map(|_| uni(r)).sum::<f64>() - 6.0 }
+pub fn unit(r: &mut Rng) -> f64 { (r.next_u64() >> 11) as f64 / (1u64 << 53) as f64 }
+pub fn gauss(r: &mut Rng) -> f64 { (0..12).map(|_| unit(r)).sum::<f64>() - 6.0 }
 
 pub fn random_field(r: &mut Rng, n: usize, gm: f64, radius: f64, scale: f64, main: bool) -> FieldData {
     let l = (n + 1) * (n + 2) / 2;
@@ -90,8 +89,8 @@ pub fn generate(p: &Plan) -> Submission {
     } else {
         let mut t = start + 1805.0;
         for _ in 0..=p.windows {
-            s.nodes.push(t + if p.frac { uni(&mut r) } else { 0.0 });
-            t += p.window + if p.frac { (20.0 * uni(&mut r)).floor() } else { 0.0 };
+            s.nodes.push(t + if p.frac { unit(&mut r) } else { 0.0 });
+            t += p.window + if p.frac { (20.0 * unit(&mut r)).floor() } else { 0.0 };
         }
     }
     // observations every 2 s on even seconds, some with fractions, gaps, bad flags
@@ -101,10 +100,10 @@ pub fn generate(p: &Plan) -> Submission {
     let mut key = p.base + p.base % 2;
     let mut skip = 0;
     while (key as f64) < start + span {
-        let t = key as f64 + if uni(&mut r) < 0.1 { (uni(&mut r) * 8.0).floor() / 16.0 } else { 0.0 };
-        let good = uni(&mut r) >= 0.01;
+        let t = key as f64 + if unit(&mut r) < 0.1 { (unit(&mut r) * 8.0).floor() / 16.0 } else { 0.0 };
+        let good = unit(&mut r) >= 0.01;
         if skip > 0 { skip -= 1; } else {
-            if uni(&mut r) < 0.004 { skip = 1 + (uni(&mut r) * 4.0) as usize; }
+            if unit(&mut r) < 0.004 { skip = 1 + (unit(&mut r) * 4.0) as usize; }
             let model_value = if p.truth_j2 && p.n > 60 { 0.0 } else { epoch(&inp, &mut b2, t, 0.0).map_or(0.0, |e| -e.residual) };
             s.obs.push((t, model_value + 1e-9 * gauss(&mut r) + 3e-9 * f64::sin(2.0 * PI * 4e-3 * (t - start)), if good { 1 + (r.next_u64() % 255) as u8 } else { 0 }));
         }

@@ -36,6 +36,22 @@ impl List {
         keys.iter().for_each(|k| self.ask(*k as u64));
     }
 
+    pub fn ask_counts(&mut self, counts: &[usize]) {
+        counts.iter().for_each(|c| self.ask(*c as u64));
+    }
+
+    /// A slice: its length and its numbers.
+    pub fn ask_list(&mut self, values: &[f64]) {
+        self.ask(values.len() as u64);
+        self.ask_all(values);
+    }
+
+    /// A slice of so many places: the numbers of the first are given, the program's others are 0.
+    pub fn ask_first(&mut self, length: usize, values: &[f64]) {
+        self.ask(length as u64);
+        self.ask_list(values);
+    }
+
     /// A slice: its length, how many numbers are given, and these; the program's others are 0.
     pub fn ask_words(&mut self, words: Vec<u64>) {
         let given = words.iter().rposition(|w| *w != 0).map_or(0, |k| k + 1);
@@ -59,6 +75,11 @@ impl List {
 
     pub fn tell_all(&mut self, values: &[f64]) {
         values.iter().for_each(|v| self.tell_float(*v));
+    }
+
+    /// Whether a slice of so many places is unchanged, 1, as refusals 1 to 5 leave it, or +0.0 throughout, 0, as an empty one is told too.
+    pub fn tell_left(&mut self, unchanged: bool, length: usize) {
+        self.tell((unchanged && length > 0) as u64);
     }
 
     pub fn tell_keys(&mut self, keys: &[i64]) {

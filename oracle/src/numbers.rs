@@ -1,5 +1,6 @@
 // The elementary numbers: ties of the reduction, limits, zeros, subnormal numbers, infinities, NaN, and random patterns.
 use crate::elementary::{arcsine, arctangent, power, sine_cosine};
+use crate::generate::unit;
 use crate::list::{List, step};
 use crate::source::Rng;
 use std::f64::consts::PI;
@@ -95,7 +96,7 @@ pub fn make(list: &mut List, seed: u64) {
     for _ in 0..250 {
         let wild = f64::from_bits(random.next_u64());
         let other = f64::from_bits(random.next_u64());
-        let unit = (random.next_u64() >> 11) as f64 / (1u64 << 53) as f64;
+        let unit = unit(&mut random);
         let near = (unit - 0.5) * 2.0f64.powi(random.below(24) as i32 - 2);
         one(list, ROOT, wild.abs(), wild.abs().sqrt());
         one(list, ROOT, unit, unit.sqrt());

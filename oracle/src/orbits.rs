@@ -1,10 +1,9 @@
 // Least squares, single fits and fitted windows of module 4. Answers by the source's `ols`, `fit_orbit` and `fitted_orbits`; refusals by document 01's table.
 // Outputs stand at 3.0, keys at 3, and scratch at 7.0 before a call: all unchanged after refusals 1 to 5, +0.0 after 6 to 10; scratch is +0.0 after a fit as well.
-use crate::generate::{gauss, random_field, rk1, uni};
-use crate::fieldlists::{coefficients, finite, places};
+use crate::generate::{gauss, random_field, rk1, unit};
+use crate::fieldlists::{Fields, LAST, Rows, WILD, are_times, finite, is_time, rising, with};
 use crate::list::{List, step};
 use crate::source::*;
-use crate::submission::{FieldData, TOP};
 use crate::whole::single_fit;
 use std::f64::consts::PI;
 
@@ -24,7 +23,7 @@ fn tell_output(list: &mut List, values: &[f64], between: usize) {
 }
 
 #[derive(Clone)]
-struct Rows {
+struct Design {
     rows: Vec<f64>,
     y: Vec<f64>,
     columns: usize,
@@ -32,11 +31,11 @@ struct Rows {
     residuals: usize,
 }
 
-fn rows(columns: usize, rows: &[f64], y: &[f64]) -> Rows {
-    Rows { rows: rows.to_vec(), y: y.to_vec(), columns, beta: columns, residuals: y.len() }
+fn rows(columns: usize, rows: &[f64], y: &[f64]) -> Design {
+    Design { rows: rows.to_vec(), y: y.to_vec(), columns, beta: columns, residuals: y.len() }
 }
 
-impl Rows {
+impl Design {
     fn answer(&self) -> std::result::Result<(Vec<f64>, Vec<f64>), u8> {
         if !(1..=15).contains(&self.columns) || !(1..=100_000).contains(&self.y.len()) { return Err(2); }
         if self.rows.len() != self.y.len() * self.columns || self.beta != self.columns || self.residuals != self.y.len() { return Err(3); }
@@ -51,9 +50,7 @@ impl Rows {
         list.call(OLS);
         list.ask_slice(&self.rows);
         list.ask_slice(&self.y);
-        for word in [self.columns, self.beta, self.residuals, between] {
-            list.ask(word as u64);
-        }
+        list.ask_counts(&[self.columns, self.beta, self.residuals, between]);
         let (number, (beta, residuals)) = match self.answer() {
             Ok(both) => (0, both),
             Err(n) => {
@@ -65,12 +62,6 @@ impl Rows {
         tell_output(list, &beta, 0);
         tell_output(list, &residuals, between);
     }
-}
-
-fn with<T: Clone>(base: &T, change: impl Fn(&mut T)) -> T {
-    let mut out = base.clone();
-    change(&mut out);
-    out
 }
 
 fn least_squares(list: &mut List, r: &mut Rng) {
@@ -148,7 +139,7 @@ fn least_squares(list: &mut List, r: &mut Rng) {
         with(&base, |a| a.residuals = off).call(list);
     }
     // 4
-    for wild in [f64::NAN, f64::INFINITY, f64::NEG_INFINITY] {
+    for wild in WILD {
         with(&base, |a| a.rows[0] = wild).call(list);
         with(&base, |a| a.rows[5] = wild).call(list);
         with(&base, |a| a.y[0] = wild).call(list);
@@ -158,69 +149,49 @@ fn least_squares(list: &mut List, r: &mut Rng) {
 
 #[derive(Clone)]
 struct Asked {
-    degree: usize,
-    field: Vec<f64>,
-    a: Vec<f64>,
-    b: Vec<f64>,
-    times: Vec<f64>,
-    added: Vec<f64>,
-    keys: Vec<i64>,
-    states: Vec<f64>,
+    fields: Fields,
+    states: Rows,
     arc: Arc,
     out: usize,
     scratch: usize,
     whole: bool,
 }
 
-fn flat(f: &FieldData) -> Vec<f64> {
-    [vec![f.gm, f.radius], f.c.clone(), f.s.clone()].concat()
-}
-
 impl Asked {
-    fn model(&self) -> Model {
-        set_nmax(self.degree);
-        let whole = 2 + 2 * places(self.degree);
-        let added: Vec<(f64, Coefficients)> = self.times.iter().zip(self.added.chunks(whole)).map(|(t, f)| (*t, coefficients(self.degree, f))).collect();
-        Model::new(&coefficients(self.degree, &self.field), &added)
-    }
-
     fn refusal(&self) -> u8 {
-        if !(2..=180).contains(&self.degree) { return 1; }
-        if !(2..=32).contains(&self.times.len()) || self.arc.steps > 5302 || self.keys.len() > 200_000 { return 2; }
-        let (l, k) = (places(self.degree), self.times.len());
-        let tables = self.field.len() == 2 + 2 * l && self.a.len() == l && self.b.len() == l && self.added.len() == k * (2 + 2 * l);
-        if !tables || self.scratch < 2 * k * l + 8 * l + 150_000 || self.out != 6 * (self.arc.steps + 1) || self.states.len() != 6 * self.keys.len() { return 3; }
-        let time = |t: f64| (0.0..=TOP).contains(&t);
-        let numbers = [&self.field, &self.a, &self.b, &self.added, &self.states].iter().all(|v| finite(v)) && self.arc.period.is_finite();
-        let times = self.times.iter().all(|t| time(*t)) && time(self.arc.node) && (-TOP..=TOP).contains(&self.arc.t0);
-        if !numbers || !times || !self.keys.iter().all(|k| (0..=1i64 << 31).contains(k)) { return 4; }
-        if !self.times.windows(2).all(|w| w[0] < w[1]) || !self.keys.windows(2).all(|w| w[0] < w[1]) { return 5; }
+        let (fields, states) = (&self.fields, &self.states);
+        if !fields.degree_fine() { return 1; }
+        if !fields.counted() || self.arc.steps > 5302 || !states.counted() { return 2; }
+        if !fields.fits() || !states.fits() || self.out != 6 * (self.arc.steps + 1) || self.scratch < fields.least_scratch() { return 3; }
+        let arc = self.arc.period.is_finite() && is_time(self.arc.node) && (-LAST..=LAST).contains(&self.arc.t0);
+        if !fields.fine() || !states.fine() || !arc { return 4; }
+        if !fields.ordered() || !states.ordered() { return 5; }
         0
     }
 
     fn answer(&self) -> std::result::Result<(Vec<(V3, V3)>, f64), u8> {
         let refused = self.refusal();
         if refused != 0 { return Err(refused); }
-        let known: States = self.keys.iter().zip(self.states.chunks(6)).map(|(k, s)| (*k, ([s[0], s[1], s[2]], [s[3], s[4], s[5]]))).collect();
-        single_fit(&self.model(), &known, self.arc)
+        single_fit(&self.fields.source(), &self.states.states(), self.arc)
+    }
+
+    // what fits and windows are asked alike
+    fn ask(&self, list: &mut List) {
+        list.ask(self.fields.degree as u64);
+        self.fields.parts().iter().for_each(|part| list.ask_slice(part));
+        list.ask_words(self.states.keys.iter().map(|k| *k as u64).collect());
+        list.ask_slice(&self.states.values);
     }
 
     fn call(&self, list: &mut List) {
         let between = if self.whole { 0 } else { self.out / 30 };
         list.call(FIT);
-        list.ask(self.degree as u64);
-        for part in [&self.field, &self.a, &self.b, &self.times, &self.added] {
-            list.ask_slice(part);
-        }
-        list.ask_words(self.keys.iter().map(|k| *k as u64).collect());
-        list.ask_slice(&self.states);
+        self.ask(list);
         list.ask_float(self.arc.t0);
         list.ask(self.arc.steps as u64);
         list.ask_float(self.arc.node);
         list.ask_float(self.arc.period);
-        for word in [self.out, self.scratch, between] {
-            list.ask(word as u64);
-        }
+        list.ask_counts(&[self.out, self.scratch, between]);
         let (number, out) = match self.answer() {
             Ok((states, rms)) => {
                 list.tell(0);
@@ -233,7 +204,7 @@ impl Asked {
             }
         };
         tell_output(list, &out, between);
-        list.tell(if self.scratch > 0 && (1..6).contains(&number) { 1 } else { 0 });
+        list.tell_left((1..6).contains(&number), self.scratch);
     }
 }
 
@@ -242,33 +213,30 @@ fn asked(r: &mut Rng, n: usize, t0: f64, steps: usize, apart: i64, noise: f64) -
     let first = t0.max(0.0) as i64;
     let field = random_field(r, n, 3.986_004_415e14, 6_378_136.3, 1e-6, true);
     let end = first as f64 + 2.0 * steps as f64;
-    let times = vec![(first as f64 - 100.0).max(0.0), first as f64 + 311.0, (end + 100.25).min(TOP).max(first as f64 + 400.0)];
-    let added: Vec<f64> = times.iter().flat_map(|_| flat(&random_field(r, n, GM_E, 6_378_136.6, 1e-9, false))).collect();
-    let (radius, inc, u0) = (6.871e6, 89.0 * PI / 180.0, 6.0 * uni(r));
+    let times = vec![(first as f64 - 100.0).max(0.0), first as f64 + 311.0, (end + 100.25).min(LAST).max(first as f64 + 400.0)];
+    let added: Vec<f64> = times.iter().flat_map(|_| random_field(r, n, GM_E, 6_378_136.6, 1e-9, false).flat()).collect();
+    let (radius, inc, u0) = (6.871e6, 89.0 * PI / 180.0, 6.0 * unit(r));
     let speed = (GM_E / radius).sqrt();
     let ((su, cu), (si, ci)) = (crate::elementary::sine_cosine(u0), crate::elementary::sine_cosine(inc));
     let mut x = [radius * cu, radius * su * ci, radius * su * si];
     let mut v = [-speed * su + OMEGA * x[1], speed * cu * ci - OMEGA * x[0], speed * cu * si];
-    let (mut keys, mut states) = (vec![], vec![]);
+    let mut states = Rows { keys: vec![], values: vec![], width: 6 };
     let mut force = |_: f64, x: V3, v: V3| add(j2_gravity(x), fictitious(x, v));
     for k in 0..=2 * steps as i64 {
         if k % apart == 0 {
-            keys.push(first + k);
-            states.extend(x.iter().chain(&v).enumerate().map(|(i, w)| w + noise * if i < 3 { 1.0 } else { 1e-3 } * gauss(r)));
+            states.keys.push(first + k);
+            states.values.extend(x.iter().chain(&v).enumerate().map(|(i, w)| w + noise * if i < 3 { 1.0 } else { 1e-3 } * gauss(r)));
         }
         (x, v) = rk1(1.0, (first + k) as f64, x, v, &mut force);
     }
-    let tables = Legendre::new(n);
-    let l = places(n);
-    let arc = Arc { t0, steps, node: (t0 + 60.0 * uni(r)).clamp(0.0, TOP), period: uni(r) + if steps < 250 { 1.1 * steps as f64 } else { 5650.0 } };
-    Asked { degree: n, field: flat(&field), a: tables.a.clone(), b: tables.b.clone(), scratch: 2 * times.len() * l + 8 * l + 150_000, times, added, keys, states, arc, out: 6 * (steps + 1), whole: false }
+    let arc = Arc { t0, steps, node: (t0 + 60.0 * unit(r)).clamp(0.0, LAST), period: unit(r) + if steps < 250 { 1.1 * steps as f64 } else { 5650.0 } };
+    let fields = Fields::of(n, field.flat(), times, added);
+    Asked { scratch: fields.least_scratch(), fields, states, arc, out: 6 * (steps + 1), whole: false }
 }
 
 impl Asked {
     fn forget(&mut self, gone: impl Fn(usize) -> bool) {
-        let keep: Vec<usize> = (0..self.keys.len()).filter(|k| !gone(*k)).collect();
-        self.states = keep.iter().flat_map(|k| self.states[6 * k..6 * k + 6].to_vec()).collect();
-        self.keys = keep.iter().map(|k| self.keys[*k]).collect();
+        (0..self.states.keys.len()).rev().filter(|k| gone(*k)).for_each(|k| self.states.drop_entry(k));
     }
 }
 
@@ -278,7 +246,7 @@ fn fits(list: &mut List, r: &mut Rng) {
             // a whole start and a revolution's period, which is singular below some 300 steps; a start with a fraction; gaps
             let base = 10_000.0 * (1 + k) as f64;
             with(&asked(r, n, base, steps, 10, 0.02), |a| { a.whole = n == 6 && k == 4; a.arc.period = 5652.5 }).call(list);
-            let part = 0.0625 + 0.9 * uni(r);
+            let part = 0.0625 + 0.9 * unit(r);
             asked(r, n, base + part, steps, 10, 0.02).call(list);
             with(&asked(r, n, base + 1.0, steps, 10, 5.0), |a| a.forget(|i| i % 7 == 3 || i % 5 == 4)).call(list);
         }
@@ -292,8 +260,8 @@ fn fits(list: &mut List, r: &mut Rng) {
     with(&asked(r, 2, 0.0, 110, 10, 0.1), |a| a.whole = true).call(list);
     with(&asked(r, 2, 0.0, 110, 10, 0.1), |a| a.arc.t0 = -0.0).call(list);
     asked(r, 2, 5e-324, 110, 10, 0.1).call(list);
-    asked(r, 2, TOP - 1000.0, 200, 10, 0.1).call(list);
-    asked(r, 2, TOP - 1000.5, 200, 10, 0.1).call(list);
+    asked(r, 2, LAST - 1000.0, 200, 10, 0.1).call(list);
+    asked(r, 2, LAST - 1000.5, 200, 10, 0.1).call(list);
     // arcs too short for fifteen parameters, and the first that are not
     for steps in [0, 1, 4, 5, 9, 10, 15, 20, 25, 30, 40, 50, 75] {
         asked(r, 2, 5000.0, steps, 10, 0.01).call(list);
@@ -310,63 +278,62 @@ fn uncovered(list: &mut List, r: &mut Rng) {
     let end = 9000.0 + 240.0;
     // 6, and beside it
     for first in [9000.0, step(9000.0, 1), 9001.0] {
-        with(&base, |a| a.times[0] = first).call(list);
+        with(&base, |a| a.fields.times[0] = first).call(list);
     }
     for last in [end, step(end, 1), step(end, -1)] {
-        with(&base, |a| { a.times[1] = 9100.0; a.times[2] = last }).call(list);
+        with(&base, |a| { a.fields.times[1] = 9100.0; a.fields.times[2] = last }).call(list);
     }
-    for t0 in [-TOP, -1.0, -5e-324, 8899.5, 9500.0, TOP] {
-        with(&base, |a| { a.arc.t0 = t0; a.keys.clear(); a.states.clear() }).call(list);
+    for t0 in [-LAST, -1.0, -5e-324, 8899.5, 9500.0, LAST] {
+        with(&base, |a| { a.arc.t0 = t0; a.states.keys.clear(); a.states.values.clear() }).call(list);
     }
     // 7: twelve positions are needed, the start's is one of them
     for left in [13, 12, 11, 1, 0] {
         with(&base, |a| a.forget(|i| i >= left)).call(list);
         with(&base, |a| a.forget(|i| i == 0 || i > left)).call(list);
     }
-    with(&base, |a| a.keys.iter_mut().for_each(|k| *k += 1)).call(list);
+    with(&base, |a| a.states.keys.iter_mut().for_each(|k| *k += 1)).call(list);
     // 8
-    with(&base, |a| a.keys[0] += 1).call(list);
-    with(&base, |a| { a.arc.t0 = 9000.75; a.keys[0] -= 1 }).call(list);
+    with(&base, |a| a.states.keys[0] += 1).call(list);
+    with(&base, |a| { a.arc.t0 = 9000.75; a.states.keys[0] -= 1 }).call(list);
     // nothing to fit
     with(&asked(r, 2, 9000.0, 5, 10, 0.0), |a| a.forget(|_| true)).call(list);
     // 9: one place for all
-    with(&base, |a| { let s = a.states[..6].to_vec(); a.states = s.repeat(a.keys.len()) }).call(list);
+    with(&base, |a| { let s = a.states.values[..6].to_vec(); a.states.values = s.repeat(a.states.keys.len()) }).call(list);
     // 10
-    with(&base, |a| a.states[0] = 1e308).call(list);
-    with(&base, |a| a.states[..3].fill(0.0)).call(list);
-    with(&base, |a| a.states.fill(0.0)).call(list);
-    with(&base, |a| a.states.fill(-0.0)).call(list);
-    with(&base, |a| a.states[4] = 1e200).call(list);
-    with(&base, |a| a.states[66] = f64::MAX).call(list);
-    with(&base, |a| a.states[66] = 1e160).call(list);
-    with(&base, |a| a.field[0] = 1e308).call(list);
-    with(&base, |a| a.field[0] = 0.0).call(list);
-    with(&base, |a| a.added[1] = 1e200).call(list);
+    with(&base, |a| a.states.values[0] = 1e308).call(list);
+    with(&base, |a| a.states.values[..3].fill(0.0)).call(list);
+    with(&base, |a| a.states.values.fill(0.0)).call(list);
+    with(&base, |a| a.states.values.fill(-0.0)).call(list);
+    with(&base, |a| a.states.values[4] = 1e200).call(list);
+    with(&base, |a| a.states.values[66] = f64::MAX).call(list);
+    with(&base, |a| a.states.values[66] = 1e160).call(list);
+    with(&base, |a| a.fields.field[0] = 1e308).call(list);
+    with(&base, |a| a.fields.field[0] = 0.0).call(list);
+    with(&base, |a| a.fields.added[1] = 1e200).call(list);
 }
 
 fn refusals(list: &mut List, r: &mut Rng) {
     let base = asked(r, 2, 9000.0, 20, 10, 0.01);
-    let wild = [f64::NAN, f64::INFINITY, f64::NEG_INFINITY];
     // 1, with others after it
     for n in [0, 1, 181, usize::MAX] {
-        with(&base, |a| { a.degree = n; a.times.clear(); a.arc.period = f64::NAN }).call(list);
+        with(&base, |a| { a.fields.degree = n; a.fields.times.clear(); a.arc.period = f64::NAN }).call(list);
     }
     // 2
-    with(&base, |a| { a.times.truncate(1); a.field.clear() }).call(list);
-    with(&base, |a| a.times = (0..33).map(|k| k as f64).collect()).call(list);
+    with(&base, |a| { a.fields.times.truncate(1); a.fields.field.clear() }).call(list);
+    with(&base, |a| a.fields.times = (0..33).map(|k| k as f64).collect()).call(list);
     with(&base, |a| { a.arc.steps = 5303; a.out = 0 }).call(list);
     with(&base, |a| a.arc.steps = usize::MAX).call(list);
-    with(&base, |a| a.keys = vec![0; 200_001]).call(list);
+    with(&base, |a| a.states.keys = vec![0; 200_001]).call(list);
     // 3
-    with(&base, |a| a.keys = vec![0; 200_000]).call(list);
-    with(&base, |a| { a.field.pop(); a.arc.t0 = f64::NAN }).call(list);
-    with(&base, |a| a.field.push(0.0)).call(list);
-    with(&base, |a| { a.a.pop(); }).call(list);
-    with(&base, |a| a.b.push(0.0)).call(list);
-    with(&base, |a| { a.added.pop(); }).call(list);
-    with(&base, |a| { a.times.pop(); }).call(list);
-    with(&base, |a| { a.states.pop(); }).call(list);
-    with(&base, |a| a.keys.push(10_000)).call(list);
+    with(&base, |a| a.states.keys = vec![0; 200_000]).call(list);
+    with(&base, |a| { a.fields.field.pop(); a.arc.t0 = f64::NAN }).call(list);
+    with(&base, |a| a.fields.field.push(0.0)).call(list);
+    with(&base, |a| { a.fields.a.pop(); }).call(list);
+    with(&base, |a| a.fields.b.push(0.0)).call(list);
+    with(&base, |a| { a.fields.added.pop(); }).call(list);
+    with(&base, |a| { a.fields.times.pop(); }).call(list);
+    with(&base, |a| { a.states.values.pop(); }).call(list);
+    with(&base, |a| a.states.keys.push(10_000)).call(list);
     for off in [0, 125, 127] {
         with(&base, |a| a.out = off).call(list);
     }
@@ -374,34 +341,34 @@ fn refusals(list: &mut List, r: &mut Rng) {
     with(&base, |a| a.scratch -= 1).call(list);
     with(&base, |a| a.scratch = 0).call(list);
     // 4
-    for w in wild {
-        with(&base, |a| { a.field[0] = w; a.times[1] = a.times[0] }).call(list);
-        with(&base, |a| *a.field.last_mut().unwrap() = w).call(list);
-        with(&base, |a| a.a[3] = w).call(list);
-        with(&base, |a| a.b[5] = w).call(list);
-        with(&base, |a| a.added[15] = w).call(list);
-        with(&base, |a| a.times[2] = w).call(list);
-        with(&base, |a| a.states[1] = w).call(list);
-        with(&base, |a| *a.states.last_mut().unwrap() = w).call(list);
+    for w in WILD {
+        with(&base, |a| { a.fields.field[0] = w; a.fields.times[1] = a.fields.times[0] }).call(list);
+        with(&base, |a| *a.fields.field.last_mut().unwrap() = w).call(list);
+        with(&base, |a| a.fields.a[3] = w).call(list);
+        with(&base, |a| a.fields.b[5] = w).call(list);
+        with(&base, |a| a.fields.added[15] = w).call(list);
+        with(&base, |a| a.fields.times[2] = w).call(list);
+        with(&base, |a| a.states.values[1] = w).call(list);
+        with(&base, |a| *a.states.values.last_mut().unwrap() = w).call(list);
         with(&base, |a| a.arc.t0 = w).call(list);
         with(&base, |a| a.arc.node = w).call(list);
         with(&base, |a| a.arc.period = w).call(list);
     }
-    for t in [-5e-324, step(TOP, 1)] {
-        with(&base, |a| a.times[2] = t).call(list);
+    for t in [-5e-324, step(LAST, 1)] {
+        with(&base, |a| a.fields.times[2] = t).call(list);
         with(&base, |a| a.arc.node = t).call(list);
     }
-    with(&base, |a| a.arc.t0 = step(TOP, 1)).call(list);
-    with(&base, |a| a.arc.t0 = step(-TOP, -1)).call(list);
-    with(&base, |a| a.arc.t0 = step(-TOP, 1)).call(list);
-    with(&base, |a| a.keys[0] = -1).call(list);
-    with(&base, |a| *a.keys.last_mut().unwrap() = (1 << 31) + 1).call(list);
-    with(&base, |a| a.keys[0] = i64::MIN).call(list);
+    with(&base, |a| a.arc.t0 = step(LAST, 1)).call(list);
+    with(&base, |a| a.arc.t0 = step(-LAST, -1)).call(list);
+    with(&base, |a| a.arc.t0 = step(-LAST, 1)).call(list);
+    with(&base, |a| a.states.keys[0] = -1).call(list);
+    with(&base, |a| *a.states.keys.last_mut().unwrap() = (1 << 31) + 1).call(list);
+    with(&base, |a| a.states.keys[0] = i64::MIN).call(list);
     // 5
-    with(&base, |a| a.times[1] = a.times[0]).call(list);
-    with(&base, |a| a.times.reverse()).call(list);
-    with(&base, |a| a.keys[1] = a.keys[0]).call(list);
-    with(&base, |a| a.keys.reverse()).call(list);
+    with(&base, |a| a.fields.times[1] = a.fields.times[0]).call(list);
+    with(&base, |a| a.fields.times.reverse()).call(list);
+    with(&base, |a| a.states.keys[1] = a.states.keys[0]).call(list);
+    with(&base, |a| a.states.keys.reverse()).call(list);
     // more scratch than is needed is cleared as well
     with(&asked(r, 2, 9000.0, 130, 10, 0.01), |a| a.scratch += 99).call(list);
 }
@@ -438,19 +405,17 @@ impl Windows {
         if first == 1 { return 1; }
         if first == 2 || self.nodes.len() > 64 { return 2; }
         let pairs = self.nodes.len().saturating_sub(1);
-        let l = places(of.degree);
-        let least = 2 * of.times.len() * l + 8 * l + 150_000 + 49_200 * pairs;
+        let least = of.fields.least_scratch() + 49_200 * pairs;
         if first == 3 || self.keys != 3500 * pairs || self.states != 21_000 * pairs || self.rms != pairs || self.scratch < least { return 3; }
-        if first == 4 || !self.nodes.iter().all(|t| (0.0..=TOP).contains(t)) { return 4; }
-        if first == 5 || !self.nodes.windows(2).all(|w| w[0] < w[1]) { return 5; }
+        if first == 4 || !are_times(&self.nodes) { return 4; }
+        if first == 5 || !rising(&self.nodes) { return 5; }
         0
     }
 
     fn answer(&self) -> std::result::Result<(Vec<i64>, Vec<f64>, Vec<f64>), u8> {
         let refused = self.refusal();
         if refused != 0 { return Err(refused); }
-        let known: States = self.of.keys.iter().zip(self.of.states.chunks(6)).map(|(k, s)| (*k, ([s[0], s[1], s[2]], [s[3], s[4], s[5]]))).collect();
-        let (fitted, rms) = fitted_orbits(&self.of.model(), &known, &self.nodes);
+        let (fitted, rms) = fitted_orbits(&self.of.fields.source(), &self.of.states.states(), &self.nodes);
         let mut keys: Vec<i64> = fitted.keys().copied().collect();
         keys.sort();
         let states: Vec<f64> = keys.iter().flat_map(|k| [fitted[k].0, fitted[k].1].concat()).collect();
@@ -460,16 +425,9 @@ impl Windows {
     fn call(&self, list: &mut List) {
         let between = [self.keys / 50, self.states / 50];
         list.call(ORBITS);
-        list.ask(self.of.degree as u64);
-        for part in [&self.of.field, &self.of.a, &self.of.b, &self.of.times, &self.of.added] {
-            list.ask_slice(part);
-        }
-        list.ask_words(self.of.keys.iter().map(|k| *k as u64).collect());
-        list.ask_slice(&self.of.states);
+        self.of.ask(list);
         list.ask_slice(&self.nodes);
-        for word in [self.keys, self.states, self.rms, self.scratch, between[0], between[1]] {
-            list.ask(word as u64);
-        }
+        list.ask_counts(&[self.keys, self.states, self.rms, self.scratch, between[0], between[1]]);
         let (number, (mut keys, mut states, mut rms)) = match self.answer() {
             Ok(lists) => {
                 list.tell(0);
@@ -490,7 +448,7 @@ impl Windows {
         tell_sums(list, &keys.iter().map(|k| *k as u64).collect::<Vec<u64>>(), 3, between[0]);
         tell_sums(list, &bits(&states), 3.0f64.to_bits(), between[1]);
         tell_sums(list, &bits(&rms), 3.0f64.to_bits(), 0);
-        list.tell(if self.scratch > 0 && (1..6).contains(&number) { 1 } else { 0 });
+        list.tell_left((1..6).contains(&number), self.scratch);
     }
 }
 
@@ -507,7 +465,7 @@ fn fitted_windows(list: &mut List, r: &mut Rng) {
     // one to four windows; nodes with a fraction, each in the even second that its arc's states begin at
     for (n, count) in [(2, 1), (3, 2), (6, 1), (12, 1), (2, 3), (2, 4), (4, 2)] {
         let base = 10_000.0 + 2_000.0 * n as f64;
-        let nodes: Vec<f64> = (0..=count).map(|k| base + 120.0 * k as f64 + 1.9 * uni(r)).collect();
+        let nodes: Vec<f64> = (0..=count).map(|k| base + 120.0 * k as f64 + 1.9 * unit(r)).collect();
         windows(r, n, &nodes, 0.02).call(list);
     }
     windows(r, 2, &[20_000.0, 20_100.0], 0.5).call(list);
@@ -528,9 +486,9 @@ fn fitted_windows(list: &mut List, r: &mut Rng) {
     windows(r, 2, &[0.0, 5.5, 60.0], 0.02).call(list);
     let three = windows(r, 2, &[10_000.0, 10_120.0, 10_240.0], 0.02);
     three.call(list);
-    with(&three, |w| w.of.times[2] = 12_000.0).call(list);
-    with(&three, |w| w.of.times[0] = 8_250.0).call(list);
-    with(&three, |w| { w.of.times[0] = 20_000.0; w.of.times[1] = 20_001.0; w.of.times[2] = 20_002.0 }).call(list);
+    with(&three, |w| w.of.fields.times[2] = 12_000.0).call(list);
+    with(&three, |w| w.of.fields.times[0] = 8_250.0).call(list);
+    with(&three, |w| { w.of.fields.times[0] = 20_000.0; w.of.fields.times[1] = 20_001.0; w.of.fields.times[2] = 20_002.0 }).call(list);
     // too few states in the first window, in both, no state at a start
     with(&three, |w| w.of.forget(|i| i < 6)).call(list);
     with(&three, |w| w.of.forget(|i| i > 60)).call(list);
@@ -549,40 +507,39 @@ fn fitted_windows(list: &mut List, r: &mut Rng) {
     windows(r, 2, &[10_000.0, 10_120.0, 10_120.001], 0.02).call(list);
     windows(r, 2, &[10_000.0, 10_000.001, 10_120.0], 0.02).call(list);
     // numbers that leave the range
-    with(&three, |w| w.of.states[66] = f64::MAX).call(list);
-    with(&three, |w| w.of.states[0] = 1e308).call(list);
-    with(&three, |w| w.of.field[0] = 0.0).call(list);
+    with(&three, |w| w.of.states.values[66] = f64::MAX).call(list);
+    with(&three, |w| w.of.states.values[0] = 1e308).call(list);
+    with(&three, |w| w.of.fields.field[0] = 0.0).call(list);
     // the end of time
-    windows(r, 2, &[TOP - 2100.0, TOP - 1980.5], 0.02).call(list);
-    with(&windows(r, 2, &[TOP - 2100.0, TOP - 1980.0], 0.02), |w| w.nodes = vec![TOP - 2100.0, TOP]).call(list);
-    with(&windows(r, 2, &[TOP - 2100.0, TOP - 1980.0], 0.02), |w| { w.nodes = vec![TOP - 0.5, TOP]; w.of.forget(|_| true) }).call(list);
+    windows(r, 2, &[LAST - 2100.0, LAST - 1980.5], 0.02).call(list);
+    with(&windows(r, 2, &[LAST - 2100.0, LAST - 1980.0], 0.02), |w| w.nodes = vec![LAST - 2100.0, LAST]).call(list);
+    with(&windows(r, 2, &[LAST - 2100.0, LAST - 1980.0], 0.02), |w| { w.nodes = vec![LAST - 0.5, LAST]; w.of.forget(|_| true) }).call(list);
     // more scratch than is needed is cleared as well
     with(&three, |w| w.scratch += 99).call(list);
 }
 
 fn window_refusals(list: &mut List, r: &mut Rng) {
     let base = with(&windows(r, 2, &[9000.0, 9001.0, 9002.5], 0.01), |w| w.of.forget(|i| i > 4));
-    let wild = [f64::NAN, f64::INFINITY, f64::NEG_INFINITY];
     // 1, with others after it
     for n in [0, 1, 181, usize::MAX] {
-        with(&base, |w| { w.of.degree = n; w.of.times.clear(); w.nodes[0] = f64::NAN }).call(list);
+        with(&base, |w| { w.of.fields.degree = n; w.of.fields.times.clear(); w.nodes[0] = f64::NAN }).call(list);
     }
     // 2
-    with(&base, |w| { w.of.times.truncate(1); w.of.field.clear() }).call(list);
-    with(&base, |w| w.of.times = (0..33).map(|k| k as f64).collect()).call(list);
-    with(&base, |w| w.of.keys = vec![0; 200_001]).call(list);
+    with(&base, |w| { w.of.fields.times.truncate(1); w.of.fields.field.clear() }).call(list);
+    with(&base, |w| w.of.fields.times = (0..33).map(|k| k as f64).collect()).call(list);
+    with(&base, |w| w.of.states.keys = vec![0; 200_001]).call(list);
     with(&base, |w| { w.nodes = (0..65).map(|k| k as f64).collect(); w.scratch = 0 }).call(list);
     // 3
     with(&base, |w| w.nodes = (0..64).map(|k| k as f64).collect()).call(list);
-    with(&base, |w| w.of.keys = vec![0; 200_000]).call(list);
-    with(&base, |w| { w.of.field.pop(); w.nodes[0] = f64::NAN }).call(list);
-    with(&base, |w| w.of.field.push(0.0)).call(list);
-    with(&base, |w| { w.of.a.pop(); }).call(list);
-    with(&base, |w| w.of.b.push(0.0)).call(list);
-    with(&base, |w| { w.of.added.pop(); }).call(list);
-    with(&base, |w| { w.of.times.pop(); }).call(list);
-    with(&base, |w| { w.of.states.pop(); }).call(list);
-    with(&base, |w| w.of.keys.push(20_000)).call(list);
+    with(&base, |w| w.of.states.keys = vec![0; 200_000]).call(list);
+    with(&base, |w| { w.of.fields.field.pop(); w.nodes[0] = f64::NAN }).call(list);
+    with(&base, |w| w.of.fields.field.push(0.0)).call(list);
+    with(&base, |w| { w.of.fields.a.pop(); }).call(list);
+    with(&base, |w| w.of.fields.b.push(0.0)).call(list);
+    with(&base, |w| { w.of.fields.added.pop(); }).call(list);
+    with(&base, |w| { w.of.fields.times.pop(); }).call(list);
+    with(&base, |w| { w.of.states.values.pop(); }).call(list);
+    with(&base, |w| w.of.states.keys.push(20_000)).call(list);
     with(&base, |w| w.nodes.push(9100.0)).call(list);
     with(&base, |w| { w.nodes.pop(); }).call(list);
     with(&base, |w| w.nodes.clear()).call(list);
@@ -601,29 +558,29 @@ fn window_refusals(list: &mut List, r: &mut Rng) {
     with(&windows(r, 2, &[], 0.0), |w| w.keys = 1).call(list);
     with(&windows(r, 2, &[9000.0], 0.0), |w| { w.of.forget(|_| true); w.scratch -= 1 }).call(list);
     // 4
-    for x in wild {
-        with(&base, |w| { w.of.field[0] = x; w.of.times[1] = w.of.times[0] }).call(list);
-        with(&base, |w| *w.of.field.last_mut().unwrap() = x).call(list);
-        with(&base, |w| w.of.a[3] = x).call(list);
-        with(&base, |w| w.of.b[5] = x).call(list);
-        with(&base, |w| w.of.added[15] = x).call(list);
-        with(&base, |w| w.of.times[2] = x).call(list);
-        with(&base, |w| w.of.states[1] = x).call(list);
-        with(&base, |w| *w.of.states.last_mut().unwrap() = x).call(list);
+    for x in WILD {
+        with(&base, |w| { w.of.fields.field[0] = x; w.of.fields.times[1] = w.of.fields.times[0] }).call(list);
+        with(&base, |w| *w.of.fields.field.last_mut().unwrap() = x).call(list);
+        with(&base, |w| w.of.fields.a[3] = x).call(list);
+        with(&base, |w| w.of.fields.b[5] = x).call(list);
+        with(&base, |w| w.of.fields.added[15] = x).call(list);
+        with(&base, |w| w.of.fields.times[2] = x).call(list);
+        with(&base, |w| w.of.states.values[1] = x).call(list);
+        with(&base, |w| *w.of.states.values.last_mut().unwrap() = x).call(list);
         with(&base, |w| w.nodes[0] = x).call(list);
         with(&base, |w| w.nodes[2] = x).call(list);
     }
-    for t in [-5e-324, step(TOP, 1)] {
-        with(&base, |w| w.of.times[2] = t).call(list);
+    for t in [-5e-324, step(LAST, 1)] {
+        with(&base, |w| w.of.fields.times[2] = t).call(list);
         with(&base, |w| w.nodes[2] = t).call(list);
     }
-    with(&base, |w| w.of.keys[0] = -1).call(list);
-    with(&base, |w| *w.of.keys.last_mut().unwrap() = (1 << 31) + 1).call(list);
+    with(&base, |w| w.of.states.keys[0] = -1).call(list);
+    with(&base, |w| *w.of.states.keys.last_mut().unwrap() = (1 << 31) + 1).call(list);
     // 5
-    with(&base, |w| w.of.times[1] = w.of.times[0]).call(list);
-    with(&base, |w| w.of.times.reverse()).call(list);
-    with(&base, |w| w.of.keys[1] = w.of.keys[0]).call(list);
-    with(&base, |w| w.of.keys.reverse()).call(list);
+    with(&base, |w| w.of.fields.times[1] = w.of.fields.times[0]).call(list);
+    with(&base, |w| w.of.fields.times.reverse()).call(list);
+    with(&base, |w| w.of.states.keys[1] = w.of.states.keys[0]).call(list);
+    with(&base, |w| w.of.states.keys.reverse()).call(list);
     with(&base, |w| w.nodes[1] = w.nodes[0]).call(list);
     with(&base, |w| w.nodes.reverse()).call(list);
 }

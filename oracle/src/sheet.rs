@@ -1,9 +1,8 @@
 // Modules 8 and 9 by the public whole path. Answers by the source's functions in whole.rs, refusals by document 01's table. Outputs stand at 3.0 and scratch at 7.0
 // before a call: all unchanged after refusals 1 to 5; else the scratch is +0.0, and so are outputs after the kept entries.
-use crate::fieldlists::{LAST, finite, is_time, places, rising};
+use crate::fieldlists::{Fields, LAST, Rows, WILD, are_times, finite, places, rising, with};
 use crate::generate::{Plan, generate};
 use crate::list::{List, step};
-use crate::source::Legendre;
 use crate::submission::{FieldData, Submission};
 use crate::whole::whole;
 
@@ -11,15 +10,9 @@ const SHEET: u64 = 0;
 
 #[derive(Clone)]
 struct Asked {
-    degree: usize,
-    field: Vec<f64>,
-    a: Vec<f64>,
-    b: Vec<f64>,
-    times: Vec<f64>,
-    added: Vec<f64>,
+    fields: Fields,
     // states of C and D, accelerometer values of C and D
-    keys: [Vec<i64>; 4],
-    values: [Vec<f64>; 4],
+    rows: [Rows; 4],
     nodes: Vec<f64>,
     obs: Vec<f64>,
     observed: Vec<f64>,
@@ -29,50 +22,43 @@ struct Asked {
     scratch: usize,
 }
 
-fn flat(f: &FieldData) -> Vec<f64> {
-    [vec![f.gm, f.radius], f.c.clone(), f.s.clone()].concat()
-}
-
 fn lent(s: &Submission) -> Asked {
-    let (l, m) = (places(s.n), s.obs.len());
-    let tables = Legendre::new(s.n);
-    let keys = |k: usize| if k < 2 { s.states[k].iter().map(|r| r.0).collect() } else { s.acc[k - 2].iter().map(|r| r.0).collect() };
-    let values = |k: usize| if k < 2 { s.states[k].iter().flat_map(|r| r.1).collect() } else { s.acc[k - 2].iter().map(|r| r.1).collect() };
-    Asked {
-        degree: s.n, field: flat(&s.stat), a: tables.a[..l].to_vec(), b: tables.b[..l].to_vec(),
-        times: s.fields.iter().map(|f| f.0).collect(), added: s.fields.iter().flat_map(|f| flat(&f.1)).collect(),
-        keys: [keys(0), keys(1), keys(2), keys(3)], values: [values(0), values(1), values(2), values(3)], nodes: s.nodes.clone(),
-        obs: s.obs.iter().map(|o| o.0).collect(), observed: s.obs.iter().map(|o| o.1).collect(), good: s.obs.iter().map(|o| o.2).collect(), outs: [m; 4],
-        scratch: 2 * s.fields.len() * l + 8 * l + 150_000 + 49_200 * s.nodes.len().saturating_sub(1) + 10 * m,
-    }
+    let fields = Fields::of(s.n, s.stat.flat(), s.fields.iter().map(|f| f.0).collect(), s.fields.iter().flat_map(|f| f.1.flat()).collect());
+    let states = |k: usize| Rows { keys: s.states[k].iter().map(|r| r.0).collect(), values: s.states[k].iter().flat_map(|r| r.1).collect(), width: 6 };
+    let accs = |k: usize| Rows { keys: s.acc[k].iter().map(|r| r.0).collect(), values: s.acc[k].iter().map(|r| r.1).collect(), width: 1 };
+    let mut asked = Asked {
+        fields, rows: [states(0), states(1), accs(0), accs(1)], nodes: s.nodes.clone(),
+        obs: s.obs.iter().map(|o| o.0).collect(), observed: s.obs.iter().map(|o| o.1).collect(), good: s.obs.iter().map(|o| o.2).collect(), outs: [s.obs.len(); 4],
+        scratch: 0,
+    };
+    asked.scratch = asked.least_scratch();
+    asked
 }
 
 impl Asked {
+    fn least_scratch(&self) -> usize {
+        self.fields.least_scratch() + 49_200 * self.nodes.len().saturating_sub(1) + 10 * self.obs.len()
+    }
+
     // causes 1 to 5, in order
     fn refusal(&self) -> u8 {
-        let (fields, m) = (self.times.len(), self.obs.len());
-        if !(2..=180).contains(&self.degree) { return 1; }
-        if !(2..=32).contains(&fields) || self.keys.iter().any(|k| k.len() > 200_000) || self.nodes.len() > 64 || m > 100_000 { return 2; }
-        let l = places(self.degree);
-        let model = self.field.len() == 2 + 2 * l && self.added.len() == fields * (2 + 2 * l) && self.a.len() == l && self.b.len() == l;
-        let keyed = (0..4).all(|k| self.values[k].len() == self.keys[k].len() * if k < 2 { 6 } else { 1 });
+        let (fields, m) = (&self.fields, self.obs.len());
+        if !fields.degree_fine() { return 1; }
+        if !fields.counted() || !self.rows.iter().all(Rows::counted) || self.nodes.len() > 64 || m > 100_000 { return 2; }
         let observed = self.observed.len() == m && self.good.len() == m && self.outs.iter().all(|n| *n == m);
-        let room = 2 * fields * l + 8 * l + 150_000 + 49_200 * self.nodes.len().saturating_sub(1) + 10 * m;
-        if !model || !keyed || !observed || self.scratch < room { return 3; }
-        let numbers = [&self.field, &self.a, &self.b, &self.added, &self.observed].iter().all(|v| finite(v)) && self.values.iter().all(|v| finite(v));
-        let times = self.times.iter().chain(&self.nodes).chain(&self.obs).all(|t| is_time(*t));
-        if !numbers || !times || !self.keys.iter().flatten().all(|k| (0..=1i64 << 31).contains(k)) { return 4; }
-        if ![&self.times, &self.nodes, &self.obs].iter().all(|t| rising(t)) || !self.keys.iter().all(|k| rising(k)) { return 5; }
+        if !fields.fits() || !self.rows.iter().all(Rows::fits) || !observed || self.scratch < self.least_scratch() { return 3; }
+        if !fields.fine() || !self.rows.iter().all(Rows::fine) || !are_times(&self.nodes) || !are_times(&self.obs) || !finite(&self.observed) { return 4; }
+        if !fields.ordered() || !self.rows.iter().all(Rows::ordered) || !rising(&self.nodes) || !rising(&self.obs) { return 5; }
         0
     }
 
     fn submission(&self) -> Submission {
-        let l = places(self.degree);
+        let (fields, l) = (&self.fields, places(self.fields.degree));
         let field = |f: &[f64]| FieldData { gm: f[0], radius: f[1], c: f[2..2 + l].to_vec(), s: f[2 + l..].to_vec() };
-        let states = |k: usize| self.keys[k].iter().zip(self.values[k].chunks(6)).map(|(key, s)| (*key, [s[0], s[1], s[2], s[3], s[4], s[5]])).collect();
-        let acc = |k: usize| self.keys[k].iter().copied().zip(self.values[k].iter().copied()).collect();
+        let states = |k: usize| self.rows[k].keys.iter().zip(self.rows[k].values.chunks(6)).map(|(key, s)| (*key, [s[0], s[1], s[2], s[3], s[4], s[5]])).collect();
+        let acc = |k: usize| self.rows[k].keys.iter().copied().zip(self.rows[k].values.iter().copied()).collect();
         Submission {
-            n: self.degree, stat: field(&self.field), fields: self.times.iter().zip(self.added.chunks(2 + 2 * l)).map(|(t, f)| (*t, field(f))).collect(),
+            n: fields.degree, stat: field(&fields.field), fields: fields.times.iter().zip(fields.added.chunks(2 + 2 * l)).map(|(t, f)| (*t, field(f))).collect(),
             states: [states(0), states(1)], acc: [acc(2), acc(3)], nodes: self.nodes.clone(),
             obs: (0..self.obs.len()).map(|i| (self.obs[i], self.observed[i], self.good[i])).collect(),
         }
@@ -81,14 +67,13 @@ impl Asked {
     // what is answered: the number, the kept count and F
     fn call(&self, list: &mut List) -> (u8, usize, usize) {
         list.call(SHEET);
-        list.ask(self.degree as u64);
-        for part in [&self.field, &self.a, &self.b, &self.times, &self.added] {
-            list.ask_slice(part);
-        }
-        self.keys.iter().for_each(|k| list.ask_words(k.iter().map(|key| *key as u64).collect()));
-        self.values.iter().chain([&self.nodes, &self.obs, &self.observed]).for_each(|v| list.ask_slice(v));
+        list.ask(self.fields.degree as u64);
+        self.fields.parts().iter().for_each(|part| list.ask_slice(part));
+        self.rows.iter().for_each(|r| list.ask_words(r.keys.iter().map(|key| *key as u64).collect()));
+        self.rows.iter().map(|r| &r.values).chain([&self.nodes, &self.obs, &self.observed]).for_each(|v| list.ask_slice(v));
         list.ask_words(self.good.iter().map(|g| *g as u64).collect());
-        self.outs.iter().chain([&self.scratch]).for_each(|n| list.ask(*n as u64));
+        list.ask_counts(&self.outs);
+        list.ask(self.scratch as u64);
         let early = self.refusal();
         let answer = if early == 0 { whole(&self.submission()) } else { Err(early) };
         let (number, kept, f) = match &answer {
@@ -98,17 +83,11 @@ impl Asked {
         [number as usize, kept, f].iter().for_each(|n| list.tell(*n as u64));
         for k in 0..4 {
             list.tell_all(answer.as_ref().map_or(&[], |w| &w.lists[k]));
-            list.tell((early != 0 && self.outs[k] > 0) as u64);
+            list.tell_left(early != 0, self.outs[k]);
         }
-        list.tell((early != 0 && self.scratch > 0) as u64);
+        list.tell_left(early != 0, self.scratch);
         (number, kept, f)
     }
-}
-
-fn with<T: Clone>(base: &T, change: impl Fn(&mut T)) -> T {
-    let mut out = base.clone();
-    change(&mut out);
-    out
 }
 
 // A submission of degree n whose nodes come so many seconds after base + 1800. States are known every `apart` seconds after the even second base, so that a window
@@ -339,15 +318,15 @@ fn refusals(list: &mut List, seed: u64) {
     said(0, &|a| a.scratch += 77);
     // 1, with others after it
     for n in [0, 1, 181, usize::MAX] {
-        said(1, &|a| { a.degree = n; a.times.clear(); a.outs[0] = 0; a.observed[0] = f64::NAN });
+        said(1, &|a| { a.fields.degree = n; a.fields.times.clear(); a.outs[0] = 0; a.observed[0] = f64::NAN });
     }
     // 2
-    said(2, &|a| { a.times.truncate(1); a.field.pop(); });
-    said(2, &|a| { a.times.clear(); a.obs[0] = -1.0 });
-    said(2, &|a| { a.times = (0..33).map(|k| k as f64).collect(); a.a.pop(); });
+    said(2, &|a| { a.fields.times.truncate(1); a.fields.field.pop(); });
+    said(2, &|a| { a.fields.times.clear(); a.obs[0] = -1.0 });
+    said(2, &|a| { a.fields.times = (0..33).map(|k| k as f64).collect(); a.fields.a.pop(); });
     for k in 0..4 {
-        said(2, &|a| { a.keys[k] = vec![0; 200_001]; a.good.pop(); });
-        said(3, &|a| a.keys[k] = vec![0; 200_000]);
+        said(2, &|a| { a.rows[k].keys = vec![0; 200_001]; a.good.pop(); });
+        said(3, &|a| a.rows[k].keys = vec![0; 200_000]);
     }
     said(2, &|a| { a.nodes = (0..65).map(|k| k as f64).collect(); a.scratch = 0 });
     said(3, &|a| a.nodes = (0..64).map(|k| k as f64).collect());
@@ -356,16 +335,16 @@ fn refusals(list: &mut List, seed: u64) {
     // 3
     for off in [-1, 1] {
         let resize = |v: &mut Vec<f64>| if off < 0 { v.pop(); } else { v.push(f64::NAN) };
-        said(3, &|a| resize(&mut a.field));
-        said(3, &|a| resize(&mut a.a));
-        said(3, &|a| resize(&mut a.b));
-        said(3, &|a| resize(&mut a.times));
-        said(3, &|a| resize(&mut a.added));
+        said(3, &|a| resize(&mut a.fields.field));
+        said(3, &|a| resize(&mut a.fields.a));
+        said(3, &|a| resize(&mut a.fields.b));
+        said(3, &|a| resize(&mut a.fields.times));
+        said(3, &|a| resize(&mut a.fields.added));
         said(3, &|a| resize(&mut a.obs));
         said(3, &|a| resize(&mut a.observed));
         for k in 0..4 {
-            said(3, &|a| resize(&mut a.values[k]));
-            said(3, &|a| if off < 0 { a.keys[k].pop(); } else { a.keys[k].push(-1) });
+            said(3, &|a| resize(&mut a.rows[k].values));
+            said(3, &|a| if off < 0 { a.rows[k].keys.pop(); } else { a.rows[k].keys.push(-1) });
             said(3, &|a| a.outs[k] = a.outs[k].wrapping_add_signed(off));
         }
         said(3, &|a| if off < 0 { a.good.pop(); } else { a.good.push(1) });
@@ -374,37 +353,37 @@ fn refusals(list: &mut List, seed: u64) {
     said(3, &|a| { a.scratch -= 1; a.obs.reverse() });
     said(3, &|a| a.scratch = 0);
     // 4
-    for w in [f64::NAN, f64::INFINITY, f64::NEG_INFINITY] {
-        said(4, &|a| { a.field[0] = w; a.times[1] = a.times[0] });
-        said(4, &|a| *a.field.last_mut().unwrap() = w);
-        said(4, &|a| a.a[3] = w);
-        said(4, &|a| a.b[5] = w);
-        said(4, &|a| a.times[2] = w);
-        said(4, &|a| *a.added.last_mut().unwrap() = w);
+    for w in WILD {
+        said(4, &|a| { a.fields.field[0] = w; a.fields.times[1] = a.fields.times[0] });
+        said(4, &|a| *a.fields.field.last_mut().unwrap() = w);
+        said(4, &|a| a.fields.a[3] = w);
+        said(4, &|a| a.fields.b[5] = w);
+        said(4, &|a| a.fields.times[2] = w);
+        said(4, &|a| *a.fields.added.last_mut().unwrap() = w);
         for k in 0..4 {
-            said(4, &|a| { a.values[k][0] = w; a.keys[k].reverse() });
-            said(4, &|a| *a.values[k].last_mut().unwrap() = w);
+            said(4, &|a| { a.rows[k].values[0] = w; a.rows[k].keys.reverse() });
+            said(4, &|a| *a.rows[k].values.last_mut().unwrap() = w);
         }
         said(4, &|a| a.nodes[1] = w);
         said(4, &|a| { a.obs[5] = w; a.good.fill(0) });
         said(4, &|a| { a.observed[2] = w; a.good[2] = 0 });
     }
     for t in [-5e-324, step(LAST, 1)] {
-        said(4, &|a| a.times[2] = t);
+        said(4, &|a| a.fields.times[2] = t);
         said(4, &|a| a.nodes[0] = t);
         said(4, &|a| a.obs[1] = t);
     }
     for k in 0..4 {
-        said(4, &|a| a.keys[k][0] = -1);
-        said(4, &|a| *a.keys[k].last_mut().unwrap() = (1 << 31) + 1);
-        said(4, &|a| a.keys[k][1] = i64::MIN);
-        said(0, &|a| { a.keys[k][0] = 0; *a.keys[k].last_mut().unwrap() = 1 << 31 });
+        said(4, &|a| a.rows[k].keys[0] = -1);
+        said(4, &|a| *a.rows[k].keys.last_mut().unwrap() = (1 << 31) + 1);
+        said(4, &|a| a.rows[k].keys[1] = i64::MIN);
+        said(0, &|a| { a.rows[k].keys[0] = 0; *a.rows[k].keys.last_mut().unwrap() = 1 << 31 });
         // 5
-        said(5, &|a| a.keys[k][1] = a.keys[k][0]);
-        said(5, &|a| a.keys[k].reverse());
+        said(5, &|a| a.rows[k].keys[1] = a.rows[k].keys[0]);
+        said(5, &|a| a.rows[k].keys.reverse());
     }
-    said(5, &|a| a.times[1] = a.times[0]);
-    said(5, &|a| a.times.reverse());
+    said(5, &|a| a.fields.times[1] = a.fields.times[0]);
+    said(5, &|a| a.fields.times.reverse());
     said(5, &|a| a.nodes[1] = a.nodes[0]);
     said(5, &|a| a.nodes.reverse());
     said(5, &|a| a.obs.reverse());

@@ -1,4 +1,5 @@
 // A submission, document 01's checks 1 to 5 of it, and its parts as the source's types.
+use crate::fieldlists::{are_keys, are_times, finite, is_degree, is_time, places, rising};
 use crate::source::*;
 
 #[derive(Clone, PartialEq)]
@@ -7,6 +8,13 @@ pub struct FieldData {
     pub radius: f64,
     pub c: Vec<f64>,
     pub s: Vec<f64>,
+}
+
+impl FieldData {
+    /// As a call is lent it.
+    pub fn flat(&self) -> Vec<f64> {
+        [&[self.gm, self.radius], &self.c[..], &self.s[..]].concat()
+    }
 }
 
 #[derive(Clone)]
@@ -19,29 +27,23 @@ pub struct Submission {
     pub nodes: Vec<f64>,
     pub obs: Vec<(f64, f64, u8)>,
 }
-pub const TOP: f64 = 2147483648.0;
 /// Checks 1 to 5 of document 01, lowest number first.
 pub fn check(s: &Submission) -> Option<u8> {
-    if !(2..=180).contains(&s.n) { return Some(1); }
+    if !is_degree(s.n) { return Some(1); }
     let counts = (2..=32).contains(&s.fields.len()) && s.nodes.len() <= 64
         && s.states.iter().all(|v| v.len() <= 200_000) && s.acc.iter().all(|v| v.len() <= 200_000) && s.obs.len() <= 100_000;
     if !counts { return Some(2); }
-    let l = (s.n + 1) * (s.n + 2) / 2;
+    let l = places(s.n);
     let len = |f: &FieldData| f.c.len() == l && f.s.len() == l;
     if !len(&s.stat) || !s.fields.iter().all(|f| len(&f.1)) { return Some(3); }
-    let fin = |f: &FieldData| f.gm.is_finite() && f.radius.is_finite() && f.c.iter().chain(&f.s).all(|v| v.is_finite());
-    let time = |t: f64| t >= 0.0 && t <= TOP;
-    let key = |k: i64| (0..=(1i64 << 31)).contains(&k);
-    let ok = fin(&s.stat) && s.fields.iter().all(|f| time(f.0) && fin(&f.1))
-        && s.states.iter().flatten().all(|r| key(r.0) && r.1.iter().all(|v| v.is_finite()))
-        && s.acc.iter().flatten().all(|r| key(r.0) && r.1.is_finite())
-        && s.nodes.iter().all(|t| time(*t)) && s.obs.iter().all(|o| time(o.0) && o.1.is_finite());
+    let keys: [Vec<i64>; 4] = std::array::from_fn(|k| if k < 2 { s.states[k].iter().map(|r| r.0).collect() } else { s.acc[k - 2].iter().map(|r| r.0).collect() });
+    let ok = finite(&s.stat.flat()) && s.fields.iter().all(|f| is_time(f.0) && finite(&f.1.flat())) && keys.iter().all(|k| are_keys(k))
+        && s.states.iter().flatten().all(|r| finite(&r.1)) && s.acc.iter().flatten().all(|r| r.1.is_finite())
+        && are_times(&s.nodes) && s.obs.iter().all(|o| is_time(o.0) && o.1.is_finite());
     if !ok { return Some(4); }
-    let up = |v: Vec<f64>| v.windows(2).all(|w| w[0] < w[1]);
-    let upk = |v: Vec<i64>| v.windows(2).all(|w| w[0] < w[1]);
-    let ok = up(s.fields.iter().map(|f| f.0).collect()) && up(s.nodes.clone()) && up(s.obs.iter().map(|o| o.0).collect())
-        && s.states.iter().all(|v| upk(v.iter().map(|r| r.0).collect())) && s.acc.iter().all(|v| upk(v.iter().map(|r| r.0).collect()));
-    if !ok { return Some(5); }
+    let fields: Vec<f64> = s.fields.iter().map(|f| f.0).collect();
+    let observed: Vec<f64> = s.obs.iter().map(|o| o.0).collect();
+    if ![&fields, &s.nodes, &observed].iter().all(|t| rising(t)) || !keys.iter().all(|k| rising(k)) { return Some(5); }
     None
 }
 pub fn coefficients(f: &FieldData, n: usize) -> Coefficients {
