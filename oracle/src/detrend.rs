@@ -23,18 +23,18 @@ fn counts(list: &mut List, values: &[usize]) {
 }
 
 /// Times two seconds apart, with a gap now and then.
-fn moments(random: &mut Rng, n: usize, start: f64) -> Vec<f64> {
+pub fn moments(random: &mut Rng, n: usize, start: f64) -> Vec<f64> {
     let mut t = start;
     (0..n).map(|_| { let now = t; t += if random.below(40) == 0 { 2.0 + random.below(9) as f64 } else { 2.0 }; now }).collect()
 }
 
-fn values_at(random: &mut Rng, times: &[f64]) -> Vec<f64> {
+pub fn values_at(random: &mut Rng, times: &[f64]) -> Vec<f64> {
     let (a, b, w) = (unit(random) - 0.5, 1e-3 * (unit(random) - 0.5), 1e-3 + 1e-2 * unit(random));
     times.iter().map(|t| 1e-7 * (a + b * t + (w * t).sin() + 0.1 * (unit(random) - 0.5))).collect()
 }
 
 /// Nodes that part a list of times into windows of about 50 epochs, some on a time itself.
-fn parting(random: &mut Rng, times: &[f64]) -> Vec<f64> {
+pub fn parting(random: &mut Rng, times: &[f64]) -> Vec<f64> {
     let mut nodes = Vec::new();
     let mut i = random.below(8) as usize;
     while i < times.len() {

@@ -93,7 +93,7 @@ impl Observing {
     }
 }
 
-fn tell_record(list: &mut List, e: &Epoch) {
+pub fn tell_record(list: &mut List, e: &Epoch) {
     list.tell_float(e.t);
     list.tell_float(e.residual);
     list.tell_all(&e.terms);
