@@ -1,4 +1,5 @@
 // Module 1: one evaluation of the partials, the tables lent and the work slice prepared.
+use crate::generate::unit;
 use crate::source::{Coefficients, Legendre, Rng, idx};
 use crate::timing::Bench;
 use pozsmeteg::raw;
@@ -9,7 +10,7 @@ const RADIUS: f64 = 6378136.3;
 
 fn field(n: usize, seed: u64) -> Coefficients {
     let mut random = Rng::new(seed);
-    let mut unit = || 2.0 * ((random.next_u64() >> 11) as f64 / (1u64 << 53) as f64) - 1.0;
+    let mut unit = || 2.0 * unit(&mut random) - 1.0;
     let mut out = Coefficients::zeros(GM, RADIUS, n);
     for d in 0..=n {
         for m in 0..=d {

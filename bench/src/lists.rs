@@ -1,5 +1,5 @@
 // Modules 6 and 7: detrending by revolutions and the band-pass, by the number of samples M.
-use crate::generate::{gauss, uni};
+use crate::generate::{gauss, unit};
 use crate::source::{Rng, band_pass, detrend, revolutions};
 use crate::timing::Bench;
 use pozsmeteg::raw;
@@ -10,7 +10,7 @@ fn samples(m: usize) -> (Vec<f64>, Vec<f64>, Vec<f64>) {
     let mut t = 1e6;
     let times: Vec<f64> = (0..m).map(|_| { t += if random.below(700) == 0 { 20.0 } else { 2.0 }; t }).collect();
     let values = times.iter().map(|t| 1e-8 * ((1.1e-3 * t).sin() + 1e-7 * t + 0.1 * gauss(&mut random))).collect();
-    let mut node = times[0] + 100.0 * uni(&mut random);
+    let mut node = times[0] + 100.0 * unit(&mut random);
     let mut nodes = vec![];
     while node < t && nodes.len() < 64 {
         nodes.push(node);

@@ -1,6 +1,7 @@
 // bench [NAME...]: ours beside the Rust source in one program: equal bits are checked first, then both are timed.
 #![allow(dead_code)]
 mod elementary;
+mod fieldlists;
 mod flat;
 mod generate;
 mod source;

@@ -1,50 +1,38 @@
 // Module 4: the fit of one window, a revolution of 5,650 s with 30 minutes either side, to states of every second.
 use crate::elementary::sine_cosine;
-use crate::generate::{gauss, random_field, rk1, uni};
+use crate::fieldlists::Rows;
+use crate::generate::{gauss, random_fields, rk1, unit};
 use crate::source::*;
-use crate::submission::{FieldData, coefficients};
 use crate::timing::Bench;
 use pozsmeteg::raw;
 
-fn flat(f: &FieldData) -> Vec<f64> {
-    [vec![f.gm, f.radius], f.c.clone(), f.s.clone()].concat()
-}
-
 // A low orbit under point mass and J2, with noise: the states of so many seconds.
-fn orbit(r: &mut Rng, first: i64, seconds: i64) -> (Vec<i64>, Vec<f64>) {
+fn orbit(r: &mut Rng, first: i64, seconds: i64) -> Rows {
     let radius = 6.871e6;
     let speed = (GM_E / radius).sqrt();
     let ((su, cu), (si, ci)) = (sine_cosine(-0.25), sine_cosine(1.55));
     let mut x = [radius * cu, radius * su * ci, radius * su * si];
     let mut v = [-speed * su + OMEGA * x[1], speed * cu * ci - OMEGA * x[0], speed * cu * si];
-    let (mut keys, mut states) = (vec![], vec![]);
+    let mut states = Rows { keys: vec![], values: vec![], width: 6 };
     for k in 0..=seconds {
-        keys.push(first + k);
-        states.extend(x.iter().chain(&v).enumerate().map(|(i, w)| w + 0.01 * if i < 3 { 1.0 } else { 1e-3 } * gauss(r)));
+        states.keys.push(first + k);
+        states.values.extend(x.iter().chain(&v).enumerate().map(|(i, w)| w + 0.01 * if i < 3 { 1.0 } else { 1e-3 } * gauss(r)));
         (x, v) = rk1(1.0, (first + k) as f64, x, v, &mut |_, x, v| add(j2_gravity(x), fictitious(x, v)));
     }
-    (keys, states)
+    states
 }
 
 fn window(bench: &mut Bench, n: usize, runs: usize) -> (f64, f64) {
     let mut r = Rng::new(3);
-    let a = 12_345.0 + uni(&mut r);
-    let b = a + 5_650.0 + uni(&mut r);
+    let a = 12_345.0 + unit(&mut r);
+    let b = a + 5_650.0 + unit(&mut r);
     let t0 = 2.0 * ((a - 1800.0) / 2.0).floor();
     let arc = Arc { t0, steps: ((b + 1800.0 - t0) / 2.0).ceil() as usize, node: a, period: b - a };
-    let (keys, states) = orbit(&mut r, t0 as i64, 2 * arc.steps as i64);
-    let field = random_field(&mut r, n, 3.986_004_415e14, 6_378_136.3, 1e-6, true);
-    let times = [0.0, 10_800.0, 21_600.0];
-    let added: Vec<FieldData> = times.iter().map(|_| random_field(&mut r, n, GM_E, 6_378_136.6, 1e-9, false)).collect();
-    set_nmax(n);
-    let fields: Vec<(f64, Coefficients)> = times.iter().zip(&added).map(|(t, f)| (*t, coefficients(f, n))).collect();
-    let model = Model::new(&coefficients(&field, n), &fields);
-    let known: States = keys.iter().zip(states.chunks(6)).map(|(k, s)| (*k, ([s[0], s[1], s[2]], [s[3], s[4], s[5]]))).collect();
+    let states = orbit(&mut r, t0 as i64, 2 * arc.steps as i64);
+    let fields = random_fields(&mut r, n, vec![0.0, 10_800.0, 21_600.0]);
+    let (model, known) = (fields.source(), states.states());
     let mut buffer = model.fields[0].1.clone();
-    let tables = Legendre::new(n);
-    let (field, added) = (flat(&field), added.iter().flat_map(flat).collect::<Vec<f64>>());
-    let l = (n + 1) * (n + 2) / 2;
-    let mut scratch = vec![0.0; 2 * times.len() * l + 8 * l + 150_000];
+    let mut scratch = vec![0.0; fields.least_scratch()];
     bench.compare_runs(
         &format!("fitted window, N = {n}"),
         runs,
@@ -54,9 +42,8 @@ fn window(bench: &mut Bench, n: usize, runs: usize) -> (f64, f64) {
         },
         &mut || {
             let mut out = vec![0.0; 6 * (arc.steps + 1)];
-            let lent = raw::Model { degree: n, field: &field, a: &tables.a, b: &tables.b, times: &times, added: &added };
             let asked = raw::Arc { t0: arc.t0, steps: arc.steps, node: arc.node, period: arc.period };
-            let rms = raw::fit_orbit(lent, raw::Keyed { keys: &keys, values: &states }, asked, &mut out, &mut scratch);
+            let rms = raw::fit_orbit(fields.lent(), states.lent(), asked, &mut out, &mut scratch);
             out.push(rms);
             out
         },

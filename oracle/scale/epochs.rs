@@ -1,7 +1,7 @@
 // The records of a list of observations: bounds of every list, each length off by one, each cause of refusal, seconds without an entry.
 use crate::fieldlists::{Fields, LAST, LAST_KEY, Observing, Rows, record_fine};
 use crate::fields::field;
-use crate::generate::{gauss, unit};
+use crate::generate::{gauss, polar, unit};
 use crate::lent::*;
 use crate::source::{Epoch, Rng, residuals};
 use crate::tally::Tally;
@@ -13,10 +13,6 @@ impl Fields {
         main[2 + 3] = -4.841_65e-4;
         let added = times.iter().flat_map(|_| field(random, n, 0.0, 1e-9)).collect();
         Fields::of(n, main, times, added)
-    }
-
-    pub fn lent(&self) -> raw::Model<'_> {
-        raw::Model { degree: self.degree, field: &self.field, a: &self.a, b: &self.b, times: &self.times, added: &self.added }
     }
 
     /// One cause of refusal, at times one that is none.
@@ -41,10 +37,6 @@ impl Fields {
 }
 
 impl Rows {
-    pub fn lent(&self) -> raw::Keyed<'_> {
-        raw::Keyed { keys: &self.keys, values: &self.values }
-    }
-
     pub fn damage(&mut self, random: &mut Rng) {
         let (bad, key) = (strange(random), edge_key(random));
         match random.below(7) {
@@ -57,16 +49,6 @@ impl Rows {
             _ => put(random, &mut self.values, 1e300),
         }
     }
-}
-
-/// A polar orbit, so many radians ahead.
-fn states(keys: &[i64], ahead: f64) -> Rows {
-    let values = keys.iter().flat_map(|k| {
-        let (s, c) = (1.1e-3 * *k as f64 + ahead).sin_cos();
-        let (r, v) = (6.868e6 + 3e3 * c, 7.616e3);
-        [r * c, 0.1 * r * s, r * s, -v * s, 0.1 * v * c, v * c]
-    }).collect();
-    Rows { keys: keys.to_vec(), values, width: 6 }
 }
 
 fn keys(random: &mut Rng, base: i64) -> Vec<i64> {
@@ -93,7 +75,7 @@ impl Observing {
         let values = obs.iter().map(|_| 1e-3 * gauss(random)).collect();
         let good = obs.iter().map(|_| [0, 1, 1, 1, 255][random.below(5)]).collect();
         let scratch = scratch_length(random, fields.least_scratch() + 10 * m);
-        Observing { fields, rows: [states(&c, 0.0), states(&d, 0.032), c_acc, d_acc], obs, values, good, outs: [m; 5], scratch }
+        Observing { fields, rows: [polar(&c, 0.0), polar(&d, 0.032), c_acc, d_acc], obs, values, good, outs: [m; 5], scratch }
     }
 
     fn damage(&mut self, random: &mut Rng) {

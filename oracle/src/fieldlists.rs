@@ -78,9 +78,9 @@ pub struct Fields {
 }
 
 impl Fields {
-    /// With the tables that the source fills.
+    /// With the tables that the source fills; of a degree that is none, those of the nearest one that is.
     pub fn of(degree: usize, field: Vec<f64>, times: Vec<f64>, added: Vec<f64>) -> Fields {
-        let tables = Legendre::new(degree);
+        let tables = Legendre::new(degree.clamp(2, 180));
         Fields { degree, field, a: tables.a.clone(), b: tables.b.clone(), times, added }
     }
 

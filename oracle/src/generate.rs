@@ -1,4 +1,5 @@
 // A seeded generator of physically sensible submissions.
+use crate::fieldlists::{Fields, Rows, places};
 use crate::source::*;
 use crate::submission::*;
 use std::f64::consts::PI;
@@ -22,7 +23,7 @@ pub fn unit(r: &mut Rng) -> f64 { (r.next_u64() >> 11) as f64 / (1u64 << 53) as 
 pub fn gauss(r: &mut Rng) -> f64 { (0..12).map(|_| unit(r)).sum::<f64>() - 6.0 }
 
 pub fn random_field(r: &mut Rng, n: usize, gm: f64, radius: f64, scale: f64, main: bool) -> FieldData {
-    let l = (n + 1) * (n + 2) / 2;
+    let l = places(n);
     let mut f = FieldData { gm, radius, c: vec![0.0; l], s: vec![0.0; l] };
     for d in 2..=n { for m in 0..=d {
         let k = idx(d, m);
@@ -31,6 +32,21 @@ pub fn random_field(r: &mut Rng, n: usize, gm: f64, radius: f64, scale: f64, mai
     } }
     if main { f.c[0] = 1.0; f.c[idx(2, 0)] = -4.841_65e-4; }
     f
+}
+/// A static field and a small one for each time.
+pub fn random_fields(r: &mut Rng, n: usize, times: Vec<f64>) -> Fields {
+    let field = random_field(r, n, 3.986_004_415e14, 6_378_136.3, 1e-6, true).flat();
+    let added = times.iter().flat_map(|_| random_field(r, n, GM_E, 6_378_136.6, 1e-9, false).flat()).collect();
+    Fields::of(n, field, times, added)
+}
+/// A polar orbit at about 490 km, so many radians ahead.
+pub fn polar(keys: &[i64], ahead: f64) -> Rows {
+    let values = keys.iter().flat_map(|k| {
+        let (s, c) = (1.1e-3 * *k as f64 + ahead).sin_cos();
+        let (r, v) = (6.868e6 + 3e3 * c, 7.616e3);
+        [r * c, 0.1 * r * s, r * s, -v * s, 0.1 * v * c, v * c]
+    }).collect();
+    Rows { keys: keys.to_vec(), values, width: 6 }
 }
 pub fn rk1(h: f64, t: f64, x: V3, v: V3, a: &mut dyn FnMut(f64, V3, V3) -> V3) -> (V3, V3) {
     let a1 = a(t, x, v);

@@ -1,6 +1,6 @@
 // Least squares, single fits and fitted windows of module 4. Answers by the source's `ols`, `fit_orbit` and `fitted_orbits`; refusals by document 01's table.
 // Outputs stand at 3.0, keys at 3, and scratch at 7.0 before a call: all unchanged after refusals 1 to 5, +0.0 after 6 to 10; scratch is +0.0 after a fit as well.
-use crate::generate::{gauss, random_field, rk1, unit};
+use crate::generate::{gauss, random_fields, rk1, unit};
 use crate::fieldlists::{Fields, LAST, Rows, WILD, are_times, finite, is_time, rising, with};
 use crate::list::{List, step};
 use crate::source::*;
@@ -211,10 +211,9 @@ impl Asked {
 // A low orbit under point mass and J2, with noise; the states of every `apart` seconds are known. A short arc has a short period: else its fit is singular.
 fn asked(r: &mut Rng, n: usize, t0: f64, steps: usize, apart: i64, noise: f64) -> Asked {
     let first = t0.max(0.0) as i64;
-    let field = random_field(r, n, 3.986_004_415e14, 6_378_136.3, 1e-6, true);
     let end = first as f64 + 2.0 * steps as f64;
     let times = vec![(first as f64 - 100.0).max(0.0), first as f64 + 311.0, (end + 100.25).min(LAST).max(first as f64 + 400.0)];
-    let added: Vec<f64> = times.iter().flat_map(|_| random_field(r, n, GM_E, 6_378_136.6, 1e-9, false).flat()).collect();
+    let fields = random_fields(r, n, times);
     let (radius, inc, u0) = (6.871e6, 89.0 * PI / 180.0, 6.0 * unit(r));
     let speed = (GM_E / radius).sqrt();
     let ((su, cu), (si, ci)) = (crate::elementary::sine_cosine(u0), crate::elementary::sine_cosine(inc));
@@ -230,7 +229,6 @@ fn asked(r: &mut Rng, n: usize, t0: f64, steps: usize, apart: i64, noise: f64) -
         (x, v) = rk1(1.0, (first + k) as f64, x, v, &mut force);
     }
     let arc = Arc { t0, steps, node: (t0 + 60.0 * unit(r)).clamp(0.0, LAST), period: unit(r) + if steps < 250 { 1.1 * steps as f64 } else { 5650.0 } };
-    let fields = Fields::of(n, field.flat(), times, added);
     Asked { scratch: fields.least_scratch(), fields, states, arc, out: 6 * (steps + 1), whole: false }
 }
 

@@ -1,7 +1,7 @@
 // Module 5. Answers by the source's `epoch` and `residuals`, refusals by document 01's table. Scratch and outputs stand at
 // 7.0 before a call: unchanged after refusals 1 to 5; else the scratch is +0.0, and so are outputs after the count.
 use crate::fieldlists::{Fields, LAST, Observing, Rows, WILD, coefficients, places, random_added, random_list, record_fine, with};
-use crate::generate::unit;
+use crate::generate::{polar, unit};
 use crate::list::{List, step};
 use crate::source::{Epoch, Rng, epoch, residuals};
 
@@ -101,17 +101,6 @@ pub fn tell_record(list: &mut List, e: &Epoch) {
     list.tell_all(&e.vel);
 }
 
-// a polar orbit at about 490 km, `behind` radians behind
-fn states(keys: &[i64], behind: f64) -> Rows {
-    let mut values = Vec::new();
-    for k in keys {
-        let u = 1.1e-3 * *k as f64 - behind;
-        let (r, v) = (6.868e6 + 3e3 * u.cos(), 7.616e3);
-        values.extend([r * u.cos(), 0.1 * r * u.sin(), r * u.sin(), -v * u.sin(), 0.1 * v * u.cos(), v * u.cos()]);
-    }
-    Rows { keys: keys.to_vec(), values, width: 6 }
-}
-
 fn asked(random: &mut Rng, n: usize, count: usize, keys: &[i64], obs: &[f64]) -> Observing {
     let times: Vec<f64> = (0..count).map(|k| 10800.0 * k as f64).collect();
     let mut added = random_added(random, n, count);
@@ -121,7 +110,7 @@ fn asked(random: &mut Rng, n: usize, count: usize, keys: &[i64], obs: &[f64]) ->
     let fields = Fields::of(n, field, times, added);
     let accs = |random: &mut Rng| Rows { keys: keys.to_vec(), values: keys.iter().map(|_| 1e-7 * (unit(random) - 0.5)).collect(), width: 1 };
     Observing {
-        rows: [states(keys, 0.0), states(keys, -0.032), accs(random), accs(random)],
+        rows: [polar(keys, 0.0), polar(keys, 0.032), accs(random), accs(random)],
         obs: obs.to_vec(), values: obs.iter().map(|_| 1e-3 * (unit(random) - 0.5)).collect(), good: vec![1; obs.len()], outs: [0; 5],
         scratch: fields.least_scratch(), fields,
     }

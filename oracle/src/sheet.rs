@@ -23,11 +23,8 @@ struct Asked {
 }
 
 fn lent(s: &Submission) -> Asked {
-    let fields = Fields::of(s.n, s.stat.flat(), s.fields.iter().map(|f| f.0).collect(), s.fields.iter().flat_map(|f| f.1.flat()).collect());
-    let states = |k: usize| Rows { keys: s.states[k].iter().map(|r| r.0).collect(), values: s.states[k].iter().flat_map(|r| r.1).collect(), width: 6 };
-    let accs = |k: usize| Rows { keys: s.acc[k].iter().map(|r| r.0).collect(), values: s.acc[k].iter().map(|r| r.1).collect(), width: 1 };
     let mut asked = Asked {
-        fields, rows: [states(0), states(1), accs(0), accs(1)], nodes: s.nodes.clone(),
+        fields: s.lent_fields(), rows: s.lent_rows(), nodes: s.nodes.clone(),
         obs: s.obs.iter().map(|o| o.0).collect(), observed: s.obs.iter().map(|o| o.1).collect(), good: s.obs.iter().map(|o| o.2).collect(), outs: [s.obs.len(); 4],
         scratch: 0,
     };

@@ -1,5 +1,5 @@
 // A submission, document 01's checks 1 to 5 of it, and its parts as the source's types.
-use crate::fieldlists::{are_keys, are_times, finite, is_degree, is_time, places, rising};
+use crate::fieldlists::{Fields, Rows, are_times, finite, is_degree, is_time, places, rising};
 use crate::source::*;
 
 #[derive(Clone, PartialEq)]
@@ -27,23 +27,35 @@ pub struct Submission {
     pub nodes: Vec<f64>,
     pub obs: Vec<(f64, f64, u8)>,
 }
+
+impl Submission {
+    /// The gravity model as a call is lent it.
+    pub fn lent_fields(&self) -> Fields {
+        Fields::of(self.n, self.stat.flat(), self.fields.iter().map(|f| f.0).collect(), self.fields.iter().flat_map(|f| f.1.flat()).collect())
+    }
+
+    /// States of C and D, accelerometer values of C and D, likewise.
+    pub fn lent_rows(&self) -> [Rows; 4] {
+        let states = |k: usize| Rows { keys: self.states[k].iter().map(|r| r.0).collect(), values: self.states[k].iter().flat_map(|r| r.1).collect(), width: 6 };
+        let accs = |k: usize| Rows { keys: self.acc[k].iter().map(|r| r.0).collect(), values: self.acc[k].iter().map(|r| r.1).collect(), width: 1 };
+        [states(0), states(1), accs(0), accs(1)]
+    }
+}
+
 /// Checks 1 to 5 of document 01, lowest number first.
 pub fn check(s: &Submission) -> Option<u8> {
     if !is_degree(s.n) { return Some(1); }
-    let counts = (2..=32).contains(&s.fields.len()) && s.nodes.len() <= 64
-        && s.states.iter().all(|v| v.len() <= 200_000) && s.acc.iter().all(|v| v.len() <= 200_000) && s.obs.len() <= 100_000;
-    if !counts { return Some(2); }
+    let rows = s.lent_rows();
+    if !(2..=32).contains(&s.fields.len()) || s.nodes.len() > 64 || !rows.iter().all(Rows::counted) || s.obs.len() > 100_000 { return Some(2); }
     let l = places(s.n);
     let len = |f: &FieldData| f.c.len() == l && f.s.len() == l;
     if !len(&s.stat) || !s.fields.iter().all(|f| len(&f.1)) { return Some(3); }
-    let keys: [Vec<i64>; 4] = std::array::from_fn(|k| if k < 2 { s.states[k].iter().map(|r| r.0).collect() } else { s.acc[k - 2].iter().map(|r| r.0).collect() });
-    let ok = finite(&s.stat.flat()) && s.fields.iter().all(|f| is_time(f.0) && finite(&f.1.flat())) && keys.iter().all(|k| are_keys(k))
-        && s.states.iter().flatten().all(|r| finite(&r.1)) && s.acc.iter().flatten().all(|r| r.1.is_finite())
+    let ok = finite(&s.stat.flat()) && s.fields.iter().all(|f| is_time(f.0) && finite(&f.1.flat())) && rows.iter().all(Rows::fine)
         && are_times(&s.nodes) && s.obs.iter().all(|o| is_time(o.0) && o.1.is_finite());
     if !ok { return Some(4); }
     let fields: Vec<f64> = s.fields.iter().map(|f| f.0).collect();
     let observed: Vec<f64> = s.obs.iter().map(|o| o.0).collect();
-    if ![&fields, &s.nodes, &observed].iter().all(|t| rising(t)) || !keys.iter().all(|k| rising(k)) { return Some(5); }
+    if ![&fields, &s.nodes, &observed].iter().all(|t| rising(t)) || !rows.iter().all(Rows::ordered) { return Some(5); }
     None
 }
 pub fn coefficients(f: &FieldData, n: usize) -> Coefficients {
