@@ -315,3 +315,14 @@ refused-counts n o o1 o2 o3 a b r p q s = printed-counts (refusedText n) o o3 r 
 
 pub rows-count : (out out₀ : List ℕ) (n k : ℕ) → length out ≡ length out₀ → 34000 ≤ length out₀ → n ≤ 500 → k ≤ n → Counts (68 * k) out
 rows-count out out₀ n k l h g i = counts (68 * k) out (omega arith)
+
+-- ---- as many as were counted
+
+pub counted-part : {A : Type 0} (xs ys xs₀ : List A) (n k j : ℕ) → xs ≡ ys → length xs ≡ length xs₀ → k ≡ j → n ≡ min k (length xs) → take (n - 0) xs ≡ take (min j (length xs₀)) ys
+counted-part xs ys xs₀ n k j e l h g =
+    let z : n - 0 ≡ n = omega arith in
+    let m : n - 0 ≡ min j (length xs₀) = z ∙ g ∙ (λ i. min (h i) (l i)) in
+    (λ i. take (m i) (e i))
+
+pub lines-part : {A : Type 0} (xs ys xs₀ : List A) (n k w c j : ℕ) → xs ≡ ys → length xs ≡ length xs₀ → c ≡ j → k ≡ w * c → n ≡ min k (length xs) → take (n - 0) xs ≡ take (min (w * j) (length xs₀)) ys
+lines-part xs ys xs₀ n k w c j e l h f g = counted-part xs ys xs₀ n k (w * j) e l (f ∙ ap (λ (x : ℕ). w * x) h) g

@@ -2,7 +2,7 @@
 use mathlib.Core.Path.{_≡_}
 use mathlib.Core.Bool.{Bool, true, false, cond, _&&_}
 use mathlib.Core.List.{List, [], _∷_, _++_}
-use Prim.Native.Nat.{ℕ, zero, suc, _+_, _-_, _*_, _/_, _%_, min}
+use Prim.Native.Nat.{ℕ, zero, suc, _+_, _-_, _*_, _/_, _%_, _≤_, min}
 use lib.Dec.{leb, ltb, eqb}
 use lib.IntN.{ℤ}
 use lib.ListN.{length, take, getD}
@@ -61,6 +61,11 @@ placesOf numbers c =
     let daccs = nextAt numbers dstates 7 in
     let nodes = nextAt numbers daccs 2 in
     record { held = held; fields = fields; cstates = cstates; caccs = caccs; dstates = dstates; daccs = daccs; nodes = nodes; observations = nextAt numbers nodes 1 }
+
+-- all before the end of any text
+abbrev pub Near : Places → Type 0
+Near p =
+    (p .held ≤ 20000000) × (p .fields ≤ 20000000) × (p .cstates ≤ 20000000) × (p .caccs ≤ 20000000) × (p .dstates ≤ 20000000) × (p .daccs ≤ 20000000) × (p .nodes ≤ 20000000) × (p .observations ≤ 20000000)
 
 -- ---- output
 

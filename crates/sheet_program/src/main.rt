@@ -8,7 +8,7 @@ ghost use lib.Ieee.{nan};
 ghost use Rattle.io.specs.Counts.{Counts};
 ghost use Rattle.hex.specs.Digits.{decimalOf};
 ghost use Rattle.reading.specs.Text.{coefficients};
-ghost use Rattle.sheet_program.specs.Text.{numberAt, wholeAt, countAt, nextAt, keyAt, byteAt, floatsFrom, keysFrom, bytesFrom, placesOf, refusedText, headText, termText, rowText, rowsText, Printed};
+ghost use Rattle.sheet_program.specs.Text.{numberAt, wholeAt, countAt, nextAt, keyAt, byteAt, floatsFrom, keysFrom, bytesFrom, placesOf, Near, refusedText, headText, termText, rowText, rowsText, Printed};
 use hex;
 use io;
 use reading;
@@ -264,7 +264,7 @@ struct Places {
 // With so many coefficients to a field.
 fn places_in(numbers: &[f64], c: usize) -> Places
     requires { ⌜ c ≤ 182 ⌝ }
-    ensures { λ r. ⌜ (r ≡ placesOf (now (numbers .entry)) c) × (r .held ≤ 20000000) × (r .fields ≤ 20000000) × (r .cstates ≤ 20000000) × (r .caccs ≤ 20000000) × (r .dstates ≤ 20000000) × (r .daccs ≤ 20000000) × (r .nodes ≤ 20000000) × (r .observations ≤ 20000000) ⌝ }
+    ensures { λ r. ⌜ (r ≡ placesOf (now (numbers .entry)) c) × Near r ⌝ }
 {
     let held = next_at(numbers, 0, 1);
     let fields = next_at(numbers, held, 2 + c);
@@ -286,38 +286,26 @@ fn places_in(numbers: &[f64], c: usize) -> Places
     }
 }
 
-// The keys of a section: how many there are, and they in the first places of out.
-fn keys_in(numbers: &[f64], at: usize, step: usize, out: &mut [i64]) -> usize
-    ensures { λ r. ⌜ (r ≤ length (now (out .exit))) × (at ≤ 20000000 → step ≤ 185 → length (now (out .entry)) ≤ 100000 → now (out .exit) ≡ keysFrom (now (numbers .entry)) (at + 1) step 0 (length (now (out .entry)))) ⌝ }
+// The keys of a section, in the first places of out.
+fn keys_in<'a>(numbers: &[f64], at: usize, step: usize, out: &'a mut [i64]) -> &'a [i64]
+    requires { ⌜ (at ≤ 20000000) × (step ≤ 185) × (length (now out) ≤ 100000) ⌝ }
+    ensures { λ r. ⌜ now r ≡ take (min (countAt (now (numbers .entry)) at) (length (now (out .entry)))) (keysFrom (now (numbers .entry)) (at + 1) step 0 (length (now (out .entry)))) ⌝ }
 {
-    if 20000000 < at {
-        return 0;
-    }
-    if 185 < step {
-        return 0;
-    }
-    if 100000 < out.len() {
-        return 0;
-    }
     keys_from(numbers, at + 1, step, out);
-    least(count_at(numbers, at), out.len())
+    let n = least(count_at(numbers, at), out.len());
+    let keys = &out[..];
+    &keys[0..n]
 }
 
 // The good bytes, the third word of each line.
-fn bytes_in(numbers: &[f64], at: usize, step: usize, out: &mut [u8]) -> usize
-    ensures { λ r. ⌜ (r ≤ length (now (out .exit))) × (at ≤ 20000000 → step ≤ 185 → length (now (out .entry)) ≤ 100000 → now (out .exit) ≡ bytesFrom (now (numbers .entry)) (at + 3) step 0 (length (now (out .entry)))) ⌝ }
+fn bytes_in<'a>(numbers: &[f64], at: usize, step: usize, out: &'a mut [u8]) -> &'a [u8]
+    requires { ⌜ (at ≤ 20000000) × (step ≤ 185) × (length (now out) ≤ 100000) ⌝ }
+    ensures { λ r. ⌜ now r ≡ take (min (countAt (now (numbers .entry)) at) (length (now (out .entry)))) (bytesFrom (now (numbers .entry)) (at + 3) step 0 (length (now (out .entry)))) ⌝ }
 {
-    if 20000000 < at {
-        return 0;
-    }
-    if 185 < step {
-        return 0;
-    }
-    if 100000 < out.len() {
-        return 0;
-    }
     bytes_from(numbers, at + 3, step, out);
-    least(count_at(numbers, at), out.len())
+    let n = least(count_at(numbers, at), out.len());
+    let bytes = &out[..];
+    &bytes[0..n]
 }
 
 fn product(width: usize, n: usize) -> usize
@@ -328,36 +316,32 @@ fn product(width: usize, n: usize) -> usize
 }
 
 // Of each line of a section `width` numbers, from the one `skip` places behind the count on.
-fn floats_in(
+fn floats_in<'a>(
     numbers: &[f64],
     at: usize,
     skip: usize,
     step: usize,
     width: usize,
-    out: &mut [f64],
-) -> usize
-    ensures { λ r. ⌜ (r ≤ length (now (out .exit))) × (at ≤ 20000000 → skip ≤ 2 → step ≤ 185 → 0 < width → width ≤ 185 → length (now (out .entry)) ≤ 100000 → now (out .exit) ≡ floatsFrom (now (numbers .entry)) (at + skip) step width 0 (length (now (out .entry)))) ⌝ }
+    out: &'a mut [f64],
+) -> &'a [f64]
+    requires { ⌜ (at ≤ 20000000) × (skip ≤ 2) × (step ≤ 185) × (0 < width) × (width ≤ 185) × (length (now out) ≤ 100000) ⌝ }
+    ensures { λ r. ⌜ now r ≡ take (min (width * countAt (now (numbers .entry)) at) (length (now (out .entry)))) (floatsFrom (now (numbers .entry)) (at + skip) step width 0 (length (now (out .entry)))) ⌝ }
 {
-    if 20000000 < at {
-        return 0;
-    }
-    if 2 < skip {
-        return 0;
-    }
-    if 185 < step {
-        return 0;
-    }
-    if 185 < width {
-        return 0;
-    }
-    if width == 0 {
-        return 0;
-    }
-    if 100000 < out.len() {
-        return 0;
-    }
     floats_from(numbers, at + skip, step, width, out);
-    least(product(width, count_at(numbers, at)), out.len())
+    let n = least(product(width, count_at(numbers, at)), out.len());
+    let floats = &out[..];
+    &floats[0..n]
+}
+
+// Writes a sheet's head and its entries, or its refusal.
+fn say(answer: sheet::SheetAnswer, times: &[f64], raws: &[f64], detrended: &[f64], passed: &[f64]) {
+    match answer {
+        sheet::SheetAnswer::Accepted(kept, entries) => {
+            say_head(kept, entries);
+            say_entries(kept, times, raws, detrended, passed);
+        }
+        sheet::SheetAnswer::Refused(n) => say_refusal(n),
+    }
 }
 
 // The sheet of a submission's lists, or its refusal.
@@ -380,12 +364,17 @@ fn told(
     obstimes: &[f64],
     obsvalues: &[f64],
     good: &[u8],
-    outtimes: &mut [f64],
-    outraws: &mut [f64],
-    outdetrended: &mut [f64],
-    outpassed: &mut [f64],
     scratch: &mut [f64],
 ) {
+    let mut t = [0.0; 12000];
+    let mut x = [0.0; 12000];
+    let mut y = [0.0; 12000];
+    let mut z = [0.0; 12000];
+    let n = least(obstimes.len(), 12000);
+    let outtimes = &mut t[0..n];
+    let outraws = &mut x[0..n];
+    let outdetrended = &mut y[0..n];
+    let outpassed = &mut z[0..n];
     let answer = sheet::sheet(
         degree,
         field,
@@ -411,72 +400,12 @@ fn told(
         outpassed,
         scratch,
     );
-    match answer {
-        sheet::SheetAnswer::Accepted(kept, entries) => {
-            say_head(kept, entries);
-            say_entries(
-                kept,
-                &outtimes[..],
-                &outraws[..],
-                &outdetrended[..],
-                &outpassed[..],
-            );
-        }
-        sheet::SheetAnswer::Refused(n) => say_refusal(n),
-    }
-}
-
-fn with_outputs(
-    m: usize,
-    degree: usize,
-    field: &[f64],
-    a: &[f64],
-    b: &[f64],
-    times: &[f64],
-    added: &[f64],
-    ckeys: &[i64],
-    cstates: &[f64],
-    dkeys: &[i64],
-    dstates: &[f64],
-    cacckeys: &[i64],
-    caccs: &[f64],
-    dacckeys: &[i64],
-    daccs: &[f64],
-    nodes: &[f64],
-    obstimes: &[f64],
-    obsvalues: &[f64],
-    good: &[u8],
-    scratch: &mut [f64],
-) {
-    let mut outtimes = [0.0; 12000];
-    let mut outraws = [0.0; 12000];
-    let mut outdetrended = [0.0; 12000];
-    let mut outpassed = [0.0; 12000];
-    let n = least(m, 12000);
-    told(
-        degree,
-        field,
-        a,
-        b,
-        times,
-        added,
-        ckeys,
-        cstates,
-        dkeys,
-        dstates,
-        cacckeys,
-        caccs,
-        dacckeys,
-        daccs,
-        nodes,
-        obstimes,
-        obsvalues,
-        good,
-        &mut outtimes[0..n],
-        &mut outraws[0..n],
-        &mut outdetrended[0..n],
-        &mut outpassed[0..n],
-        scratch,
+    say(
+        answer,
+        &outtimes[..],
+        &outraws[..],
+        &outdetrended[..],
+        &outpassed[..],
     );
 }
 
@@ -498,17 +427,18 @@ fn with_observations(
     dacckeys: &[i64],
     daccs: &[f64],
     scratch: &mut [f64],
-) {
-    let mut nodes = [0.0; 4];
-    let mut obstimes = [0.0; 12000];
-    let mut obsvalues = [0.0; 12000];
-    let mut good = [0u8; 12000];
-    let k = floats_in(&scratch[..], p.nodes, 1, 1, 1, &mut nodes);
-    let m = floats_in(&scratch[..], p.observations, 1, 3, 1, &mut obstimes);
-    let v = floats_in(&scratch[..], p.observations, 2, 3, 1, &mut obsvalues);
-    let g = bytes_in(&scratch[..], p.observations, 3, &mut good);
-    with_outputs(
-        m,
+)
+    requires { ⌜ Near p ⌝ }
+{
+    let mut r = [0.0; 4];
+    let mut t = [0.0; 12000];
+    let mut v = [0.0; 12000];
+    let mut g = [0u8; 12000];
+    let nodes = floats_in(&scratch[..], p.nodes, 1, 1, 1, &mut r);
+    let obstimes = floats_in(&scratch[..], p.observations, 1, 3, 1, &mut t);
+    let obsvalues = floats_in(&scratch[..], p.observations, 2, 3, 1, &mut v);
+    let good = bytes_in(&scratch[..], p.observations, 3, &mut g);
+    told(
         degree,
         field,
         a,
@@ -523,10 +453,10 @@ fn with_observations(
         caccs,
         dacckeys,
         daccs,
-        &nodes[0..k],
-        &obstimes[0..m],
-        &obsvalues[0..v],
-        &good[0..g],
+        nodes,
+        obstimes,
+        obsvalues,
+        good,
         scratch,
     );
 }
@@ -544,15 +474,17 @@ fn with_accelerometers(
     dkeys: &[i64],
     dstates: &[f64],
     scratch: &mut [f64],
-) {
-    let mut cacckeys = [0i64; 12000];
-    let mut caccs = [0.0; 12000];
-    let mut dacckeys = [0i64; 12000];
-    let mut daccs = [0.0; 12000];
-    let c = keys_in(&scratch[..], p.caccs, 2, &mut cacckeys);
-    let x = floats_in(&scratch[..], p.caccs, 2, 2, 1, &mut caccs);
-    let d = keys_in(&scratch[..], p.daccs, 2, &mut dacckeys);
-    let y = floats_in(&scratch[..], p.daccs, 2, 2, 1, &mut daccs);
+)
+    requires { ⌜ Near p ⌝ }
+{
+    let mut c = [0i64; 12000];
+    let mut x = [0.0; 12000];
+    let mut d = [0i64; 12000];
+    let mut y = [0.0; 12000];
+    let cacckeys = keys_in(&scratch[..], p.caccs, 2, &mut c);
+    let caccs = floats_in(&scratch[..], p.caccs, 2, 2, 1, &mut x);
+    let dacckeys = keys_in(&scratch[..], p.daccs, 2, &mut d);
+    let daccs = floats_in(&scratch[..], p.daccs, 2, 2, 1, &mut y);
     with_observations(
         p,
         degree,
@@ -565,10 +497,10 @@ fn with_accelerometers(
         cstates,
         dkeys,
         dstates,
-        &cacckeys[0..c],
-        &caccs[0..x],
-        &dacckeys[0..d],
-        &daccs[0..y],
+        cacckeys,
+        caccs,
+        dacckeys,
+        daccs,
         scratch,
     );
 }
@@ -582,15 +514,17 @@ fn with_states(
     times: &[f64],
     added: &[f64],
     scratch: &mut [f64],
-) {
-    let mut ckeys = [0i64; 12000];
-    let mut cstates = [0.0; 72000];
-    let mut dkeys = [0i64; 12000];
-    let mut dstates = [0.0; 72000];
-    let c = keys_in(&scratch[..], p.cstates, 7, &mut ckeys);
-    let x = floats_in(&scratch[..], p.cstates, 2, 7, 6, &mut cstates);
-    let d = keys_in(&scratch[..], p.dstates, 7, &mut dkeys);
-    let y = floats_in(&scratch[..], p.dstates, 2, 7, 6, &mut dstates);
+)
+    requires { ⌜ Near p ⌝ }
+{
+    let mut c = [0i64; 12000];
+    let mut x = [0.0; 72000];
+    let mut d = [0i64; 12000];
+    let mut y = [0.0; 72000];
+    let ckeys = keys_in(&scratch[..], p.cstates, 7, &mut c);
+    let cstates = floats_in(&scratch[..], p.cstates, 2, 7, 6, &mut x);
+    let dkeys = keys_in(&scratch[..], p.dstates, 7, &mut d);
+    let dstates = floats_in(&scratch[..], p.dstates, 2, 7, 6, &mut y);
     with_accelerometers(
         p,
         degree,
@@ -599,21 +533,22 @@ fn with_states(
         b,
         times,
         added,
-        &ckeys[0..c],
-        &cstates[0..x],
-        &dkeys[0..d],
-        &dstates[0..y],
+        ckeys,
+        cstates,
+        dkeys,
+        dstates,
         scratch,
     );
 }
 
-// A Legendre table in the first places of out, as many as n; how many there are.
-fn table_in(f: series::Factor, degree: usize, n: usize, out: &mut [f64]) -> usize
-    ensures { λ r. ⌜ (r ≡ min n (length (now (out .entry)))) × (r ≤ length (now (out .exit))) ⌝ }
+// A Legendre table of n terms, or as many as out has.
+fn table_in<'a>(f: series::Factor, degree: usize, n: usize, out: &'a mut [f64]) -> &'a [f64]
+    ensures { λ r. ⌜ length (now r) ≡ min n (length (now (out .entry))) ⌝ }
 {
     let m = least(n, out.len());
     series::tabulate(f, degree, &mut out[0..m]);
-    m
+    let terms = &out[..];
+    &terms[0..m]
 }
 
 fn with_tables(
@@ -624,34 +559,28 @@ fn with_tables(
     times: &[f64],
     added: &[f64],
     scratch: &mut [f64],
-) {
-    let mut a = [0.0; 91];
-    let mut b = [0.0; 91];
-    let x = table_in(series::Factor::RecursionA, degree, c / 2, &mut a);
-    let y = table_in(series::Factor::RecursionB, degree, c / 2, &mut b);
-    with_states(p, degree, field, &a[0..x], &b[0..y], times, added, scratch);
+)
+    requires { ⌜ Near p ⌝ }
+{
+    let mut x = [0.0; 91];
+    let mut y = [0.0; 91];
+    let a = table_in(series::Factor::RecursionA, degree, c / 2, &mut x);
+    let b = table_in(series::Factor::RecursionB, degree, c / 2, &mut y);
+    with_states(p, degree, field, a, b, times, added, scratch);
 }
 
 fn with_fields(p: Places, degree: usize, c: usize, scratch: &mut [f64])
-    requires { ⌜ c ≤ 182 ⌝ }
+    requires { ⌜ Near p × (c ≤ 182) ⌝ }
 {
     let words = 2 + c;
     let step = 3 + c;
-    let mut field = [0.0; 184];
-    let mut times = [0.0; 8];
-    let mut added = [0.0; 1472];
-    let h = floats_in(&scratch[..], p.held, 1, words, words, &mut field);
-    let f = floats_in(&scratch[..], p.fields, 1, step, 1, &mut times);
-    let g = floats_in(&scratch[..], p.fields, 2, step, words, &mut added);
-    with_tables(
-        p,
-        degree,
-        c,
-        &field[0..h],
-        &times[0..f],
-        &added[0..g],
-        scratch,
-    );
+    let mut h = [0.0; 184];
+    let mut t = [0.0; 8];
+    let mut g = [0.0; 1472];
+    let field = floats_in(&scratch[..], p.held, 1, words, words, &mut h);
+    let times = floats_in(&scratch[..], p.fields, 1, step, 1, &mut t);
+    let added = floats_in(&scratch[..], p.fields, 2, step, words, &mut g);
+    with_tables(p, degree, c, field, times, added, scratch);
 }
 
 // Answers a text that was read.

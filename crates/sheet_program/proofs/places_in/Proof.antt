@@ -4,7 +4,7 @@ use Rattle.sheet_program.proofs.places_in.Statement.{statement}
 use Rattle.sheet_program.proofs.places_in.Tie as tie
 
 returns : tie.Need-returns
-returns c = (search (needs, places-are), search needs, search needs, search needs, search needs, search needs, search needs, search needs, search needs)
+returns c = (search (needs, places-are), (search needs, search needs, search needs, search needs, search needs, search needs, search needs, search needs))
 
 pub places-in-spec : {M : Type 1} → statement M
 places-in-spec =
