@@ -121,6 +121,73 @@ pub fn byte() -> u8 {
     if v < 256 { v as u8 } else { 255 }
 }
 
+// The next word, at most the limit.
+pub fn count(limit: usize) -> usize
+    ensures { λ r. ⌜ r ≤ limit ⌝ }
+{
+    let v = number() as usize;
+    if v <= limit { v } else { limit }
+}
+
+// A list: its length, how many of its numbers are given, and these; the others are as they stand in the room.
+pub fn list<'a>(room: &'a mut [f64]) -> &'a [f64]
+    ensures { λ r. ⌜ length (now r) ≤ length (now (room .entry)) ⌝ }
+{
+    let n = count(room.len());
+    let given = count(room.len());
+    fill(room, given);
+    let whole = &room[..];
+    &whole[0..n]
+}
+
+pub fn key_list<'a>(room: &'a mut [i64]) -> &'a [i64]
+    ensures { λ r. ⌜ length (now r) ≤ length (now (room .entry)) ⌝ }
+{
+    let n = count(room.len());
+    let given = count(room.len());
+    fill_keys(room, given);
+    let whole = &room[..];
+    &whole[0..n]
+}
+
+pub fn byte_list<'a>(room: &'a mut [u8]) -> &'a [u8]
+    ensures { λ r. ⌜ length (now r) ≤ length (now (room .entry)) ⌝ }
+{
+    let n = count(room.len());
+    let given = count(room.len());
+    fill_bytes(room, given);
+    let whole = &room[..];
+    &whole[0..n]
+}
+
+// A list whose numbers are all given: its length, and they.
+pub fn full_list<'a>(room: &'a mut [f64]) -> &'a [f64]
+    ensures { λ r. ⌜ length (now r) ≤ length (now (room .entry)) ⌝ }
+{
+    let n = count(room.len());
+    fill(room, n);
+    let whole = &room[..];
+    &whole[0..n]
+}
+
+pub fn full_keys<'a>(room: &'a mut [i64]) -> &'a [i64]
+    ensures { λ r. ⌜ length (now r) ≤ length (now (room .entry)) ⌝ }
+{
+    let n = count(room.len());
+    fill_keys(room, n);
+    let whole = &room[..];
+    &whole[0..n]
+}
+
+pub fn full_bytes<'a>(room: &'a mut [u8]) -> &'a [u8]
+    ensures { λ r. ⌜ length (now r) ≤ length (now (room .entry)) ⌝ }
+{
+    let n = count(room.len());
+    fill_bytes(room, n);
+    let whole = &room[..];
+    &whole[0..n]
+}
+
 // Writes a word as a line.
 pub fn say(value: u64) {
     let mut line = [10u8; 17];
@@ -144,6 +211,43 @@ pub fn say_keys(keys: &[i64]) {
     let mut i = 0;
     while i < keys.len() {
         say(unsigned(keys[i]));
+        i += 1;
+    }
+}
+
+fn all_are(values: &[f64], bits: u64) -> bool {
+    let mut i = 0;
+    while i < values.len() {
+        if hex::pattern(values[i]) != bits {
+            return false;
+        }
+        i += 1;
+    }
+    true
+}
+
+// Writes 0 where each number is +0.0, 1 where each is the one of these bits, which stood there, and 2 otherwise.
+pub fn say_left(values: &[f64], bits: u64) {
+    if all_are(values, 0) {
+        say(0);
+    } else if all_are(values, bits) {
+        say(1);
+    } else {
+        say(2);
+    }
+}
+
+// Writes every so many numbers, by the count of those between.
+pub fn say_some(values: &[f64], between: u64) {
+    let mut left = 0;
+    let mut i = 0;
+    while i < values.len() {
+        if left == 0 {
+            say_float(values[i]);
+            left = between;
+        } else {
+            left -= 1;
+        }
         i += 1;
     }
 }

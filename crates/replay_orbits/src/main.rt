@@ -1,58 +1,7 @@
 // Replays the oracle's list of least squares, fits and fitted windows: each call is its number and its arguments, a word a line. A slice is its length, how many of
 // its numbers are given, and these; the others are 0. Outputs stand at 3.0 or 3 and scratch at 7.0 before a call; of an output some numbers are told, and the sum of
 // all patterns.
-ghost use Prim.Native.Nat.{_≤_};
-ghost use lib.ListN.{length};
 use replay::Item;
-
-// The next word, at most the limit.
-fn count(limit: usize) -> usize
-    ensures { λ r. ⌜ r ≤ limit ⌝ }
-{
-    let v = replay::number() as usize;
-    if v <= limit { v } else { limit }
-}
-
-// A length, and the numbers that are given.
-fn list(out: &mut [f64]) -> usize
-    ensures { λ r. ⌜ r ≤ length (now (out .exit)) ⌝ }
-{
-    let n = count(out.len());
-    let given = count(out.len());
-    replay::fill(out, given);
-    n
-}
-
-fn key_list(out: &mut [i64]) -> usize
-    ensures { λ r. ⌜ r ≤ length (now (out .exit)) ⌝ }
-{
-    let n = count(out.len());
-    let given = count(out.len());
-    replay::fill_keys(out, given);
-    n
-}
-
-fn all_are(values: &[f64], bits: u64) -> bool {
-    let mut i = 0;
-    while i < values.len() {
-        if hex::pattern(values[i]) != bits {
-            return false;
-        }
-        i += 1;
-    }
-    true
-}
-
-// 0 where each number is +0.0, 1 where each is the one that stood there, 2 otherwise.
-fn say_kept(values: &[f64], bits: u64) {
-    if all_are(values, 0) {
-        replay::say(0);
-    } else if all_are(values, bits) {
-        replay::say(1);
-    } else {
-        replay::say(2);
-    }
-}
 
 // The sum of the patterns, modulo 2^64.
 fn sum_of(values: &[f64]) -> u64 {
@@ -65,25 +14,10 @@ fn sum_of(values: &[f64]) -> u64 {
     sum
 }
 
-// Every so many numbers, by the count of those between.
-fn say_some(values: &[f64], between: u64) {
-    let mut left = 0;
-    let mut i = 0;
-    while i < values.len() {
-        if left == 0 {
-            replay::say_float(values[i]);
-            left = between;
-        } else {
-            left -= 1;
-        }
-        i += 1;
-    }
-}
-
 fn say_output(values: &[f64], between: u64) {
-    say_kept(values, 4613937818241073152);
+    replay::say_left(values, 4613937818241073152);
     replay::say(sum_of(values));
-    say_some(values, between);
+    replay::say_some(values, between);
 }
 
 fn say_outcome(outcome: slices::Outcome) {
@@ -108,19 +42,19 @@ fn solve(
 }
 
 fn ols() {
-    let mut rows = [0.0; 101000];
-    let mut y = [0.0; 101000];
+    let mut x = [0.0; 101000];
+    let mut z = [0.0; 101000];
     let mut beta = [3.0; 20];
     let mut residuals = [3.0; 101000];
-    let r = list(&mut rows);
-    let n = list(&mut y);
+    let rows = replay::list(&mut x);
+    let y = replay::list(&mut z);
     let columns = replay::number() as usize;
-    let p = count(20);
-    let m = count(101000);
+    let p = replay::count(20);
+    let m = replay::count(101000);
     let between = replay::number();
     solve(
-        &rows[0..r],
-        &y[0..n],
+        rows,
+        y,
         columns,
         &mut beta[0..p],
         &mut residuals[0..m],
@@ -140,71 +74,6 @@ fn say_fitted(answer: fit::kernel::Fitted) {
     }
 }
 
-fn settle(
-    degree: usize,
-    field: &[f64],
-    a: &[f64],
-    b: &[f64],
-    times: &[f64],
-    added: &[f64],
-    keys: &[i64],
-    states: &[f64],
-    arc: integrate::kernel::Arc,
-    out: &mut [f64],
-    scratch: &mut [f64],
-    between: u64,
-) {
-    let answer = fit::fit_orbit(
-        degree,
-        field,
-        a,
-        b,
-        times,
-        added,
-        keys,
-        states,
-        arc,
-        out,
-        scratch,
-    );
-    say_fitted(answer);
-    say_output(&out[..], between);
-    say_kept(&scratch[..], 4619567317775286272);
-}
-
-// The lengths of the output and of the scratch come next.
-fn within(
-    degree: usize,
-    field: &[f64],
-    a: &[f64],
-    b: &[f64],
-    times: &[f64],
-    added: &[f64],
-    keys: &[i64],
-    states: &[f64],
-    arc: integrate::kernel::Arc,
-) {
-    let mut out = [3.0; 31900];
-    let mut scratch = [7.0; 170000];
-    let o = count(31900);
-    let s = count(170000);
-    let between = replay::number();
-    settle(
-        degree,
-        field,
-        a,
-        b,
-        times,
-        added,
-        keys,
-        states,
-        arc,
-        &mut out[0..o],
-        &mut scratch[0..s],
-        between,
-    );
-}
-
 fn arc_of() -> integrate::kernel::Arc {
     let t0 = replay::float();
     let steps = replay::number() as usize;
@@ -218,46 +87,45 @@ fn arc_of() -> integrate::kernel::Arc {
     }
 }
 
-// The states and the arc come next.
-fn over(degree: usize, field: &[f64], a: &[f64], b: &[f64], times: &[f64], added: &[f64]) {
-    let mut keys = [0i64; 200010];
-    let mut states = [0.0; 40000];
-    let k = key_list(&mut keys);
-    let s = list(&mut states);
+fn say_fit(answer: fit::kernel::Fitted, out: &[f64], scratch: &[f64], between: u64) {
+    say_fitted(answer);
+    say_output(out, between);
+    replay::say_left(scratch, 4619567317775286272);
+}
+
+// The arc and the lengths of the output and of the scratch come next.
+fn fit_orbit(
+    degree: usize,
+    field: &[f64],
+    a: &[f64],
+    b: &[f64],
+    times: &[f64],
+    added: &[f64],
+    keys: &[i64],
+    states: &[f64],
+) {
+    let mut x = [3.0; 31900];
+    let mut w = [7.0; 170000];
     let arc = arc_of();
-    within(
+    let o = replay::count(31900);
+    let s = replay::count(170000);
+    let between = replay::number();
+    let out = &mut x[0..o];
+    let scratch = &mut w[0..s];
+    let answer = fit::fit_orbit(
         degree,
         field,
         a,
         b,
         times,
         added,
-        &keys[0..k],
-        &states[0..s],
+        keys,
+        states,
         arc,
+        out,
+        scratch,
     );
-}
-
-fn fit_orbit() {
-    let mut field = [0.0; 500];
-    let mut a = [0.0; 250];
-    let mut b = [0.0; 250];
-    let mut times = [0.0; 40];
-    let mut added = [0.0; 3000];
-    let degree = replay::number() as usize;
-    let f = list(&mut field);
-    let m = list(&mut a);
-    let n = list(&mut b);
-    let t = list(&mut times);
-    let d = list(&mut added);
-    over(
-        degree,
-        &field[0..f],
-        &a[0..m],
-        &b[0..n],
-        &times[0..t],
-        &added[0..d],
-    );
+    say_fit(answer, &out[..], &scratch[..], between);
 }
 
 // The sum of all words, and the sum of its values after each word, modulo 2^64.
@@ -311,7 +179,7 @@ fn keys_are(keys: &[i64], key: i64) -> bool {
     true
 }
 
-// As say_kept.
+// As replay::say_left.
 fn say_keys_kept(keys: &[i64]) {
     if keys_are(keys, 0) {
         replay::say(0);
@@ -322,7 +190,7 @@ fn say_keys_kept(keys: &[i64]) {
     }
 }
 
-// As say_some.
+// As replay::say_some.
 fn say_some_keys(keys: &[i64], between: u64) {
     let mut left = 0;
     let mut i = 0;
@@ -339,9 +207,9 @@ fn say_some_keys(keys: &[i64], between: u64) {
 }
 
 fn say_list(values: &[f64], between: u64) {
-    say_kept(values, 4613937818241073152);
+    replay::say_left(values, 4613937818241073152);
     say_sums(sums_of(values));
-    say_some(values, between);
+    replay::say_some(values, between);
 }
 
 fn say_keys(keys: &[i64], between: u64) {
@@ -363,7 +231,24 @@ fn say_counts(answer: orbits::FittedOrbits) {
     }
 }
 
-fn fit_windows(
+fn say_windows(
+    answer: orbits::FittedOrbits,
+    keys: &[i64],
+    states: &[f64],
+    rms: &[f64],
+    scratch: &[f64],
+    some_keys: u64,
+    some_states: u64,
+) {
+    say_counts(answer);
+    say_keys(keys, some_keys);
+    say_list(states, some_states);
+    say_list(rms, 0);
+    replay::say_left(scratch, 4619567317775286272);
+}
+
+// The nodes and the lengths of the outputs and of the scratch come next.
+fn fitted_orbits(
     degree: usize,
     field: &[f64],
     a: &[f64],
@@ -372,14 +257,23 @@ fn fit_windows(
     added: &[f64],
     keys: &[i64],
     states: &[f64],
-    nodes: &[f64],
-    outkeys: &mut [i64],
-    outstates: &mut [f64],
-    rms: &mut [f64],
-    scratch: &mut [f64],
 ) {
+    let mut n = [0.0; 70];
+    let mut k = [3i64; 14000];
+    let mut x = [3.0; 84000];
+    let mut r = [3.0; 10];
+    let mut w = [7.0; 350000];
+    let nodes = replay::list(&mut n);
+    let o = replay::count(14000);
+    let p = replay::count(84000);
+    let q = replay::count(10);
+    let s = replay::count(350000);
     let some_keys = replay::number();
     let some_states = replay::number();
+    let outkeys = &mut k[0..o];
+    let outstates = &mut x[0..p];
+    let rms = &mut r[0..q];
+    let scratch = &mut w[0..s];
     let answer = orbits::fitted_orbits(
         degree,
         field,
@@ -395,91 +289,51 @@ fn fit_windows(
         rms,
         scratch,
     );
-    say_counts(answer);
-    say_keys(&outkeys[..], some_keys);
-    say_list(&outstates[..], some_states);
-    say_list(&rms[..], 0);
-    say_kept(&scratch[..], 4619567317775286272);
+    say_windows(
+        answer,
+        &outkeys[..],
+        &outstates[..],
+        &rms[..],
+        &scratch[..],
+        some_keys,
+        some_states,
+    );
 }
 
-// The lengths of the outputs and of the scratch come next.
-fn between_nodes(
+// The states come next.
+fn over(
+    call: u64,
     degree: usize,
     field: &[f64],
     a: &[f64],
     b: &[f64],
     times: &[f64],
     added: &[f64],
-    keys: &[i64],
-    states: &[f64],
-    nodes: &[f64],
 ) {
-    let mut outkeys = [3i64; 14000];
-    let mut outstates = [3.0; 84000];
-    let mut rms = [3.0; 10];
-    let mut scratch = [7.0; 350000];
-    let o = count(14000);
-    let p = count(84000);
-    let q = count(10);
-    let s = count(350000);
-    fit_windows(
-        degree,
-        field,
-        a,
-        b,
-        times,
-        added,
-        keys,
-        states,
-        nodes,
-        &mut outkeys[0..o],
-        &mut outstates[0..p],
-        &mut rms[0..q],
-        &mut scratch[0..s],
-    );
+    let mut k = [0i64; 200010];
+    let mut x = [0.0; 40000];
+    let keys = replay::key_list(&mut k);
+    let states = replay::list(&mut x);
+    if call == 1 {
+        fit_orbit(degree, field, a, b, times, added, keys, states);
+    } else {
+        fitted_orbits(degree, field, a, b, times, added, keys, states);
+    }
 }
 
-// The states and the nodes come next.
-fn over_nodes(degree: usize, field: &[f64], a: &[f64], b: &[f64], times: &[f64], added: &[f64]) {
-    let mut keys = [0i64; 200010];
-    let mut states = [0.0; 10000];
-    let mut nodes = [0.0; 70];
-    let k = key_list(&mut keys);
-    let s = list(&mut states);
-    let n = list(&mut nodes);
-    between_nodes(
-        degree,
-        field,
-        a,
-        b,
-        times,
-        added,
-        &keys[0..k],
-        &states[0..s],
-        &nodes[0..n],
-    );
-}
-
-fn fitted_orbits() {
-    let mut field = [0.0; 500];
-    let mut a = [0.0; 250];
-    let mut b = [0.0; 250];
-    let mut times = [0.0; 40];
-    let mut added = [0.0; 3000];
+fn fitted(call: u64) {
+    let mut f = [0.0; 500];
+    let mut x = [0.0; 250];
+    let mut y = [0.0; 250];
+    let mut t = [0.0; 40];
+    let mut g = [0.0; 3000];
     let degree = replay::number() as usize;
-    let f = list(&mut field);
-    let m = list(&mut a);
-    let n = list(&mut b);
-    let t = list(&mut times);
-    let d = list(&mut added);
-    over_nodes(
-        degree,
-        &field[0..f],
-        &a[0..m],
-        &b[0..n],
-        &times[0..t],
-        &added[0..d],
-    );
+    let field = replay::list(&mut f);
+    let a = replay::list(&mut x);
+    let b = replay::list(&mut y);
+    let times = replay::list(&mut t);
+    let added = replay::list(&mut g);
+    over(call, degree, field, a, b, times, added);
 }
 
 // One call; false at the end of the list.
@@ -489,10 +343,8 @@ fn answer() -> bool {
         Item::Value(call) => {
             if call == 0 {
                 ols();
-            } else if call == 1 {
-                fit_orbit();
             } else {
-                fitted_orbits();
+                fitted(call);
             }
             true
         }

@@ -1,9 +1,9 @@
--- `replay_orbits::all_are` is safe and ends. Assumes nothing.
+-- `replay::all_are` is safe and ends. Assumes nothing.
 use Prim.Native.Nat.{_-_}
 use lib.ListN.{length}
 use borrow.Author.Needs.{needs}
-use Rattle.replay_orbits.proofs.all_are.Statement.{statement}
-use Rattle.replay_orbits.proofs.all_are.Tie as tie
+use Rattle.replay.proofs.all_are.Statement.{statement}
+use Rattle.replay.proofs.all_are.Tie as tie
 
 abbrev Inv-loop : tie.InvT-loop
 Inv-loop values bits i₀ i = Unit {0}

@@ -1,9 +1,9 @@
--- `replay_orbits::say_some` is safe and ends. Assumes nothing.
+-- `replay::say_some` is safe and ends. Assumes nothing.
 use borrow.Author.Needs.{needs}
 use Prim.Native.Nat.{_-_}
 use lib.ListN.{length}
-use Rattle.replay_orbits.proofs.say_some.Statement.{statement}
-use Rattle.replay_orbits.proofs.say_some.Tie as tie
+use Rattle.replay.proofs.say_some.Statement.{statement}
+use Rattle.replay.proofs.say_some.Tie as tie
 
 abbrev Inv-loop : tie.InvT-loop
 Inv-loop values between left₀ i₀ left i = Unit {0}
