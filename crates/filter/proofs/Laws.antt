@@ -24,30 +24,56 @@ use Rattle.filter.specs.declared.Biquad.{Biquad}
 use Rattle.filter.specs.declared.BiquadMemory.{BiquadMemory}
 use Rattle.filter.specs.declared.Step.{Step}
 
--- ---- one section
+-- ---- one section, and four
+
+-- a loop over x in place: what is done, and a function f of what is to do, which makes y of the next sample and goes on as g
+in-place : (f g : List Float → List Float) (x goal : List Float) (i : ℕ) (y : Float) → i < length x →
+    f (getD x i nan ∷ drop (i + 1) x) ≡ y ∷ g (drop (i + 1) x) → take i x ++ f (drop i x) ≡ goal → take (i + 1) (set x i y) ++ g (drop (i + 1) (set x i y)) ≡ goal
+in-place f g x goal i y h e inv = turn g x i y h ∙ ap (λ (l : List Float). take i x ++ l) (sym (ap f (head-at x i nan h) ∙ e)) ∙ inv
+
+step-one : (s : Biquad) (m : BiquadMemory) (v : Float) (l : List Float) (r : Step) → r ≡ stepOf s m v → throughOne s m (v ∷ l) ≡ r .sample ∷ throughOne s (r .memory) l
+step-one s m v l r e = rw e
 
 pub section-turn : (s : Biquad) (m : BiquadMemory) (x goal : List Float) (i : ℕ) → i < length x →
     take i x ++ throughOne s m (drop i x) ≡ goal → (r : Step) → r ≡ stepOf s m (getD x i nan) →
     take (i + 1) (set x i (r .sample)) ++ throughOne s (r .memory) (drop (i + 1) (set x i (r .sample))) ≡ goal
-section-turn s m x goal i h inv r e =
-    let v : Float = getD x i nan in
-    rw e (turn (throughOne s (memoryOf s m v)) x i (sampleOf s m v) h
-    ∙ ap (λ (l : List Float). take i x ++ throughOne s m l) (sym (head-at x i nan h)) ∙ inv)
+section-turn s m x goal i h inv r e = in-place (throughOne s m) (throughOne s (r .memory)) x goal i (r .sample) h (step-one s m (getD x i nan) (drop (i + 1) x) r e) inv
 
 pub section-done : (s : Biquad) (m : BiquadMemory) (x goal : List Float) (i : ℕ) → length x ≤ i →
     take i x ++ throughOne s m (drop i x) ≡ goal → x ≡ goal
 section-done s m x goal i h inv = sym (turn-done x _ i h (ap (throughOne s m) (drop-of-length-le x h))) ∙ inv
+
+-- a list through four sections that remember k, l, m and n
+module _ (a b c d : Biquad) where
+  abbrev pub throughFour : BiquadMemory → BiquadMemory → BiquadMemory → BiquadMemory → List Float → List Float
+  throughFour k l m n x = throughOne d n (throughOne c m (throughOne b l (throughOne a k x)))
+
+  pub four-turn : (k l m n : BiquadMemory) (x goal : List Float) (i : ℕ) → i < length x → take i x ++ throughFour k l m n (drop i x) ≡ goal → (r1 r2 r3 r4 : Step) →
+      r1 ≡ stepOf a k (getD x i nan) → r2 ≡ stepOf b l (r1 .sample) → r3 ≡ stepOf c m (r2 .sample) → r4 ≡ stepOf d n (r3 .sample) →
+      take (i + 1) (set x i (r4 .sample)) ++ throughFour (r1 .memory) (r2 .memory) (r3 .memory) (r4 .memory) (drop (i + 1) (set x i (r4 .sample))) ≡ goal
+  four-turn k l m n x goal i h inv r1 r2 r3 r4 e1 e2 e3 e4 =
+      let t0 : List Float = drop (i + 1) x in
+      let t1 : List Float = throughOne a (r1 .memory) t0 in
+      let t2 : List Float = throughOne b (r2 .memory) t1 in
+      let t3 : List Float = throughOne c (r3 .memory) t2 in
+      in-place (throughFour k l m n) (throughFour (r1 .memory) (r2 .memory) (r3 .memory) (r4 .memory)) x goal i (r4 .sample) h
+      (ap (λ (y : List Float). throughOne d n (throughOne c m (throughOne b l y))) (step-one a k (getD x i nan) t0 r1 e1)
+      ∙ ap (λ (y : List Float). throughOne d n (throughOne c m y)) (step-one b l (r1 .sample) t1 r2 e2)
+      ∙ ap (throughOne d n) (step-one c m (r2 .sample) t2 r3 e3)
+      ∙ step-one d n (r3 .sample) t3 r4 e4)
+      inv
+
+  pub four-done : (k l m n : BiquadMemory) (x goal : List Float) (i : ℕ) → length x ≤ i → take i x ++ throughFour k l m n (drop i x) ≡ goal → x ≡ goal
+  four-done k l m n x goal i h inv = sym (turn-done x _ i h (ap (throughFour k l m n) (drop-of-length-le x h))) ∙ inv
 
 -- ---- sections
 
 head-to {ℓ} : {A : Type ℓ} (x : List A) (i j : ℕ) (d : A) → i < length x → j ≡ i + 1 → drop i x ≡ getD x i d ∷ drop j x
 head-to {A = A} x i j d h e = head-at x i d h ∙ ap (λ (k : ℕ). getD x i d ∷ drop k x) (sym e)
 
--- the section at a place of a flat list
-abbrev pub sectionAt : List Float → ℕ → Biquad
-sectionAt cs at = record { b0 = getD cs at nan; b1 = getD cs (at + 1) nan; b2 = getD cs (at + 2) nan; a1 = getD cs (at + 3) nan; a2 = getD cs (at + 4) nan }
-
-sections-at : (cs : List Float) (at : ℕ) → at + 5 ≤ length cs → sectionsOf (drop at cs) ≡ sectionAt cs at ∷ sectionsOf (drop (at + 5) cs)
+-- the sections of a flat list from a place on: the first, and those behind it
+pub sections-at : (cs : List Float) (at : ℕ) → at + 5 ≤ length cs → sectionsOf (drop at cs) ≡
+    record { b0 = getD cs at nan; b1 = getD cs (at + 1) nan; b2 = getD cs (at + 2) nan; a1 = getD cs (at + 3) nan; a2 = getD cs (at + 4) nan } ∷ sectionsOf (drop (at + 5) cs)
 sections-at cs at h =
     ap sectionsOf
     (head-to cs at (at + 1) nan (omega arith) refl
@@ -68,9 +94,20 @@ sections-none (a ∷ b ∷ c ∷ []) h = refl
 sections-none (a ∷ b ∷ c ∷ d ∷ []) h = refl
 sections-none (a ∷ b ∷ c ∷ d ∷ e ∷ l) h = absurd (omega arith)
 
-pub running : (cs x goal : List Float) (at : ℕ) → 5 ≤ length cs - at → at ≤ length cs → through (sectionsOf (drop at cs)) x ≡ goal →
-    (x' : List Float) → x' ≡ throughOne (sectionAt cs at) rest x → through (sectionsOf (drop (at + 5) cs)) x' ≡ goal
-running cs x goal at h k inv x' e = rw e (ap (λ (ss : List Biquad). through ss x) (sym (sections-at cs at (omega arith))) ∙ inv)
+pub one-more : (cs x x' goal : List Float) (at : ℕ) (s : Biquad) → sectionsOf (drop at cs) ≡ s ∷ sectionsOf (drop (at + 5) cs) → through (sectionsOf (drop at cs)) x ≡ goal →
+    x' ≡ throughOne s rest x → through (sectionsOf (drop (at + 5) cs)) x' ≡ goal
+one-more cs x x' goal at s e inv ex = ap (through (sectionsOf (drop (at + 5) cs))) ex ∙ ap (λ (ss : List Biquad). through ss x) (sym e) ∙ inv
+
+pub four-more : (cs x x' goal : List Float) (at : ℕ) (a b c d : Biquad) →
+    sectionsOf (drop at cs) ≡ a ∷ sectionsOf (drop (at + 5) cs) → sectionsOf (drop (at + 5) cs) ≡ b ∷ sectionsOf (drop (at + 5 + 5) cs) →
+    sectionsOf (drop (at + 10) cs) ≡ c ∷ sectionsOf (drop (at + 10 + 5) cs) → sectionsOf (drop (at + 15) cs) ≡ d ∷ sectionsOf (drop (at + 15 + 5) cs) →
+    through (sectionsOf (drop at cs)) x ≡ goal → x' ≡ through (a ∷ b ∷ c ∷ d ∷ []) x → through (sectionsOf (drop (at + 20) cs)) x' ≡ goal
+four-more cs x x' goal at a b c d ea eb ec ed inv ex =
+    let s : (i j : ℕ) → i ≡ j → sectionsOf (drop i cs) ≡ sectionsOf (drop j cs) = λ i j e. ap (λ (k : ℕ). sectionsOf (drop k cs)) e in
+    let all : sectionsOf (drop at cs) ≡ a ∷ b ∷ c ∷ d ∷ sectionsOf (drop (at + 20) cs) =
+    ea ∙ ap (λ (l : List Biquad). a ∷ l) (eb ∙ ap (λ (l : List Biquad). b ∷ l) (s (at + 5 + 5) (at + 10) (omega arith)
+    ∙ ec ∙ ap (λ (l : List Biquad). c ∷ l) (s (at + 10 + 5) (at + 15) (omega arith) ∙ ed ∙ ap (λ (l : List Biquad). d ∷ l) (s (at + 15 + 5) (at + 20) (omega arith))))) in
+    ap (through (sectionsOf (drop (at + 20) cs))) ex ∙ ap (λ (ss : List Biquad). through ss x) (sym all) ∙ inv
 
 pub run-done : (cs x goal : List Float) (at : ℕ) → length cs - at < 5 → through (sectionsOf (drop at cs)) x ≡ goal → x ≡ goal
 run-done cs x goal at h inv = ap (λ (ss : List Biquad). through ss x) (sym (sections-none (drop at cs) (simp length-drop h))) ∙ inv

@@ -104,21 +104,60 @@ fn run_section(section: Biquad, x: &mut [f64])
     }
 }
 
+// Four sections in one pass, so that their steps overlap.
+fn run_four(a: Biquad, b: Biquad, c: Biquad, d: Biquad, x: &mut [f64])
+    ensures { λ _. ⌜ now (x .exit) ≡ through (a ∷ b ∷ c ∷ d ∷ []) (now (x .entry)) ⌝ }
+{
+    let mut k = BiquadMemory::new();
+    let mut l = k;
+    let mut m = k;
+    let mut n = k;
+    let mut i = 0;
+    while i < x.len() {
+        let first = k.step(a, x[i]);
+        let second = l.step(b, first.sample);
+        let third = m.step(c, second.sample);
+        let fourth = n.step(d, third.sample);
+        k = first.memory;
+        l = second.memory;
+        m = third.memory;
+        n = fourth.memory;
+        x[i] = fourth.sample;
+        i += 1;
+    }
+}
+
+// The section whose five numbers stand from `at` on.
+fn section_at(sections: &[f64], at: usize) -> Biquad
+    requires { ⌜ at + 5 ≤ length (now sections) ⌝ }
+    ensures { λ r. ⌜ sectionsOf (drop at (now (sections .entry))) ≡ r ∷ sectionsOf (drop (at + 5) (now (sections .entry))) ⌝ }
+{
+    Biquad {
+        b0: sections[at],
+        b1: sections[at + 1],
+        b2: sections[at + 2],
+        a1: sections[at + 3],
+        a2: sections[at + 4],
+    }
+}
+
 // Each section of a flat list of coefficients, five to a section, over all of x.
 pub fn run_sections(sections: &[f64], x: &mut [f64])
     ensures { λ _. ⌜ now (x .exit) ≡ through (sectionsOf (now (sections .entry))) (now (x .entry)) ⌝ }
 {
     let mut at = 0;
     while 5 <= sections.len() - at {
-        let s = Biquad {
-            b0: sections[at],
-            b1: sections[at + 1],
-            b2: sections[at + 2],
-            a1: sections[at + 3],
-            a2: sections[at + 4],
-        };
-        run_section(s, x);
-        at += 5;
+        if 20 <= sections.len() - at {
+            let a = section_at(sections, at);
+            let b = section_at(sections, at + 5);
+            let c = section_at(sections, at + 10);
+            let d = section_at(sections, at + 15);
+            run_four(a, b, c, d, x);
+            at += 20;
+        } else {
+            run_section(section_at(sections, at), x);
+            at += 5;
+        }
     }
 }
 
