@@ -1,20 +1,24 @@
 -- The tests of the public calls and of the kernel. Assumes nothing.
 use mathlib.Core.Path.{_≡_, refl, sym, ap, _∙_}
-use mathlib.Core.List.{List}
+use mathlib.Core.List.{List, [], _∷_}
 use mathlib.Core.Bool.{Bool, true, false, cond, _&&_}
 use Prim.Native.Nat.{ℕ, _+_, _*_, _/_, _%_, _<_, _≤_}
 use native.Mathlib.Omega.{arith}
 use lib.Dec.{leb, eqb}
-use lib.ListN.{length}
+use lib.ListN.{length, replicate}
 use borrow.Author.Tests.{eqb-true, leb-true}
 use lib.Ieee.{Float}
 use lib.Ieee.Scale.{finite}
 use Rattle.laws.specs.Checks.{all, isTime, rising}
-use Rattle.slices.proofs.Calls.{cond-passes}
-use Rattle.slices.specs.declared.Outcome.the-variants.{Accepted}
+use Rattle.laws.specs.Floats.{zero64}
+use Rattle.laws.specs.Loops.{cleared}
+use Rattle.slices.specs.Calls.{Left, left, handed, settled}
+use Rattle.slices.specs.declared.Outcome.{Outcome}
+use Rattle.slices.proofs.Calls.{cond-passes, call-handed}
+use Rattle.slices.specs.declared.Outcome.the-variants.{Accepted, Refused}
 use Rattle.filter.specs.declared.Band.{Band}
 use Rattle.filter.specs.Sections.{butterworth, coefficients}
-use Rattle.filter.specs.Calls.{refusedBand, judgedBand, bandCall, filterRefusal, bandRefusal, bandFits, bandPassed}
+use Rattle.filter.specs.Calls.{refusedBand, judgedBand, bandCall, handedOut, filterRefusal, bandRefusal, bandFits, bandPassed}
 use Rattle.filter.specs.Filter.{bandPass}
 
 pub judged-fits : (cs : List Float) (b : Bool) → b ≡ all finite cs → b ≡ true → _≡_ {A = Band} (record { outcome = Accepted; sections = cs }) (judgedBand cs)
@@ -36,6 +40,31 @@ module _ (low high dt : Float) (b1 b2 b3 b4 b5 : Bool) (e1 : b1 ≡ finite high)
   pub band-refused-four : b5 ≡ false → refusedBand 4 ≡ bandCall low high dt
   unfolding bandCall
   band-refused-four h = rw (sym tested ∙ h)
+
+-- ---- what is handed out
+
+pub handed-fits : (y z s : List Float) (b : Bool) → z ≡ cleared s → b ≡ all finite y → b ≡ true → left Accepted (y ∷ []) z ≡ handedOut y s
+handed-fits y z s b ez e h = rw (sym e ∙ h) (ap (left Accepted (y ∷ [])) ez)
+
+pub handed-unfit : (y y' z s : List Float) (b : Bool) → z ≡ cleared s → b ≡ all finite y → b ≡ false → y' ≡ cleared y → left (Refused 10) (y' ∷ []) z ≡ handedOut y s
+handed-unfit y y' z s b ez e h ey = rw (sym e ∙ h) (λ i. left (Refused 10) (ey i ∷ []) (ez i))
+
+and-true : (b : Bool) → b ≡ (b && true)
+and-true true = refl
+and-true false = refl
+
+-- what is handed out of y is told by its lengths
+same-handed : (b : Bool) (y old s s' : List Float) → length y ≡ length old → length s' ≡ length s →
+    handed Accepted Refused b (y ∷ []) (y ∷ []) s' ≡ handed Accepted Refused b (y ∷ []) (old ∷ []) s
+same-handed true y old s s' ly ls = ap (λ (k : ℕ). left Accepted (y ∷ []) (replicate k zero64)) ls
+same-handed false y old s s' ly ls = λ i. left (Refused 10) (replicate (ly i) zero64 ∷ []) (replicate (ls i) zero64)
+
+-- the answer of a call that was not refused before its work
+pub handed-over : (work old s : List Float) (n g : ℕ) → n ≡ g → n ≡ 0 → (y s' : List Float) (l : Left Outcome) → y ≡ work → length y ≡ length old → length s' ≡ length s →
+    l ≡ handedOut y s' → l ≡ settled Accepted Refused g 0 (work ∷ []) (old ∷ []) s
+handed-over work old s n g e h y s' l ey ly ls el =
+    el ∙ same-handed (all finite y) y old s s' ly ls ∙ ap (λ (w : List Float). handed Accepted Refused (all finite y) (w ∷ []) (old ∷ []) s) ey
+    ∙ call-handed Accepted Refused (work ∷ []) (old ∷ []) s (all finite y) g 0 (sym h ∙ e) refl (ap (all finite) ey ∙ and-true (all finite work))
 
 pub filter-refused : (cs x : List Float) (places room r1 r2 r3 r4 r5 r6 r7 r8 : ℕ) (b7 b8 : Bool) →
     b7 ≡ all finite cs → b8 ≡ all finite x → r8 ≡ cond b8 0 4 → r7 ≡ cond b7 r8 4 →

@@ -1,13 +1,12 @@
 -- Laws of the definitions of `specs/Filter.antt`, stated as the loops and calls of `src/work.rt` give them. Assumes nothing.
 use mathlib.Core.Path.{_≡_, refl, sym, ap, _∙_}
-use mathlib.Core.List.{List, [], _∷_, _++_, append-assoc, append-nil, reverse}
+use mathlib.Core.List.{List, [], _∷_, _++_, append-assoc, append-nil, reverse, reverse-append}
 use mathlib.Core.Bool.{Bool, true, false, cond}
 use lib.Dec.{ltb}
 use mathlib.Core.Logic.{_⊎_, inl, inr}
 use Prim.Native.Nat.{ℕ, suc, _+_, _-_, _<_, _≤_, min}
-use native.Mathlib.Numerals.{one-add}
 use native.Mathlib.Omega.{arith}
-use lib.ListN.{length, take, drop, getD, set, length-take, length-drop, length-reverse, length-append, drop-of-length-le}
+use lib.ListN.{length, take, drop, getD, set, length-take, length-drop, length-reverse, length-append, take-append-drop, drop-of-length-le}
 use lib.Seq.{getD-drop, drop-drop, take-at, drop-at}
 use borrow.Author.Tests.{lt-ltb, le-ltb}
 use borrow.Rule.Slice.PartMut.{putMid, midOf, same-len-mid, mid-len}
@@ -16,7 +15,7 @@ use Rattle.laws.specs.Floats.{_⊖_, _⊗_, two64, zero64}
 use Rattle.laws.specs.Loops.{cleared, head-at, turn, turn-done, fill-turn, fill-done}
 use Rattle.laws.specs.Runs.{splits, grown, runsOf, passRuns, passed}
 use Rattle.slices.specs.Slices.{copied}
-use Rattle.slices.proofs.Laws.{copied-all, getD-reverse, take-reverse}
+use Rattle.slices.proofs.Laws.{copied-all, take-reverse}
 use Rattle.filter.specs.Sections.{sectionsOf}
 use Rattle.filter.specs.Calls.{longRuns}
 use Rattle.filter.specs.Filter.{rest, sampleOf, memoryOf, stepOf, throughOne, through, reflected, padBefore, padAfter, padded, bothWays, filtfilt, passBy}
@@ -114,49 +113,55 @@ run-done cs x goal at h inv = ap (λ (ss : List Biquad). through ss x) (sym (sec
 
 -- ---- padding
 
-before-step : (v : Float) (x : List Float) (p k : ℕ) → k < p → p < length x →
-    reflected v (reverse (take (p - k) (drop 1 x))) ≡ (two64 ⊗ v ⊖ getD x (p - k) nan) ∷ reflected v (reverse (take (p - (k + 1)) (drop 1 x)))
-before-step v x p k h g =
-    let m : ℕ = p - (k + 1) in
-    let e : p - k ≡ suc m = omega arith in
-    let q : getD (drop 1 x) m nan ≡ getD x (suc m) nan = getD-drop 1 x m nan ∙ ap (λ (n : ℕ). getD x n nan) (one-add m) in
-    rw e (ap (reflected v) (take-reverse nan (drop 1 x) m (rw (length-drop 1 x) (omega arith)) ∙ ap (λ (a : Float). a ∷ reverse (take m (drop 1 x))) q))
+-- the p values before x[end], from the last of them back, about v
+abbrev pub mirrored : Float → ℕ → ℕ → List Float → List Float
+mirrored v p end x = reflected v (reverse (take p (drop (end - p) x)))
 
-after-step : (v : Float) (x : List Float) (p k : ℕ) → k < p → p < length x →
-    reflected v (take (p - k) (drop (1 + k) (reverse x))) ≡
-    (two64 ⊗ v ⊖ getD x (length x - 2 - k) nan) ∷ reflected v (take (p - (k + 1)) (drop (1 + (k + 1)) (reverse x)))
-after-step v x p k h g =
+reflect-step : (v : Float) (x : List Float) (p end k : ℕ) → k < p → p ≤ end → end ≤ length x →
+    reflected v (reverse (take (p - k) (drop (end - p) x))) ≡ (two64 ⊗ v ⊖ getD x (end - 1 - k) nan) ∷ reflected v (reverse (take (p - (k + 1)) (drop (end - p) x)))
+reflect-step v x p end k h g f =
     let m : ℕ = p - (k + 1) in
+    let l : List Float = drop (end - p) x in
     let e : p - k ≡ suc m = omega arith in
-    let b : 1 + k < length (reverse x) = rw (length-reverse x) (omega arith) in
-    rw e (ap (λ (l : List Float). reflected v (take (suc m) l))
-    (head-to (reverse x) (1 + k) (1 + (k + 1)) nan b (omega arith)
-    ∙ ap (λ (a : Float). a ∷ drop (1 + (k + 1)) (reverse x)) (getD-reverse x (1 + k) (length x - 2 - k) nan (omega arith))))
+    let j : end - p + m ≡ end - 1 - k = omega arith in
+    let q : getD l m nan ≡ getD x (end - 1 - k) nan = getD-drop (end - p) x m nan ∙ ap (λ (n : ℕ). getD x n nan) j in
+    rw e (ap (reflected v) (take-reverse nan l m (rw (length-drop (end - p) x) (omega arith)) ∙ ap (λ (a : Float). a ∷ reverse (take m l)) q))
 
 take-none {ℓ} : {A : Type ℓ} (p k : ℕ) (l : List A) → p ≤ k → take (p - k) l ≡ []
 take-none p k l h = let e : p - k ≡ 0 = omega arith in rw e
 
-pub before-turn : (x out out₀ : List Float) (k : ℕ) → length out ≡ length out₀ → length out₀ < length x → k < length out₀ →
-    take k out ++ reflected (getD x 0 nan) (reverse (take (length out₀ - k) (drop 1 x))) ≡ padBefore (length out₀) x →
-    take (k + 1) (set out k (two64 ⊗ getD x 0 nan ⊖ getD x (length out₀ - k) nan)) ++ reflected (getD x 0 nan) (reverse (take (length out₀ - (k + 1)) (drop 1 x)))
-    ≡ padBefore (length out₀) x
-before-turn x out out₀ k l h t inv = fill-turn out _ _ _ k _ (omega arith) inv (before-step (getD x 0 nan) x (length out₀) k t h)
+pub reflect-turn : (x out out₀ : List Float) (v : Float) (end k : ℕ) → length out ≡ length out₀ → length out₀ ≤ end → end ≤ length x → k < length out₀ →
+    take k out ++ reflected v (reverse (take (length out₀ - k) (drop (end - length out₀) x))) ≡ mirrored v (length out₀) end x →
+    take (k + 1) (set out k (two64 ⊗ v ⊖ getD x (end - 1 - k) nan)) ++ reflected v (reverse (take (length out₀ - (k + 1)) (drop (end - length out₀) x))) ≡ mirrored v (length out₀) end x
+reflect-turn x out out₀ v end k l g f t inv = fill-turn out _ _ _ k _ (omega arith) inv (reflect-step v x (length out₀) end k t g f)
 
-pub before-done : (x out out₀ : List Float) (k : ℕ) → length out ≡ length out₀ → length out₀ ≤ k →
-    take k out ++ reflected (getD x 0 nan) (reverse (take (length out₀ - k) (drop 1 x))) ≡ padBefore (length out₀) x → out ≡ padBefore (length out₀) x
-before-done x out out₀ k l h inv =
-    fill-done out _ _ k (omega arith) (ap (λ (r : List Float). reflected (getD x 0 nan) (reverse r)) (take-none (length out₀) k (drop 1 x) h)) inv
+pub reflect-done : (x out out₀ : List Float) (v : Float) (end k : ℕ) → length out ≡ length out₀ → length out₀ ≤ k →
+    take k out ++ reflected v (reverse (take (length out₀ - k) (drop (end - length out₀) x))) ≡ mirrored v (length out₀) end x → out ≡ mirrored v (length out₀) end x
+reflect-done x out out₀ v end k l h inv =
+    fill-done out _ _ k (omega arith) (ap (λ (r : List Float). reflected v (reverse r)) (take-none (length out₀) k (drop (end - length out₀) x) h)) inv
 
-pub after-turn : (x out out₀ : List Float) (k : ℕ) → length out ≡ length out₀ → length out₀ < length x → k < length out₀ →
-    take k out ++ reflected (getD x (length x - 1) nan) (take (length out₀ - k) (drop (1 + k) (reverse x))) ≡ padAfter (length out₀) x →
-    take (k + 1) (set out k (two64 ⊗ getD x (length x - 1) nan ⊖ getD x (length x - 2 - k) nan))
-    ++ reflected (getD x (length x - 1) nan) (take (length out₀ - (k + 1)) (drop (1 + (k + 1)) (reverse x))) ≡ padAfter (length out₀) x
-after-turn x out out₀ k l h t inv = fill-turn out _ _ _ k _ (omega arith) inv (after-step (getD x (length x - 1) nan) x (length out₀) k t h)
+-- the p values before the last, from the end or from the front
+mirror-end {ℓ} : {A : Type ℓ} (x : List A) (p : ℕ) → p < length x → reverse (take p (drop (length x - 1 - p) x)) ≡ take p (drop 1 (reverse x))
+mirror-end {A = A} x p h =
+    let j : ℕ = length x - 1 - p in
+    let a : List A = take j x in
+    let b : List A = take p (drop j x) in
+    let r : List A = drop p (drop j x) in
+    let lb : length (reverse b) ≡ p = simp (length-reverse, length-take, length-drop) (omega arith) in
+    let lr : length (reverse r) ≡ 1 = simp (length-reverse, length-drop) (omega arith) in
+    let whole : reverse x ≡ reverse r ++ (reverse b ++ reverse a) =
+    ap reverse (sym (take-append-drop j x)) ∙ reverse-append a (drop j x)
+    ∙ ap (λ (l : List A). reverse l ++ reverse a) (sym (take-append-drop p (drop j x)))
+    ∙ ap (λ (l : List A). l ++ reverse a) (reverse-append b r) ∙ append-assoc (reverse r) (reverse b) (reverse a) in
+    sym (ap (λ (l : List A). take p (drop 1 l)) whole ∙ ap (take p) (drop-at (reverse r) (reverse b ++ reverse a) 1 lr) ∙ take-at (reverse b) (reverse a) p lb)
 
-pub after-done : (x out out₀ : List Float) (k : ℕ) → length out ≡ length out₀ → length out₀ ≤ k →
-    take k out ++ reflected (getD x (length x - 1) nan) (take (length out₀ - k) (drop (1 + k) (reverse x))) ≡ padAfter (length out₀) x → out ≡ padAfter (length out₀) x
-after-done x out out₀ k l h inv =
-    fill-done out _ _ k (omega arith) (ap (reflected (getD x (length x - 1) nan)) (take-none (length out₀) k (drop (1 + k) (reverse x)) h)) inv
+before-is : (x : List Float) (p : ℕ) → mirrored (getD x 0 nan) p (p + 1) x ≡ padBefore p x
+unfolding padBefore
+before-is x p = let e : p + 1 - p ≡ 1 = omega arith in ap (λ (k : ℕ). reflected (getD x 0 nan) (reverse (take p (drop k x)))) e
+
+after-is : (x : List Float) (p : ℕ) → p < length x → mirrored (getD x (length x - 1) nan) p (length x - 1) x ≡ padAfter p x
+unfolding padAfter
+after-is x p h = ap (reflected (getD x (length x - 1) nan)) (mirror-end x p h)
 
 -- what is done stays, and ys stand behind it
 put-next {ℓ} : {A : Type ℓ} (front r ys : List A) (at k : ℕ) → length front ≡ at →
@@ -173,11 +178,11 @@ padded2 p n y b m = putMid p (p + n - p) (padded1 p y b) m
 abbrev pub padded3 : ℕ → ℕ → List Float → List Float → List Float → List Float → List Float
 padded3 p n y b m a = putMid (p + n) (length (padded2 p n y b m) - (p + n)) (padded2 p n y b m) a
 
-pub pad-law : (x y b m a : List Float) (p : ℕ) → length y ≡ p + (length x + p) →
-    length b ≡ length (midOf 0 (p - 0) y) → b ≡ padBefore (length (midOf 0 (p - 0) y)) x → m ≡ copied x (midOf p (p + length x - p) (padded1 p y b)) →
-    a ≡ padAfter (length (midOf (p + length x) (length (padded2 p (length x) y b m) - (p + length x)) (padded2 p (length x) y b m))) x →
+pub pad-law : (x y b m a : List Float) (p : ℕ) → p < length x → length y ≡ p + (length x + p) → length b ≡ length (midOf 0 (p - 0) y) →
+    b ≡ mirrored (getD x 0 nan) (length (midOf 0 (p - 0) y)) (p + 1) x → m ≡ copied x (midOf p (p + length x - p) (padded1 p y b)) →
+    a ≡ mirrored (getD x (length x - 1) nan) (length (midOf (p + length x) (length (padded2 p (length x) y b m) - (p + length x)) (padded2 p (length x) y b m))) (length x - 1) x →
     padded3 p (length x) y b m a ≡ padded p x
-pad-law x y b m a p ly lb eb ec ea =
+pad-law x y b m a p h ly lb eb ec ea =
     let n : ℕ = length x in
     let r : List Float = drop (p - 0) y in
     let one : length (midOf 0 (p - 0) y) ≡ p = simp length-take (omega arith) in
@@ -202,7 +207,8 @@ pad-law x y b m a p ly lb eb ec ea =
     ∙ ap (λ (l : List Float). (b ++ m) ++ a ++ l) nothing
     ∙ append-nil ((b ++ m) ++ a)
     ∙ append-assoc b m a
-    ∙ (λ i. (eb ∙ ap (λ (j : ℕ). padBefore j x) one) i ++ (em i ++ (ea ∙ ap (λ (j : ℕ). padAfter j x) three) i))
+    ∙ (λ i. (eb ∙ ap (λ (j : ℕ). mirrored (getD x 0 nan) j (p + 1) x) one ∙ before-is x p) i
+    ++ (em i ++ (ea ∙ ap (λ (j : ℕ). mirrored (getD x (length x - 1) nan) j (length x - 1) x) three ∙ after-is x p h) i))
 
 -- ---- forward and backward
 

@@ -9,7 +9,7 @@ use lib.Ieee.{Float}
 use lib.Ieee.Scale.{finite}
 use Rattle.laws.specs.Checks.{all, isTime, rising}
 use Rattle.laws.specs.Floats.{zero64}
-use Rattle.slices.specs.Calls.{firstFailed, Left, settled}
+use Rattle.slices.specs.Calls.{firstFailed, Left, handed, settled}
 use Rattle.slices.specs.declared.Outcome.{Outcome}
 use Rattle.slices.specs.declared.Outcome.the-variants.{Accepted, Refused}
 use Rattle.filter.specs.declared.Band.{Band}
@@ -43,6 +43,10 @@ filterRefusal cs x places room =
     ∷ (all finite cs, 4)
     ∷ (all finite x, 4)
     ∷ [])
+
+-- numbers worked out in the place of the output
+abbrev pub handedOut : List Float → List Float → Left Outcome
+handedOut y s = handed Accepted Refused (all finite y) (y ∷ []) (y ∷ []) s
 
 abbrev pub runCall : List Float → List Float → List Float → Left Outcome
 runCall cs x s = settled Accepted Refused (filterRefusal cs x (length x) (length s)) 0 (through (sectionsOf cs) x ∷ []) (x ∷ []) s

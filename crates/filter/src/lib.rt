@@ -4,7 +4,7 @@ ghost use mathlib.Core.List.{[], _∷_};
 ghost use lib.ListN.{length};
 ghost use Rattle.slices.specs.Calls.{left};
 ghost use Rattle.filter.specs.Filter.{rest, stepOf};
-ghost use Rattle.filter.specs.Calls.{judgedBand, bandCall, filterRefusal, runCall, filtfiltCall, bandRefusal, bandPassCall};
+ghost use Rattle.filter.specs.Calls.{judgedBand, bandCall, filterRefusal, handedOut, runCall, filtfiltCall, bandRefusal, bandPassCall};
 use numbers;
 use slices;
 
@@ -113,6 +113,18 @@ fn filter_refusal(sections: &[f64], x: &[f64], places: usize, room: usize) -> u8
     slices::unless(k <= 40, 2, slices::unless(1 <= n, 2, counted))
 }
 
+// The numbers worked out, where all are finite, else 10; the scratch is cleared.
+fn hand_out(out: &mut [f64], scratch: &mut [f64]) -> slices::Outcome
+    ensures { λ r. ⌜ left r (now (out .exit) ∷ []) (now (scratch .exit)) ≡ handedOut (now (out .entry)) (now (scratch .entry)) ⌝ }
+{
+    slices::clear(scratch);
+    if slices::all_finite(&out[..]) {
+        return slices::Outcome::Accepted;
+    }
+    slices::clear(out);
+    slices::Outcome::Refused(10)
+}
+
 // x through each section, in place.
 pub fn run(sections: &[f64], x: &mut [f64], scratch: &mut [f64]) -> slices::Outcome
     ensures { λ r. ⌜ left r (now (x .exit) ∷ []) (now (scratch .exit)) ≡ runCall (now (sections .entry)) (now (x .entry)) (now (scratch .entry)) ⌝ }
@@ -122,12 +134,7 @@ pub fn run(sections: &[f64], x: &mut [f64], scratch: &mut [f64]) -> slices::Outc
         return slices::Outcome::Refused(refused);
     }
     work::run_sections(sections, x);
-    slices::clear(scratch);
-    if slices::all_finite(&x[..]) {
-        return slices::Outcome::Accepted;
-    }
-    slices::clear(x);
-    slices::Outcome::Refused(10)
+    hand_out(x, scratch)
 }
 
 // Forward and backward through the sections, padded oddly.
@@ -145,12 +152,7 @@ pub fn filtfilt(
         return slices::Outcome::Refused(refused);
     }
     work::filtfilt(sections, x, pad, out, scratch);
-    slices::clear(scratch);
-    if slices::all_finite(&out[..]) {
-        return slices::Outcome::Accepted;
-    }
-    slices::clear(out);
-    slices::Outcome::Refused(10)
+    hand_out(out, scratch)
 }
 
 fn band_refusal(times: &[f64], x: &[f64], places: usize, room: usize) -> u8
@@ -173,10 +175,5 @@ pub fn band_pass(times: &[f64], x: &[f64], out: &mut [f64], scratch: &mut [f64])
         return slices::Outcome::Refused(refused);
     }
     work::band_pass(times, x, out, scratch);
-    slices::clear(scratch);
-    if slices::all_finite(&out[..]) {
-        return slices::Outcome::Accepted;
-    }
-    slices::clear(out);
-    slices::Outcome::Refused(10)
+    hand_out(out, scratch)
 }

@@ -1,11 +1,12 @@
 // The filter's work on lent slices whose lengths fit.
 ghost use mathlib.Core.Path.{_≡_};
-ghost use mathlib.Core.List.{[], _∷_};
+ghost use mathlib.Core.List.{[], _∷_, reverse};
 ghost use Prim.Native.Nat.{ℕ, _+_, _-_, _≤_, _<_, min};
-ghost use lib.ListN.{length, drop, getD};
+ghost use lib.ListN.{length, take, drop, getD};
+ghost use lib.Ieee.{nan};
 ghost use Rattle.laws.specs.Runs.{runsOf, passed};
 ghost use Rattle.filter.specs.Sections.{quality as qualityOf, section as sectionOf, highPass, lowPass, butterworth, coefficients as coefficientsOf, sectionsOf};
-ghost use Rattle.filter.specs.Filter.{rest, throughOne, through, padBefore, padAfter, padded, bothWays, filtfilt as filtfiltOf, passBy, bandPass};
+ghost use Rattle.filter.specs.Filter.{rest, throughOne, through, reflected, padded, bothWays, filtfilt as filtfiltOf, passBy, bandPass};
 use crate::Biquad;
 use crate::BiquadMemory;
 use numbers;
@@ -161,29 +162,16 @@ pub fn run_sections(sections: &[f64], x: &mut [f64])
     }
 }
 
-fn reflect_before(x: &[f64], out: &mut [f64])
-    requires { ⌜ length (now out) < length (now x) ⌝ }
-    ensures { λ _. ⌜ now (out .exit) ≡ padBefore (length (now (out .entry))) (now (x .entry)) ⌝ }
+// Twice x[about] minus each of the values before x[end], from the last of them back.
+fn reflect(x: &[f64], about: usize, end: usize, out: &mut [f64])
+    requires { ⌜ (about < length (now x)) × (length (now out) ≤ end) × (end ≤ length (now x)) ⌝ }
+    ensures { λ _. ⌜ now (out .exit) ≡ reflected (getD (now (x .entry)) about nan) (reverse (take (length (now (out .entry))) (drop (end - length (now (out .entry))) (now (x .entry))))) ⌝ }
 {
     let p = out.len();
-    let v = 2.0 * x[0];
+    let v = 2.0 * x[about];
     let mut k = 0;
     while k < p {
-        out[k] = v - x[p - k];
-        k += 1;
-    }
-}
-
-fn reflect_after(x: &[f64], out: &mut [f64])
-    requires { ⌜ length (now out) < length (now x) ⌝ }
-    ensures { λ _. ⌜ now (out .exit) ≡ padAfter (length (now (out .entry))) (now (x .entry)) ⌝ }
-{
-    let n = x.len();
-    let p = out.len();
-    let v = 2.0 * x[n - 1];
-    let mut k = 0;
-    while k < p {
-        out[k] = v - x[n - 2 - k];
+        out[k] = v - x[end - 1 - k];
         k += 1;
     }
 }
@@ -193,10 +181,11 @@ fn pad_oddly(x: &[f64], p: usize, y: &mut [f64])
     requires { ⌜ (p < length (now x)) × (length (now y) ≡ p + (length (now x) + p)) ⌝ }
     ensures { λ _. ⌜ now (y .exit) ≡ padded p (now (x .entry)) ⌝ }
 {
-    let m = p + x.len();
-    reflect_before(x, &mut y[0..p]);
+    let n = x.len();
+    let m = p + n;
+    reflect(x, 0, p + 1, &mut y[0..p]);
     slices::copy(x, &mut y[p..m]);
-    reflect_after(x, &mut y[m..]);
+    reflect(x, n - 1, n - 1, &mut y[m..]);
 }
 
 fn both_ways(sections: &[f64], x: &[f64], p: usize, out: &mut [f64], y: &mut [f64])
