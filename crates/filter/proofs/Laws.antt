@@ -282,14 +282,14 @@ runs-from ts start e h ee =
     r ∙ ap (λ (l : List Float). k ∷ runsOf l) (drop-drop k start ts ∙ ap (λ (n : ℕ). drop n ts) (sym ee))
 
 -- a turn of the loop over the runs: ys, the run from start to e passed, goes behind what is done
-pub pass-turn : (pass : List Float → List Float) (ts x out goal ys : List Float) (start e : ℕ) → start < length ts → length ts ≡ length x → length out ≡ length x →
-    e ≡ start + getD (runsOf (drop start ts)) 0 0 → e ≤ length x → length ys ≡ length (midOf start (e - start) out) → ys ≡ pass (midOf start (e - start) x) →
+pub pass-turn : (pass : List Float → List Float) (ts x out out₀ goal ys : List Float) (start e : ℕ) → start < length x → length ts ≡ length x → length out ≡ length out₀ → length out₀ ≡ length x →
+    e ≡ start + getD (runsOf (drop start ts)) 0 0 → e ≤ length ts → length ys ≡ length (midOf start (e - start) out) → ys ≡ pass (midOf start (e - start) x) →
     take start out ++ passed pass (drop start ts) (drop start x) ≡ goal →
     take e (putMid start (e - start) out ys) ++ passed pass (drop e ts) (drop e x) ≡ goal
-pass-turn pass ts x out goal ys start e h l lo ee he ly ey inv =
+pass-turn pass ts x out out₀ goal ys start e h l lo lo₀ ee he ly ey inv =
     let k : ℕ = getD (runsOf (drop start ts)) 0 0 in
     let ke : e - start ≡ k = omega arith in
-    let r : runsOf (drop start ts) ≡ k ∷ runsOf (drop e ts) = runs-from ts start e h ee in
+    let r : runsOf (drop start ts) ≡ k ∷ runsOf (drop e ts) = runs-from ts start e (omega arith) ee in
     let dx : drop k (drop start x) ≡ drop e x = drop-drop k start x ∙ ap (λ (n : ℕ). drop n x) (sym ee) in
     let ys-is : ys ≡ pass (take k (drop start x)) = ey ∙ ap (λ (n : ℕ). pass (take n (drop start x))) ke in
     let ls : length (take start out ++ ys) ≡ e = simp (length-append, length-take) (rw ly (simp (length-take, length-drop) (omega arith))) in

@@ -1,7 +1,4 @@
-use mathlib.Core.Path.{_≡_}
-use Prim.Native.Nat.{_+_}
-use native.Mathlib.Omega.{arith}
-use lib.ListN.{length}
+use mathlib.Core.Path.{_∙_}
 use Rattle.filter.specs.Sections.{sectionsOf}
 use Rattle.filter.proofs.Laws.{both-law}
 use borrow.Author.Needs.{needs}
@@ -10,11 +7,17 @@ use Rattle.filter.proofs.work.both_ways.Tie as tie
 
 returns : tie.Need-returns
 returns c =
-    let s = c .before .before .before .before .before .before .before .before .before .before .before .before .before .before .before .before .before .before .before .before .before .before .before .before .before .before .before .before .before .before in
-    let l : length (c .before .before .before .before .before .before .before .before .reverse2 .last .0) ≡ s .args .p + (length (s .args .x .now) + s .args .p) = omega arith in
-    both-law (sectionsOf (s .args .sections .now)) (s .args .x .now) (s .args .out .now) (c .before .before .before .before .before .before .before .before .before .before .before .before .before .before .before .before .before .before .before .before .before .before .before .before .pad-oddly .last .1 .1 .0) (c .before .before .before .before .before .before .before .before .before .before .before .before .before .before .before .before .before .before .before .before .run-sections .last .1 .0) (c .before .before .before .before .before .before .before .before .before .before .before .before .before .before .before .before .reverse .last .0)
-    (c .before .before .before .before .before .before .before .before .before .before .before .before .run-sections2 .last .1 .0) (c .before .before .before .before .before .before .before .before .reverse2 .last .0) (c .before .before .copy .last .1 .0) (s .args .p) (omega arith) l
-    (c .before .before .before .before .before .before .before .before .before .before .before .before .before .before .before .before .before .before .before .before .before .before .before .before .pad-oddly .ensures) (c .before .before .before .before .before .before .before .before .before .before .before .before .before .before .before .before .before .before .before .before .run-sections .ensures) (c .before .before .before .before .before .before .before .before .before .before .before .before .before .before .before .before .reverse .ensures) (c .before .before .before .before .before .before .before .before .before .before .before .before .run-sections2 .ensures) (c .before .before .before .before .before .before .before .before .reverse2 .ensures) (c .before .before .copy .ensures)
+    let s = c .before .before .before .before .before .before .before .before .before .before .before .before .before .before .before .before .before .before .before .before .before .before .before .before .before .before .before .before .before .before .args in
+    let q = c .before .before .before .before .before .before .before .before .before .before .before .before .before .before .before .before .before .before .before .before .before .before .before .before .before .before .before .before .before .before .pre in
+    let padded = c .before .before .before .before .before .before .before .before .before .before .before .before .before .before .before .before .before .before .before .before .before .before .before .before .pad-oddly in
+    let forth = c .before .before .before .before .before .before .before .before .before .before .before .before .before .before .before .before .before .before .before .before .run-sections in
+    let turned = c .before .before .before .before .before .before .before .before .before .before .before .before .before .before .before .before .reverse in
+    let back = c .before .before .before .before .before .before .before .before .before .before .before .before .run-sections2 in
+    let again = c .before .before .before .before .before .before .before .before .reverse2 in
+    let part = c .before .before .copy in
+    both-law (sectionsOf (s .sections .now)) (s .x .now) (s .out .now) (padded .last .1 .1 .0) (forth .last .1 .0) (turned .last .0) (back .last .1 .0) (again .last .0) (part .last .1 .0) (s .p) (q .2)
+    (again .kept .0 ∙ back .kept .1 .0 ∙ turned .kept .0 ∙ forth .kept .1 .0 ∙ padded .kept .1 .1 .0 ∙ q .1)
+    (padded .ensures) (forth .ensures) (turned .ensures) (back .ensures) (again .ensures) (part .ensures)
 
 pub both-ways-spec : {M : Type 1} → statement M
 both-ways-spec =

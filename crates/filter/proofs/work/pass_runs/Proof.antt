@@ -1,7 +1,6 @@
 use mathlib.Core.Path.{_≡_, refl}
 use mathlib.Core.List.{_++_}
 use Prim.Native.Nat.{_+_, _-_, _≤_}
-use native.Mathlib.Omega.{arith}
 use borrow.Author.Needs.{needs}
 use lib.ListN.{length, take, drop}
 use Rattle.laws.specs.Runs.{passed}
@@ -24,17 +23,22 @@ loop-again : tie.Need-loop-again Inv-loop μ-loop
 loop-again c =
     let l = c .before .before .before .before .before .before .before .before .before .before .loop in
     let s = c .before .before .before .before .before .before .before .before .before .before .before .before .before .before .before .before .args in
+    let q = c .before .before .before .before .before .before .before .before .before .before .before .before .before .before .before .before .pre in
     let e = c .before .before .before .before .before .before .before .before .run-end in
     let r = c .before .before .before .before .pass-run in (
-      search (needs, put-length),
+      put-length (l .start) (e .result - l .start) (l .out) (r .last .1 .1 .0) (s .out .now) (r .kept .1 .1 .0) (l .inv .0),
       search needs,
       search needs,
-      pass-turn (passBy (sectionsOf (s .sections .now))) (s .times .now) (s .x .now) (l .out) _ (r .last .1 .1 .0) (l .start) (e .result)
-          (omega arith) (omega arith) (omega arith) (e .ensures .0) (omega arith) (r .kept .1 .1 .0) (r .ensures) (l .inv .3),
+      pass-turn (passBy (sectionsOf (s .sections .now))) (s .times .now) (s .x .now) (l .out) (s .out .now) _ (r .last .1 .1 .0) (l .start) (e .result)
+          (c .before .before .before .before .before .before .before .before .before .loop-test .taken) (q .0) (l .inv .0) (q .1) (e .ensures .0) (e .ensures .2) (r .kept .1 .1 .0) (r .ensures) (l .inv .3),
     )
 
 returns : tie.Need-returns Inv-loop μ-loop
-returns c = search (needs, passed-now)
+returns c =
+    let l = c .before .loop in
+    let s = c .before .before .before .before .before .before .before .args in
+    let q = c .before .before .before .before .before .before .before .pre in
+    passed-now (passBy (sectionsOf (s .sections .now))) (s .times .now) (s .x .now) (l .out) (s .out .now) _ (l .start) (c .loop-test .left) (q .0) (l .inv .0) (q .1) (l .inv .3)
 
 pub pass-runs-spec : {M : Type 1} → statement M
 pass-runs-spec =
