@@ -18,7 +18,7 @@ use Rattle.slices.specs.Slices.{copied}
 use Rattle.slices.proofs.Laws.{copied-all, take-reverse}
 use Rattle.filter.specs.Sections.{sectionsOf}
 use Rattle.filter.specs.Calls.{longRuns}
-use Rattle.filter.specs.Filter.{rest, sampleOf, memoryOf, stepOf, throughOne, through, reflected, padBefore, padAfter, padded, bothWays, filtfilt, passBy}
+use Rattle.filter.specs.Filter.{rest, stepOf, throughOne, through, reflected, padBefore, padAfter, padded, bothWays, filtfilt, passBy}
 use Rattle.filter.specs.declared.Biquad.{Biquad}
 use Rattle.filter.specs.declared.BiquadMemory.{BiquadMemory}
 use Rattle.filter.specs.declared.Step.{Step}

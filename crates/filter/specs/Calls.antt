@@ -44,7 +44,7 @@ filterRefusal cs x places room =
     ∷ (all finite x, 4)
     ∷ [])
 
--- numbers worked out in the place of the output
+-- y, worked out in the place of the output, handed out
 abbrev pub handedOut : List Float → List Float → Left Outcome
 handedOut y s = handed Accepted Refused (all finite y) (y ∷ []) (y ∷ []) s
 

@@ -2,85 +2,11 @@ use Rattle.filter.proofs.Laws.{sections-at}
 use borrow.Author.Needs.{needs}
 use Rattle.filter.proofs.work.section_at.Statement.{statement}
 use Rattle.filter.proofs.work.section_at.Tie as tie
-use Rattle.filter.proofs.work.section_at.Reads as reads
-use Rattle.filter.proofs.work.section_at.Lts as lts
 
--- src/work.rt:136:13
-mul-t3 : tie.Need-mul-t3
-mul-t3 c = search needs
-
--- src/work.rt:136:13
-shared-slice-read-t5 : tie.Need-shared-slice-read-t5
-shared-slice-read-t5 c = search needs
-
--- src/work.rt:137:22
-add-t6 : tie.Need-add-t6
-add-t6 c = search needs
-
--- src/work.rt:137:13
-mul-t7 : tie.Need-mul-t7
-mul-t7 c = search needs
-
--- src/work.rt:137:13
-shared-slice-read-t9 : tie.Need-shared-slice-read-t9
-shared-slice-read-t9 c = search needs
-
--- src/work.rt:138:22
-add-t10 : tie.Need-add-t10
-add-t10 c = search needs
-
--- src/work.rt:138:13
-mul-t11 : tie.Need-mul-t11
-mul-t11 c = search needs
-
--- src/work.rt:138:13
-shared-slice-read-t13 : tie.Need-shared-slice-read-t13
-shared-slice-read-t13 c = search needs
-
--- src/work.rt:139:22
-add-t14 : tie.Need-add-t14
-add-t14 c = search needs
-
--- src/work.rt:139:13
-mul-t15 : tie.Need-mul-t15
-mul-t15 c = search needs
-
--- src/work.rt:139:13
-shared-slice-read-t17 : tie.Need-shared-slice-read-t17
-shared-slice-read-t17 c = search needs
-
--- src/work.rt:140:22
-add-t18 : tie.Need-add-t18
-add-t18 c = search needs
-
--- src/work.rt:140:13
-mul-t19 : tie.Need-mul-t19
-mul-t19 c = search needs
-
--- src/work.rt:140:13
-shared-slice-read-t21 : tie.Need-shared-slice-read-t21
-shared-slice-read-t21 c = search needs
-
--- src/work.rt:131:1
 returns : tie.Need-returns
 returns c = search (needs, sections-at)
 
 pub section-at-spec : {M : Type 1} → statement M
 section-at-spec =
     tie.close
-    (tie.spec
-    mul-t3
-    shared-slice-read-t5
-    add-t6
-    mul-t7
-    shared-slice-read-t9
-    add-t10
-    mul-t11
-    shared-slice-read-t13
-    add-t14
-    mul-t15
-    shared-slice-read-t17
-    add-t18
-    mul-t19
-    shared-slice-read-t21
-    returns)
+    (tie.spec (λ c. search needs) (λ c. search needs) (λ c. search needs) (λ c. search needs) (λ c. search needs) (λ c. search needs) (λ c. search needs) (λ c. search needs) (λ c. search needs) (λ c. search needs) (λ c. search needs) (λ c. search needs) (λ c. search needs) (λ c. search needs) returns)
