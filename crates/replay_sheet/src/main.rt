@@ -10,24 +10,7 @@ fn least(n: usize, limit: usize) -> usize
     if n <= limit { n } else { limit }
 }
 
-// The next word, at most the limit.
-fn count(limit: usize) -> usize
-    ensures { λ r. ⌜ r ≤ limit ⌝ }
-{
-    least(replay::number() as usize, limit)
-}
-
-// A length, and the numbers that are given.
-fn list(out: &mut [f64]) -> usize
-    ensures { λ r. ⌜ r ≤ length (now (out .exit)) ⌝ }
-{
-    let n = count(out.len());
-    let given = count(out.len());
-    replay::fill(out, given);
-    n
-}
-
-// As list, from a place on.
+// How many keys there are from a place on, as in replay::key_list.
 fn key_list(out: &mut [i64], from: usize) -> usize
     ensures { λ r. ⌜ r ≤ length (now (out .exit)) - from ⌝ }
 {
@@ -35,41 +18,10 @@ fn key_list(out: &mut [i64], from: usize) -> usize
     if from > end {
         return 0;
     }
-    let n = count(end - from);
-    let given = count(end - from);
+    let n = replay::count(end - from);
+    let given = replay::count(end - from);
     replay::fill_keys(&mut out[from..end], given);
     n
-}
-
-fn byte_list(out: &mut [u8]) -> usize
-    ensures { λ r. ⌜ r ≤ length (now (out .exit)) ⌝ }
-{
-    let n = count(out.len());
-    let given = count(out.len());
-    replay::fill_bytes(out, given);
-    n
-}
-
-fn all_are(values: &[f64], bits: u64) -> bool {
-    let mut i = 0;
-    while i < values.len() {
-        if hex::pattern(values[i]) != bits {
-            return false;
-        }
-        i += 1;
-    }
-    true
-}
-
-// 0 where each number is +0.0, 1 where each is the one that stood there, 2 otherwise.
-fn say_left(values: &[f64], bits: u64) {
-    if all_are(values, 0) {
-        replay::say(0);
-    } else if all_are(values, bits) {
-        replay::say(1);
-    } else {
-        replay::say(2);
-    }
 }
 
 // The refusal's number, the kept count and F; returns the kept count.
@@ -94,10 +46,28 @@ fn say_answer(answer: sheet::SheetAnswer) -> usize {
 fn say_column(values: &[f64], kept: usize) {
     let k = least(kept, values.len());
     replay::say_all(&values[0..k]);
-    say_left(&values[k..values.len()], 4613937818241073152);
+    replay::say_left(&values[k..values.len()], 4613937818241073152);
 }
 
-fn settle(
+// The answer, the four outputs and what is left in the scratch.
+fn say_sheet(
+    answer: sheet::SheetAnswer,
+    times: &[f64],
+    raws: &[f64],
+    detrended: &[f64],
+    passed: &[f64],
+    scratch: &[f64],
+) {
+    let kept = say_answer(answer);
+    say_column(times, kept);
+    say_column(raws, kept);
+    say_column(detrended, kept);
+    say_column(passed, kept);
+    replay::say_left(scratch, 4619567317775286272);
+}
+
+// The lengths of the four outputs and of the scratch come next.
+fn within(
     degree: usize,
     field: &[f64],
     a: &[f64],
@@ -116,12 +86,22 @@ fn settle(
     obstimes: &[f64],
     obsvalues: &[f64],
     good: &[u8],
-    outtimes: &mut [f64],
-    outraws: &mut [f64],
-    outdetrended: &mut [f64],
-    outpassed: &mut [f64],
-    scratch: &mut [f64],
 ) {
+    let mut t = [3.0; 1000];
+    let mut x = [3.0; 1000];
+    let mut y = [3.0; 1000];
+    let mut z = [3.0; 1000];
+    let mut w = [7.0; 310000];
+    let p = replay::count(1000);
+    let q = replay::count(1000);
+    let r = replay::count(1000);
+    let s = replay::count(1000);
+    let n = replay::count(310000);
+    let outtimes = &mut t[0..p];
+    let outraws = &mut x[0..q];
+    let outdetrended = &mut y[0..r];
+    let outpassed = &mut z[0..s];
+    let scratch = &mut w[0..n];
     let answer = sheet::sheet(
         degree,
         field,
@@ -147,69 +127,13 @@ fn settle(
         outpassed,
         scratch,
     );
-    let kept = say_answer(answer);
-    say_column(&outtimes[..], kept);
-    say_column(&outraws[..], kept);
-    say_column(&outdetrended[..], kept);
-    say_column(&outpassed[..], kept);
-    say_left(&scratch[..], 4619567317775286272);
-}
-
-// The lengths of the four outputs and of the scratch come next.
-fn within(
-    degree: usize,
-    field: &[f64],
-    a: &[f64],
-    b: &[f64],
-    times: &[f64],
-    added: &[f64],
-    ckeys: &[i64],
-    cstates: &[f64],
-    dkeys: &[i64],
-    dstates: &[f64],
-    cacckeys: &[i64],
-    caccs: &[f64],
-    dacckeys: &[i64],
-    daccs: &[f64],
-    nodes: &[f64],
-    obstimes: &[f64],
-    obsvalues: &[f64],
-    good: &[u8],
-) {
-    let mut outtimes = [3.0; 1000];
-    let mut outraws = [3.0; 1000];
-    let mut outdetrended = [3.0; 1000];
-    let mut outpassed = [3.0; 1000];
-    let mut scratch = [7.0; 310000];
-    let p = count(1000);
-    let q = count(1000);
-    let r = count(1000);
-    let s = count(1000);
-    let n = count(310000);
-    settle(
-        degree,
-        field,
-        a,
-        b,
-        times,
-        added,
-        ckeys,
-        cstates,
-        dkeys,
-        dstates,
-        cacckeys,
-        caccs,
-        dacckeys,
-        daccs,
-        nodes,
-        obstimes,
-        obsvalues,
-        good,
-        &mut outtimes[0..p],
-        &mut outraws[0..q],
-        &mut outdetrended[0..r],
-        &mut outpassed[0..s],
-        &mut scratch[0..n],
+    say_sheet(
+        answer,
+        &outtimes[..],
+        &outraws[..],
+        &outdetrended[..],
+        &outpassed[..],
+        &scratch[..],
     );
 }
 
@@ -230,14 +154,14 @@ fn observed(
     dacckeys: &[i64],
     daccs: &[f64],
 ) {
-    let mut nodes = [0.0; 70];
-    let mut obstimes = [0.0; 100010];
-    let mut obsvalues = [0.0; 1000];
-    let mut good = [0u8; 1000];
-    let n = list(&mut nodes);
-    let p = list(&mut obstimes);
-    let q = list(&mut obsvalues);
-    let r = byte_list(&mut good);
+    let mut n = [0.0; 70];
+    let mut t = [0.0; 100010];
+    let mut v = [0.0; 1000];
+    let mut g = [0u8; 1000];
+    let nodes = replay::list(&mut n);
+    let obstimes = replay::list(&mut t);
+    let obsvalues = replay::list(&mut v);
+    let good = replay::byte_list(&mut g);
     within(
         degree,
         field,
@@ -253,10 +177,10 @@ fn observed(
         caccs,
         dacckeys,
         daccs,
-        &nodes[0..n],
-        &obstimes[0..p],
-        &obsvalues[0..q],
-        &good[0..r],
+        nodes,
+        obstimes,
+        obsvalues,
+        good,
     );
 }
 
@@ -273,14 +197,14 @@ fn valued(
     cacckeys: &[i64],
     dacckeys: &[i64],
 ) {
-    let mut cstates = [0.0; 6000];
-    let mut dstates = [0.0; 6000];
-    let mut caccs = [0.0; 1000];
-    let mut daccs = [0.0; 1000];
-    let p = list(&mut cstates);
-    let q = list(&mut dstates);
-    let r = list(&mut caccs);
-    let s = list(&mut daccs);
+    let mut x = [0.0; 6000];
+    let mut y = [0.0; 6000];
+    let mut u = [0.0; 1000];
+    let mut v = [0.0; 1000];
+    let cstates = replay::list(&mut x);
+    let dstates = replay::list(&mut y);
+    let caccs = replay::list(&mut u);
+    let daccs = replay::list(&mut v);
     observed(
         degree,
         field,
@@ -289,13 +213,13 @@ fn valued(
         times,
         added,
         ckeys,
-        &cstates[0..p],
+        cstates,
         dkeys,
-        &dstates[0..q],
+        dstates,
         cacckeys,
-        &caccs[0..r],
+        caccs,
         dacckeys,
-        &daccs[0..s],
+        daccs,
     );
 }
 
@@ -338,25 +262,18 @@ fn keyed(degree: usize, field: &[f64], a: &[f64], b: &[f64], times: &[f64], adde
 }
 
 fn call() {
-    let mut field = [0.0; 200];
-    let mut a = [0.0; 100];
-    let mut b = [0.0; 100];
-    let mut times = [0.0; 40];
-    let mut added = [0.0; 1200];
+    let mut f = [0.0; 200];
+    let mut x = [0.0; 100];
+    let mut y = [0.0; 100];
+    let mut t = [0.0; 40];
+    let mut g = [0.0; 1200];
     let degree = replay::number() as usize;
-    let f = list(&mut field);
-    let m = list(&mut a);
-    let n = list(&mut b);
-    let t = list(&mut times);
-    let d = list(&mut added);
-    keyed(
-        degree,
-        &field[0..f],
-        &a[0..m],
-        &b[0..n],
-        &times[0..t],
-        &added[0..d],
-    );
+    let field = replay::list(&mut f);
+    let a = replay::list(&mut x);
+    let b = replay::list(&mut y);
+    let times = replay::list(&mut t);
+    let added = replay::list(&mut g);
+    keyed(degree, field, a, b, times, added);
 }
 
 // One call; false at the end of the list.
