@@ -1,61 +1,6 @@
 // Replays the oracle's list of module 5: each call is its number and its arguments, a word a line; a slice is preceded by
 // its length. Scratch and outputs stand at 7.0 before a call.
-ghost use Prim.Native.Nat.{_≤_};
-ghost use lib.ListN.{length};
 use replay::Item;
-
-fn at_most(n: u64, limit: usize) -> usize
-    ensures { λ r. ⌜ r ≤ limit ⌝ }
-{
-    if n < limit as u64 { n as usize } else { limit }
-}
-
-// A length, and so many doubles, as far as there is room.
-fn list(out: &mut [f64]) -> usize
-    ensures { λ r. ⌜ r ≤ length (now (out .exit)) ⌝ }
-{
-    let count = at_most(replay::number(), out.len());
-    replay::fill(out, count);
-    count
-}
-
-fn keys(out: &mut [i64]) -> usize
-    ensures { λ r. ⌜ r ≤ length (now (out .exit)) ⌝ }
-{
-    let count = at_most(replay::number(), out.len());
-    replay::fill_keys(out, count);
-    count
-}
-
-fn bytes(out: &mut [u8]) -> usize
-    ensures { λ r. ⌜ r ≤ length (now (out .exit)) ⌝ }
-{
-    let count = at_most(replay::number(), out.len());
-    replay::fill_bytes(out, count);
-    count
-}
-
-fn all_are(values: &[f64], bits: u64) -> bool {
-    let mut i = 0;
-    while i < values.len() {
-        if hex::pattern(values[i]) != bits {
-            return false;
-        }
-        i += 1;
-    }
-    true
-}
-
-// 0 where the scratch is +0.0, 1 where it is unchanged, 2 otherwise.
-fn say_scratch(scratch: &[f64]) {
-    if all_are(scratch, 0) {
-        replay::say(0);
-    } else if all_are(scratch, 4619567317775286272) {
-        replay::say(1);
-    } else {
-        replay::say(2);
-    }
-}
 
 // The refusal's number, whether it is kept, and the record.
 fn say_answer(answer: residuals::EpochAnswer) {
@@ -127,7 +72,7 @@ fn run_epoch(
         scratch,
     );
     say_answer(answer);
-    say_scratch(&scratch[..]);
+    replay::say_left(&scratch[..], 4619567317775286272);
 }
 
 fn say_terms(rows: &[[f64; 5]]) {
@@ -168,7 +113,27 @@ fn say_counted(answer: slices::Counted) {
     }
 }
 
-fn answer_all(
+// The count, the five outputs and what is left in the scratch.
+fn say_list(
+    answer: slices::Counted,
+    times: &[f64],
+    residuals: &[f64],
+    terms: &[[f64; 5]],
+    mids: &[[f64; 3]],
+    vels: &[[f64; 3]],
+    scratch: &[f64],
+) {
+    say_counted(answer);
+    replay::say_all(times);
+    replay::say_all(residuals);
+    say_terms(terms);
+    say_vectors(mids);
+    say_vectors(vels);
+    replay::say_left(scratch, 4619567317775286272);
+}
+
+// The lengths of the five outputs come next.
+fn run_all(
     degree: usize,
     field: &[f64],
     a: &[f64],
@@ -186,13 +151,23 @@ fn answer_all(
     obstimes: &[f64],
     obsvalues: &[f64],
     good: &[u8],
-    outtimes: &mut [f64],
-    outresiduals: &mut [f64],
-    outterms: &mut [[f64; 5]],
-    outmids: &mut [[f64; 3]],
-    outvels: &mut [[f64; 3]],
     scratch: &mut [f64],
 ) {
+    let mut x = [7.0; 20];
+    let mut y = [7.0; 20];
+    let mut z = [[7.0; 5]; 20];
+    let mut m = [[7.0; 3]; 20];
+    let mut v = [[7.0; 3]; 20];
+    let p = replay::count(20);
+    let q = replay::count(20);
+    let r = replay::count(20);
+    let s = replay::count(20);
+    let u = replay::count(20);
+    let outtimes = &mut x[0..p];
+    let outresiduals = &mut y[0..q];
+    let outterms = &mut z[0..r];
+    let outmids = &mut m[0..s];
+    let outvels = &mut v[0..u];
     let answer = residuals::residuals(
         degree,
         field,
@@ -218,70 +193,14 @@ fn answer_all(
         outvels,
         scratch,
     );
-    say_counted(answer);
-    replay::say_all(&outtimes[..]);
-    replay::say_all(&outresiduals[..]);
-    say_terms(&outterms[..]);
-    say_vectors(&outmids[..]);
-    say_vectors(&outvels[..]);
-    say_scratch(&scratch[..]);
-}
-
-// The lengths of the five outputs come next.
-fn run_all(
-    degree: usize,
-    field: &[f64],
-    a: &[f64],
-    b: &[f64],
-    times: &[f64],
-    added: &[f64],
-    ckeys: &[i64],
-    cstates: &[f64],
-    dkeys: &[i64],
-    dstates: &[f64],
-    cacckeys: &[i64],
-    caccs: &[f64],
-    dacckeys: &[i64],
-    daccs: &[f64],
-    obstimes: &[f64],
-    obsvalues: &[f64],
-    good: &[u8],
-    scratch: &mut [f64],
-) {
-    let mut outtimes = [7.0; 20];
-    let mut outresiduals = [7.0; 20];
-    let mut outterms = [[7.0; 5]; 20];
-    let mut outmids = [[7.0; 3]; 20];
-    let mut outvels = [[7.0; 3]; 20];
-    let p = at_most(replay::number(), 20);
-    let q = at_most(replay::number(), 20);
-    let r = at_most(replay::number(), 20);
-    let s = at_most(replay::number(), 20);
-    let u = at_most(replay::number(), 20);
-    answer_all(
-        degree,
-        field,
-        a,
-        b,
-        times,
-        added,
-        ckeys,
-        cstates,
-        dkeys,
-        dstates,
-        cacckeys,
-        caccs,
-        dacckeys,
-        daccs,
-        obstimes,
-        obsvalues,
-        good,
-        &mut outtimes[0..p],
-        &mut outresiduals[0..q],
-        &mut outterms[0..r],
-        &mut outmids[0..s],
-        &mut outvels[0..u],
-        scratch,
+    say_list(
+        answer,
+        &outtimes[..],
+        &outresiduals[..],
+        &outterms[..],
+        &outmids[..],
+        &outvels[..],
+        &scratch[..],
     );
 }
 
@@ -303,12 +222,12 @@ fn run_list(
     daccs: &[f64],
     scratch: &mut [f64],
 ) {
-    let mut obstimes = [0.0; 20];
-    let mut obsvalues = [0.0; 20];
-    let mut good = [0u8; 20];
-    let p = list(&mut obstimes);
-    let q = list(&mut obsvalues);
-    let r = bytes(&mut good);
+    let mut x = [0.0; 20];
+    let mut y = [0.0; 20];
+    let mut z = [0u8; 20];
+    let obstimes = replay::full_list(&mut x);
+    let obsvalues = replay::full_list(&mut y);
+    let good = replay::full_bytes(&mut z);
     run_all(
         degree,
         field,
@@ -324,9 +243,9 @@ fn run_list(
         caccs,
         dacckeys,
         daccs,
-        &obstimes[0..p],
-        &obsvalues[0..q],
-        &good[0..r],
+        obstimes,
+        obsvalues,
+        good,
         scratch,
     );
 }
@@ -350,7 +269,7 @@ fn run(
     daccs: &[f64],
 ) {
     let mut scratch = [7.0; 160000];
-    let n = at_most(replay::number(), 160000);
+    let n = replay::count(160000);
     if which == 0 {
         run_epoch(
             degree,
@@ -403,14 +322,14 @@ fn with_accelerometers(
     dkeys: &[i64],
     dstates: &[f64],
 ) {
-    let mut cacckeys = [0i64; 32];
-    let mut caccs = [0.0; 32];
-    let mut dacckeys = [0i64; 32];
-    let mut daccs = [0.0; 32];
-    let p = keys(&mut cacckeys);
-    let q = list(&mut caccs);
-    let r = keys(&mut dacckeys);
-    let s = list(&mut daccs);
+    let mut c = [0i64; 32];
+    let mut x = [0.0; 32];
+    let mut d = [0i64; 32];
+    let mut y = [0.0; 32];
+    let cacckeys = replay::full_keys(&mut c);
+    let caccs = replay::full_list(&mut x);
+    let dacckeys = replay::full_keys(&mut d);
+    let daccs = replay::full_list(&mut y);
     run(
         which,
         degree,
@@ -423,10 +342,10 @@ fn with_accelerometers(
         cstates,
         dkeys,
         dstates,
-        &cacckeys[0..p],
-        &caccs[0..q],
-        &dacckeys[0..r],
-        &daccs[0..s],
+        cacckeys,
+        caccs,
+        dacckeys,
+        daccs,
     );
 }
 
@@ -439,14 +358,14 @@ fn with_states(
     times: &[f64],
     added: &[f64],
 ) {
-    let mut ckeys = [0i64; 32];
-    let mut cstates = [0.0; 200];
-    let mut dkeys = [0i64; 32];
-    let mut dstates = [0.0; 200];
-    let p = keys(&mut ckeys);
-    let q = list(&mut cstates);
-    let r = keys(&mut dkeys);
-    let s = list(&mut dstates);
+    let mut c = [0i64; 32];
+    let mut x = [0.0; 200];
+    let mut d = [0i64; 32];
+    let mut y = [0.0; 200];
+    let ckeys = replay::full_keys(&mut c);
+    let cstates = replay::full_list(&mut x);
+    let dkeys = replay::full_keys(&mut d);
+    let dstates = replay::full_list(&mut y);
     with_accelerometers(
         which,
         degree,
@@ -455,34 +374,26 @@ fn with_states(
         b,
         times,
         added,
-        &ckeys[0..p],
-        &cstates[0..q],
-        &dkeys[0..r],
-        &dstates[0..s],
+        ckeys,
+        cstates,
+        dkeys,
+        dstates,
     );
 }
 
 fn call(which: u64) {
-    let mut field = [0.0; 80];
-    let mut a = [0.0; 40];
-    let mut b = [0.0; 40];
-    let mut times = [0.0; 40];
-    let mut added = [0.0; 700];
-    let degree = at_most(replay::number(), 1000000);
-    let f = list(&mut field);
-    let p = list(&mut a);
-    let q = list(&mut b);
-    let n = list(&mut times);
-    let k = list(&mut added);
-    with_states(
-        which,
-        degree,
-        &field[0..f],
-        &a[0..p],
-        &b[0..q],
-        &times[0..n],
-        &added[0..k],
-    );
+    let mut f = [0.0; 80];
+    let mut x = [0.0; 40];
+    let mut y = [0.0; 40];
+    let mut t = [0.0; 40];
+    let mut g = [0.0; 700];
+    let degree = replay::count(1000000);
+    let field = replay::full_list(&mut f);
+    let a = replay::full_list(&mut x);
+    let b = replay::full_list(&mut y);
+    let times = replay::full_list(&mut t);
+    let added = replay::full_list(&mut g);
+    with_states(which, degree, field, a, b, times, added);
 }
 
 // One call; false at the end of the list.
