@@ -1,7 +1,6 @@
 -- The rows that the arrays hold are those of the definition. Assumes nothing.
 use Rattle.laws.specs.Tables.{tri, tri-mono}
 use Rattle.laws.specs.Floats.{_⊗_, zero64}
-use Rattle.laws.specs.WholeNumbers.{number}
 use Rattle.series.specs.Arrays.{from, at, Begins, Has}
 use Rattle.series.specs.Rows.{Tables, stepAt, nextRow, scaledRow, legendreBy, derivedBy, Holds, Room}
 use Rattle.series.specs.Legendre.{unscale, derivedRow}
@@ -59,8 +58,8 @@ pub d-is : (T : Tables) (t u : Float) (n : ℕ) {p d : List Float} → Has (n + 
 d-is T t u n hp hd =
     has-as hd (λ m l. der-cong n (from (T .lower) (tri n)) (from (T .upper) (tri n)) (λ i h. hp .set i (omega arith)) m (omega arith))
 
-pub row-sums-are : (f : Evaluation) (n : ℕ) {x y k p d : List Float} {v lat lon : Float} → Has (n + 1) (cosines (f .lon)) x → Has (n + 1) (sines (f .lon)) y → Has (n + 1) number k → Has (n + 1) (legendreBy (f .tables) (f .t) (f .u) n) p → Has (n + 1) (derivedBy (f .tables) (f .t) (f .u) n) d → RowSums (degreeOf (from (f .c) (tri n)) (from (f .s) (tri n)) (at x) (at y) (at k) (at p) (at d)) (n + 1) v lat lon → RowSums (degrees f n) (n + 1) v lat lon
-row-sums-are f n hx hy hk hp hd s = sums-as (hx .set) (hy .set) (hk .set) (hp .set) (hd .set) s
+pub row-sums-are : (f : Evaluation) (n : ℕ) {x y p d : List Float} {v lat lon : Float} → Has (n + 1) (cosines (f .lon)) x → Has (n + 1) (sines (f .lon)) y → Has (n + 1) (legendreBy (f .tables) (f .t) (f .u) n) p → Has (n + 1) (derivedBy (f .tables) (f .t) (f .u) n) d → RowSums (degreeOf (from (f .c) (tri n)) (from (f .s) (tri n)) (at x) (at y) (at p) (at d)) (n + 1) v lat lon → RowSums (degrees f n) (n + 1) v lat lon
+row-sums-are f n hx hy hp hd s = sums-as (hx .set) (hy .set) (hp .set) (hd .set) s
 
 -- what is long enough for a degree is so for a lower one
 pub room-less : {T : Tables} (N n : ℕ) → Room N T → n ≤ N → Room n T

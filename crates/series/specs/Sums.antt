@@ -13,18 +13,17 @@ use Rattle.series.specs.Arrays.{from, total}
 use Rattle.series.specs.Legendre.{legendre, derived}
 use Rattle.series.specs.Rows.{Tables, legendreBy, derivedBy}
 
--- one degree, by order m: the coefficients, cos mλ, sin mλ, m, and the Legendre row with its derivative
+-- one degree, by order m: the coefficients, cos mλ, sin mλ, and the Legendre row with its derivative
 pub record Degree : Type 0 where
   pub c : ℕ → Float
   pub s : ℕ → Float
   pub x : ℕ → Float
   pub y : ℕ → Float
-  pub k : ℕ → Float
   pub p : ℕ → Float
   pub d : ℕ → Float
 
-abbrev pub degreeOf : (ℕ → Float) → (ℕ → Float) → (ℕ → Float) → (ℕ → Float) → (ℕ → Float) → (ℕ → Float) → (ℕ → Float) → Degree
-degreeOf c s x y k p d = record { c = c; s = s; x = x; y = y; k = k; p = p; d = d }
+abbrev pub degreeOf : (ℕ → Float) → (ℕ → Float) → (ℕ → Float) → (ℕ → Float) → (ℕ → Float) → (ℕ → Float) → Degree
+degreeOf c s x y p d = record { c = c; s = s; x = x; y = y; p = p; d = d }
 
 abbrev pub even : Degree → ℕ → Float
 even g m = g .c m ⊗ g .x m ⊕ g .s m ⊗ g .y m
@@ -39,7 +38,7 @@ abbrev pub termLat : Degree → ℕ → Float
 termLat g m = g .d m ⊗ even g m
 
 abbrev pub termLon : Degree → ℕ → Float
-termLon g m = g .p m ⊗ g .k m ⊗ odd g m
+termLon g m = g .p m ⊗ number m ⊗ odd g m
 
 -- the sums of degree n of a series over its orders
 abbrev pub rowV : (ℕ → Degree) → ℕ → Float
@@ -80,7 +79,7 @@ sines lon m = sine (number m ⊗ lon)
 
 -- the published series of coefficients c, s, lists in index order
 abbrev pub published : Float → Float → Float → List Float → List Float → ℕ → Degree
-published t u lon c s n = degreeOf (from c (tri n)) (from s (tri n)) (cosines lon) (sines lon) number (legendre t u n) (derived (legendre t u) n)
+published t u lon c s n = degreeOf (from c (tri n)) (from s (tri n)) (cosines lon) (sines lon) (legendre t u n) (derived (legendre t u) n)
 
 -- what an evaluation from given tables is made of: sine and cosine of the latitude, the longitude, the coefficients
 pub record Evaluation : Type 0 where
@@ -96,7 +95,7 @@ evaluation T t u lon c s = record { tables = T; t = t; u = u; lon = lon; c = c; 
 
 abbrev pub degrees : Evaluation → ℕ → Degree
 degrees f n =
-    degreeOf (from (f .c) (tri n)) (from (f .s) (tri n)) (cosines (f .lon)) (sines (f .lon)) number (legendreBy (f .tables) (f .t) (f .u) n) (derivedBy (f .tables) (f .t) (f .u) n)
+    degreeOf (from (f .c) (tri n)) (from (f .s) (tri n)) (cosines (f .lon)) (sines (f .lon)) (legendreBy (f .tables) (f .t) (f .u) n) (derivedBy (f .tables) (f .t) (f .u) n)
 
 -- ---- words of the contracts
 

@@ -210,16 +210,14 @@ fn unscale_row(degree: usize, u: f64, r: &mut [f64; 184])
     }
 }
 
-// m, and cosine and sine of m times the longitude, by m.
-fn order_rows(degree: usize, lon: f64, f: &mut [f64; 184], x: &mut [f64; 184], y: &mut [f64; 184])
-    requires { ⌜ (degree ≤ 180) × (length (now f) ≡ 184) × (length (now x) ≡ 184) × (length (now y) ≡ 184) ⌝ }
-    ensures { λ _. ⌜ Has (degree + 1) number (now (f .exit)) × Has (degree + 1) (cosines lon) (now (x .exit)) × Has (degree + 1) (sines lon) (now (y .exit)) ⌝ }
+// Cosine and sine of m times the longitude, by m.
+fn order_rows(degree: usize, lon: f64, x: &mut [f64; 184], y: &mut [f64; 184])
+    requires { ⌜ (degree ≤ 180) × (length (now x) ≡ 184) × (length (now y) ≡ 184) ⌝ }
+    ensures { λ _. ⌜ Has (degree + 1) (cosines lon) (now (x .exit)) × Has (degree + 1) (sines lon) (now (y .exit)) ⌝ }
 {
     let mut m = 0;
     while m <= degree {
-        let k = float_of(m);
-        let z = numbers::sine_cosine(k * lon);
-        f[m] = k;
+        let z = numbers::sine_cosine(float_of(m) * lon);
         x[m] = z.cosine;
         y[m] = z.sine;
         m += 1;
@@ -286,16 +284,16 @@ fn row_sums(
     s: &[f64],
     x: &[f64; 184],
     y: &[f64; 184],
-    f: &[f64; 184],
     p: &[f64; 184],
     d: &[f64; 184],
 ) -> Sums
-    requires { ⌜ (n ≤ 180) × (k + n < length (now c)) × (k + n < length (now s)) × (length (now x) ≡ 184) × (length (now y) ≡ 184) × (length (now f) ≡ 184) × (length (now p) ≡ 184) × (length (now d) ≡ 184) ⌝ }
-    ensures { λ r. ⌜ RowSums (degreeOf (from (now (c .entry)) k) (from (now (s .entry)) k) (at (now (x .entry))) (at (now (y .entry))) (at (now (f .entry))) (at (now (p .entry))) (at (now (d .entry)))) (n + 1) (r .v) (r .lat) (r .lon) ⌝ }
+    requires { ⌜ (n ≤ 180) × (k + n < length (now c)) × (k + n < length (now s)) × (length (now x) ≡ 184) × (length (now y) ≡ 184) × (length (now p) ≡ 184) × (length (now d) ≡ 184) ⌝ }
+    ensures { λ r. ⌜ RowSums (degreeOf (from (now (c .entry)) k) (from (now (s .entry)) k) (at (now (x .entry))) (at (now (y .entry))) (at (now (p .entry))) (at (now (d .entry)))) (n + 1) (r .v) (r .lat) (r .lon) ⌝ }
 {
     let mut v = 0.0;
     let mut lat = 0.0;
     let mut lon = 0.0;
+    let mut order = 0.0;
     let mut m = 0;
     while m <= n {
         let cm = c[k + m];
@@ -306,7 +304,8 @@ fn row_sums(
         let even = cm * xm + sm * ym;
         v = v + pm * even;
         lat = lat + d[m] * even;
-        lon = lon + pm * f[m] * (sm * xm - cm * ym);
+        lon = lon + pm * order * (sm * xm - cm * ym);
+        order = order + 1.0;
         m += 1;
     }
     Sums {
@@ -342,21 +341,20 @@ fn one_row(
     x: &[f64; 184],
     y: &[f64; 184],
     r: &[f64; 184],
-    f: &[f64; 184],
     q1: &[f64; 184],
     q2: &mut [f64; 184],
     p: &mut [f64; 184],
     d: &mut [f64; 184],
     sum: Running,
 ) -> Running
-    requires { ⌜ (n ≤ 180) × Room n (tablesOf (now a) (now b) (now lower) (now upper) (now heads)) × FieldRoom n (evaluation (tablesOf (now a) (now b) (now lower) (now upper) (now heads)) t u lon (now c) (now s)) × Has (n + 1) (unscale u) (now r) × Has (n + 1) number (now f) × Holds (tablesOf (now a) (now b) (now lower) (now upper) (now heads)) t (suc n) (now q1) × Holds (tablesOf (now a) (now b) (now lower) (now upper) (now heads)) t n (now q2) × (length (now p) ≡ 184) × (length (now d) ≡ 184) × AllSums (evaluation (tablesOf (now a) (now b) (now lower) (now upper) (now heads)) t u lon (now c) (now s)) q n (sum .v) (sum .r) (sum .lat) (sum .lon) (sum .qn) × Has (n + 1) (cosines lon) (now x) × Has (n + 1) (sines lon) (now y) ⌝ }
+    requires { ⌜ (n ≤ 180) × Room n (tablesOf (now a) (now b) (now lower) (now upper) (now heads)) × FieldRoom n (evaluation (tablesOf (now a) (now b) (now lower) (now upper) (now heads)) t u lon (now c) (now s)) × Has (n + 1) (unscale u) (now r) × Holds (tablesOf (now a) (now b) (now lower) (now upper) (now heads)) t (suc n) (now q1) × Holds (tablesOf (now a) (now b) (now lower) (now upper) (now heads)) t n (now q2) × (length (now p) ≡ 184) × (length (now d) ≡ 184) × AllSums (evaluation (tablesOf (now a) (now b) (now lower) (now upper) (now heads)) t u lon (now c) (now s)) q n (sum .v) (sum .r) (sum .lat) (sum .lon) (sum .qn) × Has (n + 1) (cosines lon) (now x) × Has (n + 1) (sines lon) (now y) ⌝ }
     ensures { λ z. ⌜ Holds (tablesOf (now (a .entry)) (now (b .entry)) (now (lower .entry)) (now (upper .entry)) (now (heads .entry))) t (suc (suc n)) (now (q2 .exit)) × (length (now (p .exit)) ≡ 184) × (length (now (d .exit)) ≡ 184) × AllSums (evaluation (tablesOf (now (a .entry)) (now (b .entry)) (now (lower .entry)) (now (upper .entry)) (now (heads .entry))) t u lon (now (c .entry)) (now (s .entry))) q (n + 1) (z .v) (z .r) (z .lat) (z .lon) (z .qn) ⌝ }
 {
     let w = float_of(n + 1);
     let k = tri_of(n);
     legendre_row(n, k, t, heads[n], a, b, r, q1, q2, p);
     derived_row(n, k, lower, upper, p, d);
-    let z = row_sums(n, k, c, s, x, y, f, p, d);
+    let z = row_sums(n, k, c, s, x, y, p, d);
     Running {
         v: sum.v + sum.qn * z.v,
         r: sum.r - w * sum.qn * z.v,
@@ -383,13 +381,12 @@ fn all_rows(
     x: &[f64; 184],
     y: &[f64; 184],
     r: &[f64; 184],
-    f: &[f64; 184],
     qa: &mut [f64; 184],
     qb: &mut [f64; 184],
     p: &mut [f64; 184],
     d: &mut [f64; 184],
 ) -> Running
-    requires { ⌜ (degree ≤ 180) × Room degree (tablesOf (now a) (now b) (now lower) (now upper) (now heads)) × FieldRoom degree (evaluation (tablesOf (now a) (now b) (now lower) (now upper) (now heads)) t u lon (now c) (now s)) × Has (degree + 1) (unscale u) (now r) × Has (degree + 1) number (now f) × Holds (tablesOf (now a) (now b) (now lower) (now upper) (now heads)) t 0 (now qa) × Holds (tablesOf (now a) (now b) (now lower) (now upper) (now heads)) t 1 (now qb) × (length (now p) ≡ 184) × (length (now d) ≡ 184) × Has (degree + 1) (cosines lon) (now x) × Has (degree + 1) (sines lon) (now y) ⌝ }
+    requires { ⌜ (degree ≤ 180) × Room degree (tablesOf (now a) (now b) (now lower) (now upper) (now heads)) × FieldRoom degree (evaluation (tablesOf (now a) (now b) (now lower) (now upper) (now heads)) t u lon (now c) (now s)) × Has (degree + 1) (unscale u) (now r) × Holds (tablesOf (now a) (now b) (now lower) (now upper) (now heads)) t 0 (now qa) × Holds (tablesOf (now a) (now b) (now lower) (now upper) (now heads)) t 1 (now qb) × (length (now p) ≡ 184) × (length (now d) ≡ 184) × Has (degree + 1) (cosines lon) (now x) × Has (degree + 1) (sines lon) (now y) ⌝ }
     ensures { λ z. ⌜ AllSums (evaluation (tablesOf (now (a .entry)) (now (b .entry)) (now (lower .entry)) (now (upper .entry)) (now (heads .entry))) t u lon (now (c .entry)) (now (s .entry))) q (degree + 1) (z .v) (z .r) (z .lat) (z .lon) (z .qn) ⌝ }
 {
     let mut sum = Running {
@@ -400,7 +397,7 @@ fn all_rows(
         qn: 1.0,
     };
     let mut n = 0;
-    while n < degree {
+    while n <= degree {
         sum = one_row(
             n,
             q,
@@ -417,13 +414,15 @@ fn all_rows(
             x,
             y,
             r,
-            f,
             qb,
             qa,
             p,
             d,
             sum,
         );
+        if n == degree {
+            return sum;
+        }
         sum = one_row(
             n + 1,
             q,
@@ -440,7 +439,6 @@ fn all_rows(
             x,
             y,
             r,
-            f,
             qa,
             qb,
             p,
@@ -448,31 +446,6 @@ fn all_rows(
             sum,
         );
         n += 2;
-    }
-    if n == degree {
-        return one_row(
-            n,
-            q,
-            t,
-            u,
-            lon,
-            a,
-            b,
-            lower,
-            upper,
-            heads,
-            c,
-            s,
-            x,
-            y,
-            r,
-            f,
-            qb,
-            qa,
-            p,
-            d,
-            sum,
-        );
     }
     sum
 }
@@ -503,7 +476,6 @@ fn streamed(
     ensures { λ z. ⌜ z ≡ totalsOf (degrees (evaluation (tablesOf (now (a .entry)) (now (b .entry)) (now (lower .entry)) (now (upper .entry)) (now (heads .entry))) t u lon (now (c .entry)) (now (s .entry)))) q (degree + 1) ⌝ }
 {
     let mut r = [0.0; 184];
-    let mut f = [0.0; 184];
     let mut x = [0.0; 184];
     let mut y = [0.0; 184];
     let mut qa = [0.0; 184];
@@ -511,7 +483,7 @@ fn streamed(
     let mut p = [0.0; 184];
     let mut d = [0.0; 184];
     unscale_row(degree, u, &mut r);
-    order_rows(degree, lon, &mut f, &mut x, &mut y);
+    order_rows(degree, lon, &mut x, &mut y);
     let z = all_rows(
         degree,
         q,
@@ -528,7 +500,6 @@ fn streamed(
         &x,
         &y,
         &r,
-        &f,
         &mut qa,
         &mut qb,
         &mut p,
@@ -764,8 +735,11 @@ fn compute_rows(
     ensures { λ _. ⌜ (now (p .exit) ≡ rows (legendreBy (tablesOf (now (a .entry)) (now (b .entry)) (now (lower .entry)) (now (upper .entry)) (now (heads .entry))) t u) (degree + 1)) × (now (dp .exit) ≡ rows (derivedBy (tablesOf (now (a .entry)) (now (b .entry)) (now (lower .entry)) (now (upper .entry)) (now (heads .entry))) t u) (degree + 1)) ⌝ }
 {
     let mut n = 0;
-    while n < degree {
+    while n <= degree {
         compute_one(n, t, u, a, b, lower, upper, heads, r, qb, qa, x, d, p, dp);
+        if n == degree {
+            return;
+        }
         compute_one(
             n + 1,
             t,
@@ -784,9 +758,6 @@ fn compute_rows(
             dp,
         );
         n += 2;
-    }
-    if n == degree {
-        compute_one(n, t, u, a, b, lower, upper, heads, r, qb, qa, x, d, p, dp);
     }
 }
 

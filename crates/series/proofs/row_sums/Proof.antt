@@ -1,6 +1,8 @@
 use Rattle.series.specs.Arrays.{total, at, from}
 use Rattle.series.specs.Sums.{RowSums, degreeOf}
-use Rattle.series.proofs.Added.{sums-more}
+use Rattle.laws.specs.Floats.{_⊕_, one64}
+use Rattle.laws.specs.WholeNumbers.{number}
+use Rattle.series.proofs.Added.{sums-more, number-first, number-next}
 use Prim.Native.Nat.{ℕ, zero, suc, _+_, _-_, _*_, _≤_, _<_}
 use mathlib.Core.Path.{_≡_, refl, sym, ap, ap₂, _∙_, subst}
 use mathlib.Core.List.{List}
@@ -14,22 +16,25 @@ use Rattle.series.proofs.row_sums.Statement.{statement}
 use Rattle.series.proofs.row_sums.Tie as tie
 
 abbrev Inv-loop : tie.InvT-loop
-Inv-loop n k c s x y f p d v₀ lat₀ lon₀ m₀ v lat lon m = (m ≤ n + 1) × RowSums (degreeOf (from c k) (from s k) (at x) (at y) (at f) (at p) (at d)) m v lat lon
+Inv-loop n k c s x y p d v₀ lat₀ lon₀ order₀ m₀ v lat lon order m =
+    (m ≤ n + 1) × (order ≡ number m) × RowSums (degreeOf (from c k) (from s k) (at x) (at y) (at p) (at d)) m v lat lon
 
 abbrev μ-loop : tie.MeasureT-loop
-μ-loop n k c s x y f p d v₀ lat₀ lon₀ m₀ v lat lon m = n + 1 - m
+μ-loop n k c s x y p d v₀ lat₀ lon₀ order₀ m₀ v lat lon order m = n + 1 - m
 
 loop-holds : tie.Need-loop-holds Inv-loop μ-loop
 unfolding total
-loop-holds c = (omega arith, record { sv = refl; slat = refl; slon = refl })
+loop-holds c = (omega arith, number-first, record { sv = refl; slat = refl; slon = refl })
 
 loop-again : tie.Need-loop-again Inv-loop μ-loop
-loop-again c = (omega arith, sums-more (c .before .before .before .before .before .before .before .before .loop .inv .1))
+loop-again c =
+    let h = c .before .before .before .before .before .before .before .loop in
+    (omega arith, ap (λ (x : Float). x ⊕ one64) (h .inv .1) ∙ number-next (h .m) (omega arith), sums-more (h .inv .2) (h .inv .1))
 
 returns : tie.Need-returns Inv-loop μ-loop
-returns c = let e : c .before .loop .m ≡ c .before .before .args .n + 1 = omega arith in rw (← e) (c .before .loop .inv .1)
+returns c = let e : c .before .loop .m ≡ c .before .before .args .n + 1 = omega arith in rw (← e) (c .before .loop .inv .2)
 
 pub row-sums-spec : {M : Type 1} → statement M
 row-sums-spec =
     tie.close
-    (tie.spec Inv-loop μ-loop loop-holds (λ c. omega arith) (λ c. omega arith) (λ c. omega arith) (λ c. omega arith) (λ c. omega arith) (λ c. omega arith) (λ c. omega arith) (λ c. omega arith) (λ c. omega arith) (λ c. omega arith) (λ c. omega arith) (λ c. omega arith) (λ c. omega arith) (λ c. omega arith) (λ c. omega arith) (λ c. omega arith) (λ c. omega arith) (λ c. omega arith) loop-again returns)
+    (tie.spec Inv-loop μ-loop loop-holds (λ c. omega arith) (λ c. omega arith) (λ c. omega arith) (λ c. omega arith) (λ c. omega arith) (λ c. omega arith) (λ c. omega arith) (λ c. omega arith) (λ c. omega arith) (λ c. omega arith) (λ c. omega arith) (λ c. omega arith) (λ c. omega arith) (λ c. omega arith) (λ c. omega arith) (λ c. omega arith) loop-again returns)

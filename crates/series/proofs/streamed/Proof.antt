@@ -11,16 +11,16 @@ use Rattle.series.proofs.streamed.Tie as tie
 
 all-rows-requires : tie.Need-all-rows-requires
 all-rows-requires c κs =
-    let o = c .before .before .before .before .before .before .before .before in
-    let s = o .before .before .before .before .before .before .before .before .before .before .before .before .before in
+    let o = c .before .before .before .before .before .before .before in
+    let s = o .before .before .before .before .before .before .before .before .before .before .before .before in
     let a = s .args in
     let T : Tables = tablesOf (a .a .now) (a .b .now) (a .lower .now) (a .upper .now) (a .heads .now) in
     let g = o .order-rows .ensures in
-    (s .pre .0, s .pre .1, s .pre .2, o .before .before .before .before .unscale-row .ensures, g .0, zero-row T (a .t) 0 (omega arith), zero-row T (a .t) 1 (omega arith), refl, refl, g .1, g .2)
+    (s .pre .0, s .pre .1, s .pre .2, o .before .before .before .unscale-row .ensures, zero-row T (a .t) 0 (omega arith), zero-row T (a .t) 1 (omega arith), refl, refl, g .0, g .1)
 
 returns : tie.Need-returns
 returns c =
-    let a = c .before .before .before .before .before .before .before .before .before .before .before .before .before .before .before .before .before .before .before .before .before .before .args in
+    let a = c .before .before .before .before .before .before .before .before .before .before .before .before .before .before .before .before .before .before .before .before .args in
     let T : Tables = tablesOf (a .a .now) (a .b .now) (a .lower .now) (a .upper .now) (a .heads .now) in
     total-of (evaluation T (a .t) (a .u) (a .lon) (a .c .now) (a .s .now)) (a .q) (a .degree + 1) (c .all-rows .ensures)
 
