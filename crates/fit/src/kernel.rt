@@ -16,7 +16,7 @@ ghost use Rattle.numbers.specs.Seconds.{wholeSecond};
 ghost use Rattle.slices.specs.Slices.{lookup};
 ghost use Rattle.finality.specs.Brackets.{covers};
 ghost use Rattle.integrate.specs.Steps.{timeOf};
-ghost use Rattle.integrate.specs.Room.{stateIn, Only, Orbit};
+ghost use Rattle.integrate.specs.Room.{Only, Orbit};
 ghost use Rattle.integrate.specs.Work.{Placed};
 ghost use Rattle.integrate.specs.Force.{model, frontSize, fullForce, attractionOf, runOf};
 ghost use Rattle.integrate.specs.declared.kernel.Force.the-variants.{Full, J2};
@@ -36,24 +36,6 @@ pub enum Fitted {
     Refused(u8),
 }
 
-fn state_in(l: &[f64], i: usize) -> integrate::kernel::State
-    requires { ⌜ i + 6 ≤ length (now l) ⌝ }
-    ensures { λ r. ⌜ r ≡ stateIn (now (l .entry)) i ⌝ }
-{
-    integrate::kernel::State {
-        position: vectors::Vector {
-            x: l[i],
-            y: l[i + 1],
-            z: l[i + 2],
-        },
-        velocity: vectors::Vector {
-            x: l[i + 3],
-            y: l[i + 4],
-            z: l[i + 5],
-        },
-    }
-}
-
 // Where the second of a time stands among the keys.
 fn place(keys: &[i64], t: f64) -> slices::Found
     ensures { λ r. ⌜ (risingSeconds (now (keys .entry)) ≡ true → r ≡ lookup (now (keys .entry)) (wholeSecond t)) ⌝ }
@@ -70,7 +52,7 @@ fn state_for(keys: &[i64], states: &[f64], t: f64) -> Held
     match found {
         slices::Found::At(i) => {
             if i < keys.len() {
-                let s = state_in(states, 6 * i);
+                let s = integrate::kernel::state_in(states, 6 * i);
                 return Held::Known(s);
             }
             Held::Missing

@@ -81,8 +81,8 @@ fn turn(
     requires { ⌜ Able (given (model degree (now field) (now times) (now added)) (now a) (now b) (keyed (now cacckeys) (now caccs)) (keyed (now dacckeys) (now daccs)) windows (now obstimes) (now obsvalues) (now good)) base (now outtimes) (now outraws) (now s) × (i < length (now obstimes)) × (count ≤ i) ⌝ }
     ensures { λ r. ⌜ ((s₀ : List Float) → SoFar (given (model degree (now (field .entry)) (now (times .entry)) (now (added .entry))) (now (a .entry)) (now (b .entry)) (keyed (now (cacckeys .entry)) (now (caccs .entry))) (keyed (now (dacckeys .entry)) (now (daccs .entry))) windows (now (obstimes .entry)) (now (obsvalues .entry)) (now (good .entry))) base i s₀ (now (outtimes .entry)) (now (outraws .entry)) (now (s .entry)) count → SoFar (given (model degree (now (field .entry)) (now (times .entry)) (now (added .entry))) (now (a .entry)) (now (b .entry)) (keyed (now (cacckeys .entry)) (now (caccs .entry))) (keyed (now (dacckeys .entry)) (now (daccs .entry))) windows (now (obstimes .entry)) (now (obsvalues .entry)) (now (good .entry))) base (i + 1) s₀ (now (outtimes .exit)) (now (outraws .exit)) (now (s .exit)) r) ⌝ }
 {
-    let t = sighting::element(obstimes, i);
-    let observed = sighting::element(obsvalues, i);
+    let t = integrate::kernel::element(obstimes, i);
+    let observed = integrate::kernel::element(obsvalues, i);
     let byte = good[i];
     let found = look(
         &s[..],

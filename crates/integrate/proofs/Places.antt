@@ -6,13 +6,12 @@ use Prim.Native.Nat.{ℕ, zero, suc, _+_, _*_, _-_, _/_, _%_, _≤_, _<_}
 use native.Mathlib.Omega.{arith}
 use lib.Dec.{eqb}
 use lib.Ieee.{Float, nan}
-use lib.ListN.{length, getD, set, length-set}
+use lib.ListN.{length, getD, set, length-set, List·getD-eq-default}
 use lib.Seq.{getD-set-same, getD-set-other}
 use borrow.Author.Tests.{eqb-true, eqb-false}
 use Rattle.vectors.specs.declared.Vector.{Vector}
 use Rattle.integrate.specs.declared.kernel.State.{State}
-use Rattle.integrate.specs.Room.{Run}
-use Rattle.integrate.specs.Room.{Only, Holds3, Orbit}
+use Rattle.integrate.specs.Room.{Run, stateIn, Only, Holds3, Orbit}
 use Rattle.integrate.specs.Work.{Placed, Stored}
 
 -- a case on a test, with the equation in each case
@@ -88,3 +87,12 @@ pub orbit-first : (s s' : List Float) (at : ℕ) (run : Run) (state : State) →
 orbit-first s s' at run state w e =
     let q : at ≡ at + 6 * 0 = omega arith in
     orbit-more s s' at run 0 state (orbit-none s at run) (subst (λ (m : ℕ). Stored s s' m state) q w) e
+
+-- ---- past the end
+
+past : (l : List Float) (i k : ℕ) → length l ≤ i → length l ≤ k → getD l i nan ≡ getD l k nan
+past l i k h e = List·getD-eq-default l nan h ∙ sym (List·getD-eq-default l nan e)
+
+pub state-past : (l : List Float) (i : ℕ) → length l ≤ i → stateIn l (length l) ≡ stateIn l i
+unfolding stateIn
+state-past l i h = rw (past l (length l) i (omega arith) h, past l (length l + 1) (i + 1) (omega arith) (omega arith), past l (length l + 2) (i + 2) (omega arith) (omega arith), past l (length l + 3) (i + 3) (omega arith) (omega arith), past l (length l + 4) (i + 4) (omega arith) (omega arith), past l (length l + 5) (i + 5) (omega arith) (omega arith))

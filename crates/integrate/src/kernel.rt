@@ -54,7 +54,7 @@ const PI: f64 = 3.141592653589793;
 const STEP: f64 = 2.0;
 
 // An element, NaN past the end.
-fn at(s: &[f64], i: usize) -> f64
+pub fn element(s: &[f64], i: usize) -> f64
     ensures { λ r. ⌜ r ≡ getD (now (s .entry)) i nan ⌝ }
 {
     if i < s.len() { s[i] } else { 0.0 / 0.0 }
@@ -143,7 +143,15 @@ fn full_pull(
     ensures { λ r. ⌜ Pulled (model degree (now (field .entry)) (now (times .entry)) (now (added .entry))) (now (a .entry)) (now (b .entry)) (now (w .entry)) (now (w .exit)) known t x r ⌝ }
 {
     let here = refresh(degree, field, times, added, known, t, base, w);
-    let g = forces::kernel::gravity(degree, at(field, 0), at(field, 1), a, b, &w[0..base], x);
+    let g = forces::kernel::gravity(
+        degree,
+        element(field, 0),
+        element(field, 1),
+        a,
+        b,
+        &w[0..base],
+        x,
+    );
     let moment = here.moment;
     let pull = vectors::add(g, forces::kernel::tides_at(moment, x));
     Push { known: here, pull }
@@ -365,21 +373,32 @@ pub fn time(t0: f64, k: usize) -> f64
     t0 + std::num::nearest_u64_to_f64(k as u64) * STEP
 }
 
-fn state_in(l: &[f64], i: usize) -> State
-    requires { ⌜ i + 6 ≤ length (now l) ⌝ }
+// Six numbers of a list, from a place in it or at its end.
+fn state_within(l: &[f64], i: usize) -> State
+    requires { ⌜ i ≤ length (now l) ⌝ }
     ensures { λ r. ⌜ r ≡ stateIn (now (l .entry)) i ⌝ }
 {
-    State {
-        position: vectors::Vector {
-            x: l[i],
-            y: l[i + 1],
-            z: l[i + 2],
-        },
-        velocity: vectors::Vector {
-            x: l[i + 3],
-            y: l[i + 4],
-            z: l[i + 5],
-        },
+    let position = vectors::Vector {
+        x: element(l, i),
+        y: element(l, i + 1),
+        z: element(l, i + 2),
+    };
+    let velocity = vectors::Vector {
+        x: element(l, i + 3),
+        y: element(l, i + 4),
+        z: element(l, i + 5),
+    };
+    State { position, velocity }
+}
+
+// The same from any place, NaN past the end.
+pub fn state_in(l: &[f64], i: usize) -> State
+    ensures { λ r. ⌜ r ≡ stateIn (now (l .entry)) i ⌝ }
+{
+    if i < l.len() {
+        state_within(l, i)
+    } else {
+        state_within(l, l.len())
     }
 }
 

@@ -1,34 +1,14 @@
 // One epoch over lent lists: its look-ups, and its record.
 ghost use mathlib.Core.Path.{_≡_};
-ghost use Prim.Native.Nat.{_*_, _≤_};
+ghost use Prim.Native.Nat.{_≤_};
 ghost use lib.ListN.{length, take};
 ghost use Rattle.numbers.specs.Seconds.{wholeSecond};
 ghost use Rattle.finality.specs.Tables.{find as findIn};
 ghost use Rattle.integrate.specs.Force.{model};
-ghost use Rattle.integrate.specs.Room.{stateIn};
 ghost use Rattle.sighting.specs.Kept.{states as statesOf, numbers as numbersOf, keyed, observation};
 ghost use Rattle.sighting.specs.Work.{givenState, sightingOf, Usable};
 ghost use Rattle.residuals.specs.Inputs.{inputs};
 ghost use Rattle.residuals.specs.Work.{Searchable, Tried};
-
-// State i of those that stand end to end.
-fn state_in(s: &[f64], i: usize) -> integrate::kernel::State
-    requires { ⌜ i ≤ 200000 ⌝ }
-    ensures { λ r. ⌜ r ≡ stateIn (now (s .entry)) (6 * i) ⌝ }
-{
-    let k = 6 * i;
-    let position = vectors::Vector {
-        x: sighting::element(s, k),
-        y: sighting::element(s, k + 1),
-        z: sighting::element(s, k + 2),
-    };
-    let velocity = vectors::Vector {
-        x: sighting::element(s, k + 3),
-        y: sighting::element(s, k + 4),
-        z: sighting::element(s, k + 5),
-    };
-    integrate::kernel::State { position, velocity }
-}
 
 fn find_state(keys: &[i64], states: &[f64], second: numbers::GpsSecond) -> sighting::StateFound
     requires { ⌜ Searchable (now keys) ⌝ }
@@ -38,7 +18,7 @@ fn find_state(keys: &[i64], states: &[f64], second: numbers::GpsSecond) -> sight
     let place = slices::find(keys, key);
     match place {
         slices::Found::At(i) => {
-            let state = state_in(states, i);
+            let state = integrate::kernel::state_in(states, 6 * i);
             sighting::StateFound { there: true, state }
         }
         slices::Found::Nothing => sighting::no_state(),

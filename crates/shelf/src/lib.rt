@@ -6,7 +6,6 @@ ghost use lib.ListN.{length};
 ghost use Rattle.laws.specs.WholeNumbers.{number};
 ghost use Rattle.finality.specs.Brackets.{covers};
 ghost use Rattle.integrate.specs.Force.{model, frontSize, fullForce};
-ghost use Rattle.integrate.specs.Room.{stateIn};
 ghost use Rattle.fit.specs.Fit.{stateFor};
 ghost use Rattle.windows.specs.Windows.{windowBy, windowsServe};
 ghost use Rattle.shelf.specs.Shelf.{Looked, Searched, InSlot, InSlots, BothFit};
@@ -26,24 +25,6 @@ fn count_of(x: f64) -> usize
     0
 }
 
-fn state_in(l: &[f64], i: usize) -> integrate::kernel::State
-    requires { ⌜ i + 6 ≤ length (now l) ⌝ }
-    ensures { λ r. ⌜ r ≡ stateIn (now (l .entry)) i ⌝ }
-{
-    integrate::kernel::State {
-        position: vectors::Vector {
-            x: l[i],
-            y: l[i + 1],
-            z: l[i + 2],
-        },
-        velocity: vectors::Vector {
-            x: l[i + 3],
-            y: l[i + 4],
-            z: l[i + 5],
-        },
-    }
-}
-
 // The state at a second among the n of a slot, by halving.
 fn search(s: &[f64], at: usize, n: usize, second: f64) -> fit::kernel::Held
     requires { ⌜ (n ≤ 3500) × (at + 24599 ≤ length (now s)) ⌝ }
@@ -59,7 +40,7 @@ fn search(s: &[f64], at: usize, n: usize, second: f64) -> fit::kernel::Held
         } else if second < x {
             hi = mid;
         } else {
-            let state = state_in(s, at + 7 * mid + 1);
+            let state = integrate::kernel::state_in(s, at + 7 * mid + 1);
             return fit::kernel::Held::Known(state);
         }
     }

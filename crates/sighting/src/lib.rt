@@ -6,8 +6,7 @@ ghost use mathlib.Core.Bool.{true, _&&_};
 ghost use mathlib.Core.Option.{none};
 ghost use Prim.Native.Nat.{_≤_};
 ghost use lib.Dec.{ltb};
-ghost use lib.Ieee.{nan};
-ghost use lib.ListN.{length, getD};
+ghost use lib.ListN.{length};
 ghost use Rattle.laws.specs.Checks.{risingSeconds};
 ghost use Rattle.laws.specs.Loops.{cleared};
 ghost use Rattle.series.specs.Prepared.{prepared};
@@ -43,13 +42,6 @@ pub struct Made {
     pub epoch: epochs::Epoch,
 }
 
-// An element, NaN past the end.
-pub fn element(s: &[f64], i: usize) -> f64
-    ensures { λ r. ⌜ r ≡ getD (now (s .entry)) i nan ⌝ }
-{
-    if i < s.len() { s[i] } else { 0.0 / 0.0 }
-}
-
 pub fn no_state() -> StateFound
     ensures { λ r. ⌜ r ≡ givenState none ⌝ }
 {
@@ -77,7 +69,7 @@ pub fn number_at(keys: &[i64], values: &[f64], second: numbers::GpsSecond) -> Nu
     match place {
         slices::Found::At(i) => NumberFound {
             there: true,
-            value: element(values, i),
+            value: integrate::kernel::element(values, i),
         },
         slices::Found::Nothing => NumberFound {
             there: false,
@@ -134,8 +126,8 @@ fn make(
     let d = found.d;
     crate::kernel::epoch_at(
         degree,
-        element(field, 0),
-        element(field, 1),
+        integrate::kernel::element(field, 0),
+        integrate::kernel::element(field, 1),
         a,
         b,
         &w[0..base],

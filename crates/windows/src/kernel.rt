@@ -108,24 +108,6 @@ fn second_of(t: f64) -> f64
     std::num::nearest_i64_to_f64(k.0)
 }
 
-fn state_in(l: &[f64], i: usize) -> integrate::kernel::State
-    requires { ⌜ i + 6 ≤ length (now l) ⌝ }
-    ensures { λ r. ⌜ r ≡ stateIn (now (l .entry)) i ⌝ }
-{
-    integrate::kernel::State {
-        position: vectors::Vector {
-            x: l[i],
-            y: l[i + 1],
-            z: l[i + 2],
-        },
-        velocity: vectors::Vector {
-            x: l[i + 3],
-            y: l[i + 4],
-            z: l[i + 5],
-        },
-    }
-}
-
 fn put(s: &mut [f64], at: usize, v: vectors::Vector)
     requires { ⌜ at + 3 ≤ length (now s) ⌝ }
     ensures { λ _. ⌜ Placed (now (s .entry)) (now (s .exit)) at v ⌝ }
@@ -168,7 +150,7 @@ fn keep_step(
 {
     let t = integrate::kernel::time(t0, k);
     if within(from, to, t) {
-        let state = state_in(s, base + 6 * k);
+        let state = integrate::kernel::state_in(s, base + 6 * k);
         enter(s, at + 7 * n, t, state);
         return n + 1;
     }

@@ -33,4 +33,4 @@ returns-3 c =
 pub state-for-spec : {M : Type 1} → statement M
 state-for-spec =
     tie.close
-    (tie.spec (λ c κs. search needs) (λ c. search needs) (λ c. search needs) (λ c κs. omega arith) returns (λ c. search needs) returns-2 returns-3)
+    (tie.spec (λ c κs. search needs) (λ c. search needs) (λ c. search needs) (λ c κs. search needs) returns (λ c. search needs) returns-2 returns-3)

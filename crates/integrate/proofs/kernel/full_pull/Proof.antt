@@ -7,11 +7,11 @@ use Rattle.integrate.proofs.kernel.full_pull.Tie as tie
 refresh-requires : tie.Need-refresh-requires
 refresh-requires c κs = search needs
 
-at-requires : tie.Need-at-requires
-at-requires c κs = search needs
+element-requires : tie.Need-element-requires
+element-requires c κs = search needs
 
-at-requires-2 : tie.Need-at-requires-2
-at-requires-2 c κs = search needs
+element-requires-2 : tie.Need-element-requires-2
+element-requires-2 c κs = search needs
 
 sub-gravity : tie.Need-sub-gravity
 sub-gravity c = search needs
@@ -38,15 +38,15 @@ returns : tie.Need-returns
 returns c =
     let s = c .before .before .before .before .before .before .before .before .before .before .before .before .before .before .before .before .before .before .args in
     pulled (s .degree) (s .base) (s .field .now) (s .a .now) (s .b .now) (s .times .now) (s .added .now) (s .w .now) _ (s .known) _ (s .t) (s .x) _ _ _ _ _ (c .before .before .before .before .before .before .before .before .before .before .before .before .before .before .before .before .before .before .pre .0)
-    (omega (arith, c .before .before .before .before .before .before .before .before .before .before .refresh .ensures .only .long, c .before .before .before .before .before .before .before .before .before .before .before .before .before .before .before .before .before .before .pre .1)) (c .before .before .before .before .before .before .before .before .before .before .refresh .ensures) (c .before .before .before .before .before .before .before .at .ensures) (c .before .before .before .before .before .before .at2 .ensures) (c .before .before .before .gravity .ensures) (c .before .tides-at .ensures) (c .add .ensures)
+    (omega (arith, c .before .before .before .before .before .before .before .before .before .before .refresh .ensures .only .long, c .before .before .before .before .before .before .before .before .before .before .before .before .before .before .before .before .before .before .pre .1)) (c .before .before .before .before .before .before .before .before .before .before .refresh .ensures) (c .before .before .before .before .before .before .before .element .ensures) (c .before .before .before .before .before .before .element2 .ensures) (c .before .before .before .gravity .ensures) (c .before .tides-at .ensures) (c .add .ensures)
 
 pub full-pull-spec : {M : Type 1} → statement M
 full-pull-spec =
     tie.close
     (tie.spec
     refresh-requires
-    at-requires
-    at-requires-2
+    element-requires
+    element-requires-2
     sub-gravity
     part-gravity-start
     part-gravity-end

@@ -19,14 +19,17 @@ find-requires c κs = search needs
 enum-known-place : tie.Need-enum-known-place
 enum-known-place c = search needs
 
-state-in-requires : tie.Need-state-in-requires
-state-in-requires c κs =
+mul-state-in : tie.Need-mul-state-in
+mul-state-in c =
     let a = c .before .before .before .before .before .before .args in
     let k = a .second .0 in
     let whole : toZ w64 (ofZ w64 k) ≡ k = toZ-ofZ w64 k (record { sfits = c .before .before .before .before .struct-told .given .0 .1 }) in
     let i : ℕ = c .before .place .given .0 .0 in
     let p : lookup (a .keys .now) k ≡ At i = ap (lookup (a .keys .now)) (sym whole) ∙ sym (c .before .before .before .find .ensures (c .before .before .before .before .before .before .pre .rises)) ∙ c .before .place .given .1 in
     omega (arith, found-below (a .keys .now) k i p, c .before .before .before .before .before .before .pre .few)
+
+state-in-requires : tie.Need-state-in-requires
+state-in-requires c κs = search needs
 
 enum-told : tie.Need-enum-told
 enum-told c = search needs
@@ -57,6 +60,7 @@ find-state-spec =
     (tie.spec
     find-requires
     enum-known-place
+    mul-state-in
     state-in-requires
     enum-told
     no-state-requires

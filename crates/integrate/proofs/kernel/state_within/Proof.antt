@@ -1,10 +1,7 @@
 use Rattle.integrate.specs.Room.{stateIn}
 use borrow.Author.Needs.{needs}
-use Rattle.residuals.proofs.work.state_in.Statement.{statement}
-use Rattle.residuals.proofs.work.state_in.Tie as tie
-
-mul-k : tie.Need-mul-k
-mul-k c = search needs
+use Rattle.integrate.proofs.kernel.state_within.Statement.{statement}
+use Rattle.integrate.proofs.kernel.state_within.Tie as tie
 
 element-requires : tie.Need-element-requires
 element-requires c κs = search needs
@@ -43,11 +40,10 @@ returns : tie.Need-returns
 unfolding stateIn
 returns c = simp (c .element6 .ensures, c .before .element5 .ensures, c .before .before .element4 .ensures, c .before .before .before .element3 .ensures, c .before .before .before .before .element2 .ensures, c .before .before .before .before .before .element .ensures)
 
-pub state-in-spec : {M : Type 1} → statement M
-state-in-spec =
+pub state-within-spec : {M : Type 1} → statement M
+state-within-spec =
     tie.close
     (tie.spec
-    mul-k
     element-requires
     add-element
     element-requires-2

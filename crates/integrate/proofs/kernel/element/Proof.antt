@@ -3,8 +3,8 @@ use native.Mathlib.Omega.{arith}
 use lib.Ieee.{nan, div, ofBits}
 use lib.ListN.{List·getD-eq-default}
 use borrow.Author.Needs.{needs}
-use Rattle.sighting.proofs.element.Statement.{statement}
-use Rattle.sighting.proofs.element.Tie as tie
+use Rattle.integrate.proofs.kernel.element.Statement.{statement}
+use Rattle.integrate.proofs.kernel.element.Tie as tie
 
 returns-2 : tie.Need-returns-2
 unfolding div ofBits
