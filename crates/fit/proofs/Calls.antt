@@ -11,7 +11,7 @@ use lib.Ieee.Scale.{finite}
 use lib.ListN.{length, take, drop, length-drop}
 use lib.Seq.{length-take-le}
 use borrow.Author.Tests.{leb-true, eqb-true, le-leb, eq-eqb}
-use Rattle.laws.specs.Checks.{all, isKey, rising, risingSeconds}
+use Rattle.laws.specs.Checks.{all, rising, risingSeconds}
 use Rattle.laws.specs.Lists.{cond-ind}
 use Rattle.laws.specs.Loops.{cleared}
 use Rattle.vectors.specs.declared.Vector.{Vector}
@@ -19,15 +19,16 @@ use Rattle.slices.specs.Slices.{copied}
 use Rattle.slices.specs.Calls.{left, firstFailed, settled}
 use Rattle.slices.proofs.Calls.{cond-passes, call-refused, call-failed, call-handed}
 use Rattle.slices.proofs.Laws.{copied-all}
+use Rattle.lent.specs.Lent.{degreeFine, fieldsFine, few, lengthsFit, statesFit, modelFine, keyedFine}
+use Rattle.lent.proofs.Passed.{degree-passes, states-pass, lengths-room}
 use Rattle.finality.specs.Brackets.{covers}
 use Rattle.least_squares.proofs.Laws.{never}
 use Rattle.integrate.specs.declared.kernel.Arc.{Arc}
 use Rattle.integrate.specs.Steps.{timeOf}
 use Rattle.integrate.specs.Room.{Run, Orbit, flat}
 use Rattle.integrate.specs.Force.{model, frontSize, fullForce}
-use Rattle.integrate.specs.Calls.{between, boundTests, lengthsFit, modelFits, arcFits}
-use Rattle.integrate.proofs.Calls.{stays, goes, bounds-few, lengths-room, flat-part}
-use Rattle.integrate.proofs.Front.{and-second}
+use Rattle.integrate.specs.Calls.{boundTests, arcFits}
+use Rattle.integrate.proofs.Calls.{stays, goes, flat-part}
 use Rattle.fit.specs.declared.kernel.Held.{Held}
 use Rattle.fit.specs.declared.kernel.Held.the-variants.{Known, Missing}
 use Rattle.fit.specs.declared.kernel.Fitted.{Fitted as Fit}
@@ -39,23 +40,23 @@ use Rattle.fit.specs.Calls.{numberOf, rmsIn, laterTests, refusal, fitCal
 
 -- ---- the tests
 
-pub later-is : (N : ℕ) (field a b ts fs : List Float) (ks : List ℤ) (ss : List Float) (arc : Arc) (out scratch : ℕ) (r k f g m t l q : Bool) (n1 n2 n3 n4 n5 n6 n7 n8 n9 n10 : ℕ) →
-    r ≡ rising ts → k ≡ risingSeconds ks → n1 ≡ cond k 0 5 → n2 ≡ cond r n1 5 → f ≡ all finite ss → g ≡ all isKey ks → n3 ≡ cond g n2 4 → n4 ≡ cond f n3 4 →
-    m ≡ modelFits field a b ts fs → t ≡ arcFits arc → n5 ≡ cond t n4 4 → n6 ≡ cond m n5 4 →
-    q ≡ eqb (length ss) (6 * length ks) → n7 ≡ cond q n6 3 → n8 ≡ cond (eqb out (6 * (arc .steps + 1))) n7 3 →
-    l ≡ lengthsFit N (length field) (length a) (length b) (length ts) (length fs) scratch → n9 ≡ cond l n8 3 → n10 ≡ cond (leb (length ks) 200000) n9 2 →
-    n10 ≡ firstFailed (laterTests N field a b ts fs ks ss arc out scratch)
-later-is N field a b ts fs ks ss arc out scratch r k f g m t l q n1 n2 n3 n4 n5 n6 n7 n8 n9 n10 er ek e1 e2 ef eg e3 e4 em et e5 e6 eq e7 e8 el e9 e10 =
-    simp (e10, e9, el, e8, e7, eq, e6, em, e5, et, e4, ef, e3, eg, e2, er, e1, ek)
+pub later-is : (N : ℕ) (field a b ts fs : List Float) (ks : List ℤ) (ss : List Float) (arc : Arc) (out scratch : ℕ) (r k g m t l q : Bool) (n1 n2 n3 n4 n5 n6 n7 n8 n9 : ℕ) →
+    r ≡ rising ts → k ≡ risingSeconds ks → n1 ≡ cond k 0 5 → n2 ≡ cond r n1 5 → g ≡ keyedFine ks ss → n3 ≡ cond g n2 4 →
+    m ≡ modelFine field a b ts fs → t ≡ arcFits arc → n4 ≡ cond t n3 4 → n5 ≡ cond m n4 4 →
+    q ≡ statesFit (length ks) (length ss) → n6 ≡ cond q n5 3 → n7 ≡ cond (eqb out (6 * (arc .steps + 1))) n6 3 →
+    l ≡ lengthsFit N (length ts) (length field) (length fs) (length a) (length b) scratch → n8 ≡ cond l n7 3 → n9 ≡ cond (few (length ks)) n8 2 →
+    n9 ≡ firstFailed (laterTests N field a b ts fs ks ss arc out scratch)
+later-is N field a b ts fs ks ss arc out scratch r k g m t l q n1 n2 n3 n4 n5 n6 n7 n8 n9 er ek e1 e2 eg e3 em et e4 e5 eq e6 e7 el e8 e9 =
+    simp (e9, e8, el, e7, e6, eq, e5, em, e4, et, e3, eg, e2, er, e1, ek)
 
 module _ (N : ℕ) (field a b ts fs : List Float) (ks : List ℤ) (ss : List Float) (arc : Arc) (out scratch n : ℕ) (e : n ≡ firstFailed (boundTests N (length ts) (arc .steps))) where
   pub refusal-first : (n ≡ 0 → ⊥) → n ≡ refusal N field a b ts fs ks ss arc out scratch
   unfolding refusal
-  refusal-first h = stays (between 2 180 N) (between 2 32 (length ts)) (leb (arc .steps) 5302) n (firstFailed (laterTests N field a b ts fs ks ss arc out scratch)) e h
+  refusal-first h = stays (degreeFine N) (fieldsFine (length ts)) (leb (arc .steps) 5302) n (firstFailed (laterTests N field a b ts fs ks ss arc out scratch)) e h
 
   pub refusal-later : n ≡ 0 → (m : ℕ) → m ≡ firstFailed (laterTests N field a b ts fs ks ss arc out scratch) → m ≡ refusal N field a b ts fs ks ss arc out scratch
   unfolding refusal
-  refusal-later h m f = f ∙ goes (between 2 180 N) (between 2 32 (length ts)) (leb (arc .steps) 5302) n (firstFailed (laterTests N field a b ts fs ks ss arc out scratch)) e h
+  refusal-later h m f = f ∙ goes (degreeFine N) (fieldsFine (length ts)) (leb (arc .steps) 5302) n (firstFailed (laterTests N field a b ts fs ks ss arc out scratch)) e h
 
 pub record Passed (N : ℕ) (arc : Arc) (ks : List ℤ) (states out scratch : ℕ) : Type 0 where
   pub degree : N ≤ 180
@@ -68,25 +69,24 @@ pub record Passed (N : ℕ) (arc : Arc) (ks : List ℤ) (states out scratch : �
 pub passes : (N : ℕ) (field a b ts fs : List Float) (ks : List ℤ) (ss : List Float) (arc : Arc) (out scratch : ℕ) → refusal N field a b ts fs ks ss arc out scratch ≡ 0 → Passed N arc ks (length ss) out scratch
 unfolding refusal
 passes N field a b ts fs ks ss arc out scratch h =
-    let x = cond-passes (between 2 180 N) _ 0 h in
-    let y = cond-passes (between 2 32 (length ts)) _ 1 (x .1) in
+    let x = cond-passes (degreeFine N) _ 0 h in
+    let y = cond-passes (fieldsFine (length ts)) _ 1 (x .1) in
     let z = cond-passes (leb (arc .steps) 5302) _ 1 (y .1) in
-    let c = cond-passes (leb (length ks) 200000) _ 1 (z .1) in
-    let u = cond-passes (lengthsFit N (length field) (length a) (length b) (length ts) (length fs) scratch) _ 2 (c .1) in
+    let c = cond-passes (few (length ks)) _ 1 (z .1) in
+    let u = cond-passes (lengthsFit N (length ts) (length field) (length fs) (length a) (length b) scratch) _ 2 (c .1) in
     let v = cond-passes (eqb out (6 * (arc .steps + 1))) _ 2 (u .1) in
-    let w = cond-passes (eqb (length ss) (6 * length ks)) _ 2 (v .1) in
-    let m = cond-passes (modelFits field a b ts fs) _ 3 (w .1) in
+    let w = cond-passes (statesFit (length ks) (length ss)) _ 2 (v .1) in
+    let m = cond-passes (modelFine field a b ts fs) _ 3 (w .1) in
     let t = cond-passes (arcFits arc) _ 3 (m .1) in
-    let f = cond-passes (all finite ss) _ 3 (t .1) in
-    let g = cond-passes (all isKey ks) _ 3 (f .1) in
+    let g = cond-passes (keyedFine ks ss) _ 3 (t .1) in
     let r = cond-passes (rising ts) _ 4 (g .1) in
     let k = cond-passes (risingSeconds ks) _ 4 (r .1) in
     record {
-      degree = leb-true N 180 (and-second (leb 2 N) (leb N 180) (x .0));
+      degree = degree-passes N (x .0);
       few = leb-true (arc .steps) 5302 (z .0);
-      room = lengths-room N (length field) (length a) (length b) (length ts) (length fs) scratch (u .0);
+      room = lengths-room N (length ts) (length field) (length fs) (length a) (length b) scratch (u .0);
       each = eqb-true out (6 * (arc .steps + 1)) (v .0);
-      rows = eqb-true (length ss) (6 * length ks) (w .0);
+      rows = states-pass (length ks) (length ss) (w .0);
       order = k .0;
     }
 

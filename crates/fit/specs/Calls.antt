@@ -7,13 +7,14 @@ use lib.IntN.{ℤ}
 use lib.Ieee.{Float, nan}
 use lib.Ieee.Scale.{finite}
 use lib.ListN.{length}
-use Rattle.laws.specs.Checks.{all, isKey, rising, risingSeconds}
+use Rattle.laws.specs.Checks.{rising, risingSeconds}
 use Rattle.slices.specs.Calls.{Left, settled, firstFailed}
+use Rattle.lent.specs.Lent.{degreeFine, fieldsFine, few, lengthsFit, statesFit, modelFine, keyedFine}
 use Rattle.finality.specs.Brackets.{covers}
 use Rattle.integrate.specs.declared.kernel.Arc.{Arc}
 use Rattle.integrate.specs.Room.{flat}
 use Rattle.integrate.specs.Force.{model, fullForce}
-use Rattle.integrate.specs.Calls.{between, lengthsFit, modelFits, arcFits}
+use Rattle.integrate.specs.Calls.{arcFits}
 use Rattle.fit.specs.declared.kernel.Fitted.{Fitted as Fit}
 use Rattle.fit.specs.declared.kernel.Fitted.the-variants.{Fitted, Refused}
 use Rattle.fit.specs.Fit.{stateFor, fitOf, orbitOf}
@@ -30,14 +31,13 @@ rmsIn (Refused n) = nan
 -- the tests after those of degree, fields and steps
 abbrev pub laterTests : ℕ → List Float → List Float → List Float → List Float → List Float → List ℤ → List Float → Arc → ℕ → ℕ → List (Bool × ℕ)
 laterTests N field a b times added keys states arc out scratch =
-    (leb (length keys) 200000, 2)
-    ∷ (lengthsFit N (length field) (length a) (length b) (length times) (length added) scratch, 3)
+    (few (length keys), 2)
+    ∷ (lengthsFit N (length times) (length field) (length added) (length a) (length b) scratch, 3)
     ∷ (eqb out (6 * (arc .steps + 1)), 3)
-    ∷ (eqb (length states) (6 * length keys), 3)
-    ∷ (modelFits field a b times added, 4)
+    ∷ (statesFit (length keys) (length states), 3)
+    ∷ (modelFine field a b times added, 4)
     ∷ (arcFits arc, 4)
-    ∷ (all finite states, 4)
-    ∷ (all isKey keys, 4)
+    ∷ (keyedFine keys states, 4)
     ∷ (rising times, 5)
     ∷ (risingSeconds keys, 5)
     ∷ []
@@ -45,7 +45,7 @@ laterTests N field a b times added keys states arc out scratch =
 -- which of 1 to 5 the arguments call for, or 0
 unfoldable pub refusal : ℕ → List Float → List Float → List Float → List Float → List Float → List ℤ → List Float → Arc → ℕ → ℕ → ℕ
 refusal N field a b times added keys states arc out scratch =
-    firstFailed ((between 2 180 N, 1) ∷ (between 2 32 (length times), 2) ∷ (leb (arc .steps) 5302, 2) ∷ laterTests N field a b times added keys states arc out scratch)
+    firstFailed ((degreeFine N, 1) ∷ (fieldsFine (length times), 2) ∷ (leb (arc .steps) 5302, 2) ∷ laterTests N field a b times added keys states arc out scratch)
 
 -- the rms and the states, or the refusal
 unfoldable pub fitCall : ℕ → List Float → List Float → List Float → List Float → List Float → List ℤ → List Float → Arc → List Float → List Float → Left Fit

@@ -4,20 +4,12 @@ pub mod kernel;
 ghost use mathlib.Core.Path.{_≡_};
 ghost use mathlib.Core.List.{[], _∷_};
 ghost use Prim.Native.Nat.{_+_, _*_, _≤_};
-ghost use lib.Dec.{eqb};
 ghost use lib.ListN.{length, take, drop};
 ghost use Rattle.slices.specs.Calls.{left, firstFailed};
 ghost use Rattle.slices.specs.Slices.{copied};
 ghost use Rattle.integrate.specs.Force.{frontSize};
 ghost use Rattle.fit.specs.Calls.{laterTests, refusal as refusalOf, fitCall};
 ghost use Rattle.fit.specs.Handing.{Handed};
-
-// Whether there are six numbers for each key.
-fn six_each(keys: &[i64], states: usize) -> bool
-    ensures { λ r. ⌜ r ≡ eqb states (6 * length (now (keys .entry))) ⌝ }
-{
-    states == 6 * keys.len()
-}
 
 fn later_refusal(
     degree: usize,
@@ -40,28 +32,25 @@ fn later_refusal(
         5,
         slices::unless(slices::rising_keys(keys), 5, 0),
     );
-    let numbers = slices::unless(
-        slices::all_finite(states),
-        4,
-        slices::unless(slices::all_keys(keys), 4, order),
-    );
+    let numbers = slices::unless(lent::keyed_fine(keys, states), 4, order);
     let values = slices::unless(
-        integrate::model_fine(field, a, b, times, added),
+        lent::model_fine(field, a, b, times, added),
         4,
         slices::unless(integrate::arc_fine(arc), 4, numbers),
     );
+    let six_each = lent::states_fit(keys.len(), states.len());
     let sizes = slices::unless(
         out == 6 * (arc.steps + 1),
         3,
-        slices::unless(six_each(keys, states.len()), 3, values),
+        slices::unless(six_each, 3, values),
     );
-    let lengths = integrate::lengths_fit(
+    let lengths = lent::lengths_fit(
         degree,
+        times.len(),
         field.len(),
+        added.len(),
         a.len(),
         b.len(),
-        times.len(),
-        added.len(),
         scratch,
     );
     slices::unless(keys.len() <= 200000, 2, slices::unless(lengths, 3, sizes))

@@ -9,62 +9,40 @@ use lib.Ieee.{Float, nan, le}
 use lib.Ieee.Scale.{finite}
 use lib.ListN.{length, take, drop, getD, length-append, length-drop}
 use lib.Seq.{ext-getD, getD-take, getD-drop, length-take-le, take-add, drop-drop}
-use borrow.Author.Tests.{leb-true, lt-leb, le-leb, eqb-true}
+use borrow.Author.Tests.{leb-true, le-leb, eqb-true}
 use Rattle.laws.specs.Floats.{bits}
 use Rattle.laws.specs.Checks.{all, isTime, rising, latest}
 use Rattle.laws.specs.Loops.{cleared}
-use Rattle.laws.specs.Tables.{tri}
 use Rattle.slices.specs.Slices.{copied}
 use Rattle.slices.specs.Calls.{left, firstFailed}
 use Rattle.slices.specs.declared.Outcome.{Outcome}
 use Rattle.slices.specs.declared.Outcome.the-variants.{Accepted, Refused}
 use Rattle.slices.proofs.Calls.{cond-passes, call-refused, call-handed}
 use Rattle.slices.proofs.Laws.{copied-all}
+use Rattle.lent.specs.Lent.{degreeFine, fieldsFine, lengthsFit, modelFine}
+use Rattle.lent.proofs.Passed.{degree-passes, lengths-room}
 use Rattle.integrate.specs.declared.kernel.Arc.{Arc}
 use Rattle.integrate.specs.declared.kernel.State.{State}
 use Rattle.integrate.specs.declared.kernel.Force.{Force}
 use Rattle.integrate.specs.Room.{Run, Orbit, six, flat}
 use Rattle.integrate.specs.Force.{model, frontSize, attractionOf, runOf, runFits}
 use Rattle.integrate.specs.Work.{Ran, Listed}
-use Rattle.integrate.specs.Calls.{between, isStart, boundTests, lengthsAt, lengthsFit, arcFits, modelFits, laterTests, refusal, integrateCall}
+use Rattle.integrate.specs.Calls.{isStart, boundTests, arcFits, laterTests, refusal, integrateCall}
 use Rattle.integrate.proofs.Front.{never, and-second}
 
 -- ---- the tests
 
-pub bounds-is : (N fields steps : ℕ) (u v : Bool) (n1 n2 n3 : ℕ) → u ≡ between 2 32 fields → n1 ≡ cond (leb steps 5302) 0 2 → n2 ≡ cond u n1 2 → v ≡ between 2 180 N → n3 ≡ cond v n2 1 →
+pub bounds-is : (N fields steps : ℕ) (u v : Bool) (n1 n2 n3 : ℕ) → u ≡ fieldsFine fields → n1 ≡ cond (leb steps 5302) 0 2 → n2 ≡ cond u n1 2 → v ≡ degreeFine N → n3 ≡ cond v n2 1 →
     n3 ≡ firstFailed (boundTests N fields steps)
 bounds-is N fields steps u v n1 n2 n3 eu e1 e2 ev e3 = simp (e3, ev, e2, eu, e1)
-
-pub lengths-are : (l field a b fields added scratch : ℕ) (t1 t2 t3 t4 : Bool) (m n : ℕ) → t1 ≡ eqb field (2 + 2 * l) && eqb a l → t2 ≡ t1 && eqb b l → m ≡ fields * (2 + 2 * l) → t3 ≡ t2 && eqb added m → n ≡ fields * l →
-    t4 ≡ t3 && leb (2 * n + 8 * l + 150000) scratch → t4 ≡ lengthsAt l field a b fields added scratch
-unfolding lengthsAt
-lengths-are l field a b fields added scratch t1 t2 t3 t4 m n e1 e2 em e3 en e4 = simp (e4, e3, e2, e1, em, en)
-
-module _ (N field a b fields added scratch : ℕ) where
-  pub lengths-degree : 180 < N → false ≡ lengthsFit N field a b fields added scratch
-  unfolding lengthsFit
-  lengths-degree h = sym (simp (lt-leb N 180 h))
-
-  pub lengths-fields : N ≤ 180 → 32 < fields → false ≡ lengthsFit N field a b fields added scratch
-  unfolding lengthsFit
-  lengths-fields g h = sym (simp (le-leb N 180 g, lt-leb fields 32 h))
-
-  pub lengths-fit : (l : ℕ) (r : Bool) → N ≤ 180 → fields ≤ 32 → l ≡ tri (N + 1) → r ≡ lengthsAt l field a b fields added scratch → r ≡ lengthsFit N field a b fields added scratch
-  unfolding lengthsFit
-  lengths-fit l r g h e f = f ∙ sym (simp (le-leb N 180 g, le-leb fields 32 h, sym e))
 
 pub arc-is : (arc : Arc) (s n f t r : Bool) → s ≡ isStart (arc .t0) → n ≡ isTime (arc .node) → t ≡ s && n → f ≡ finite (arc .period) → r ≡ t && f → r ≡ arcFits arc
 unfolding arcFits
 arc-is arc s n f t r es en et ef er = simp (er, et, es, en, ef)
 
-pub model-is : (field a b ts fs : List Float) (x y z u v t1 t2 t3 t4 : Bool) → x ≡ all finite field → y ≡ all finite a → t1 ≡ x && y → z ≡ all finite b → t2 ≡ t1 && z → u ≡ all finite fs → t3 ≡ t2 && u →
-    v ≡ all isTime ts → t4 ≡ t3 && v → t4 ≡ modelFits field a b ts fs
-unfolding modelFits
-model-is field a b ts fs x y z u v t1 t2 t3 t4 ex ey e1 ez e2 eu e3 ev e4 = simp (e4, e3, e2, e1, ex, ey, ez, eu, ev)
-
 pub later-is : (N : ℕ) (field a b ts fs : List Float) (arc : Arc) (p : List Float) (out scratch : ℕ) (r f m t l : Bool) (n1 n2 n3 n4 n5 n6 : ℕ) →
-    r ≡ rising ts → n1 ≡ cond r 0 5 → f ≡ arcFits arc → t ≡ all finite p → n2 ≡ cond t n1 4 → n3 ≡ cond f n2 4 → m ≡ modelFits field a b ts fs → n4 ≡ cond m n3 4 →
-    l ≡ lengthsFit N (length field) (length a) (length b) (length ts) (length fs) scratch → n5 ≡ cond (eqb out (6 * (arc .steps + 1))) n4 3 → n6 ≡ cond l n5 3 →
+    r ≡ rising ts → n1 ≡ cond r 0 5 → f ≡ arcFits arc → t ≡ all finite p → n2 ≡ cond t n1 4 → n3 ≡ cond f n2 4 → m ≡ modelFine field a b ts fs → n4 ≡ cond m n3 4 →
+    l ≡ lengthsFit N (length ts) (length field) (length fs) (length a) (length b) scratch → n5 ≡ cond (eqb out (6 * (arc .steps + 1))) n4 3 → n6 ≡ cond l n5 3 →
     n6 ≡ firstFailed (laterTests N field a b ts fs arc p out scratch)
 later-is N field a b ts fs arc p out scratch r f m t l n1 n2 n3 n4 n5 n6 er e1 ef et e2 e3 em e4 el e5 e6 = simp (e6, el, e5, e4, em, e3, ef, e2, et, e1, er)
 
@@ -84,19 +62,19 @@ goes false c s n rest e h = absurd (omega arith)
 -- where those three are passed, the steps are few
 pub bounds-few : (N fields steps n : ℕ) → n ≡ firstFailed (boundTests N fields steps) → n ≡ 0 → steps ≤ 5302
 bounds-few N fields steps n e h =
-    let x = cond-passes (between 2 180 N) _ 0 (sym e ∙ h) in
-    let y = cond-passes (between 2 32 fields) _ 1 (x .1) in
+    let x = cond-passes (degreeFine N) _ 0 (sym e ∙ h) in
+    let y = cond-passes (fieldsFine fields) _ 1 (x .1) in
     let z = cond-passes (leb steps 5302) _ 1 (y .1) in
     leb-true steps 5302 (z .0)
 
 module _ (N : ℕ) (field a b ts fs : List Float) (arc : Arc) (p : List Float) (out scratch n : ℕ) (e : n ≡ firstFailed (boundTests N (length ts) (arc .steps))) where
   pub refusal-first : (n ≡ 0 → ⊥) → n ≡ refusal N field a b ts fs arc p out scratch
   unfolding refusal
-  refusal-first h = stays (between 2 180 N) (between 2 32 (length ts)) (leb (arc .steps) 5302) n (firstFailed (laterTests N field a b ts fs arc p out scratch)) e h
+  refusal-first h = stays (degreeFine N) (fieldsFine (length ts)) (leb (arc .steps) 5302) n (firstFailed (laterTests N field a b ts fs arc p out scratch)) e h
 
   pub refusal-later : n ≡ 0 → (m : ℕ) → m ≡ firstFailed (laterTests N field a b ts fs arc p out scratch) → m ≡ refusal N field a b ts fs arc p out scratch
   unfolding refusal
-  refusal-later h m f = f ∙ goes (between 2 180 N) (between 2 32 (length ts)) (leb (arc .steps) 5302) n (firstFailed (laterTests N field a b ts fs arc p out scratch)) e h
+  refusal-later h m f = f ∙ goes (degreeFine N) (fieldsFine (length ts)) (leb (arc .steps) 5302) n (firstFailed (laterTests N field a b ts fs arc p out scratch)) e h
 
   pub few-steps : n ≡ 0 → arc .steps ≤ 5302
   few-steps h = bounds-few N (length ts) (arc .steps) n e h
@@ -109,26 +87,18 @@ pub record Passed (N : ℕ) (arc : Arc) (out scratch : ℕ) : Type 0 where
   pub room : frontSize N + 150000 ≤ scratch
   pub each : out ≡ 6 * (arc .steps + 1)
 
-pub lengths-room : (N field a b fields added scratch : ℕ) → lengthsFit N field a b fields added scratch ≡ true → frontSize N + 150000 ≤ scratch
-unfolding lengthsFit lengthsAt
-lengths-room N field a b fields added scratch h =
-    let l : ℕ = tri (N + 1) in
-    let q = and-second (eqb field (2 + 2 * l) && eqb a l && eqb b l && eqb added (fields * (2 + 2 * l))) (leb (2 * (fields * l) + 8 * l + 150000) scratch)
-    (and-second (leb N 180 && leb fields 32) (lengthsAt l field a b fields added scratch) h) in
-    omega (arith, leb-true (2 * (fields * tri (N + 1)) + 8 * tri (N + 1) + 150000) scratch q)
-
 pub passes : (N : ℕ) (field a b ts fs : List Float) (arc : Arc) (p : List Float) (out scratch : ℕ) → refusal N field a b ts fs arc p out scratch ≡ 0 → Passed N arc out scratch
 unfolding refusal
 passes N field a b ts fs arc p out scratch h =
-    let x = cond-passes (between 2 180 N) _ 0 h in
-    let y = cond-passes (between 2 32 (length ts)) _ 1 (x .1) in
+    let x = cond-passes (degreeFine N) _ 0 h in
+    let y = cond-passes (fieldsFine (length ts)) _ 1 (x .1) in
     let z = cond-passes (leb (arc .steps) 5302) _ 1 (y .1) in
-    let u = cond-passes (lengthsFit N (length field) (length a) (length b) (length ts) (length fs) scratch) _ 2 (z .1) in
+    let u = cond-passes (lengthsFit N (length ts) (length field) (length fs) (length a) (length b) scratch) _ 2 (z .1) in
     let v = cond-passes (eqb out (6 * (arc .steps + 1))) _ 2 (u .1) in
     record {
-      degree = leb-true N 180 (and-second (leb 2 N) (leb N 180) (x .0));
+      degree = degree-passes N (x .0);
       few = leb-true (arc .steps) 5302 (z .0);
-      room = lengths-room N (length field) (length a) (length b) (length ts) (length fs) scratch (u .0);
+      room = lengths-room N (length ts) (length field) (length fs) (length a) (length b) scratch (u .0);
       each = eqb-true out (6 * (arc .steps + 1)) (v .0);
     }
 

@@ -8,10 +8,10 @@ use native.Mathlib.Omega.{arith}
 use lib.Dec.{leb, eqb}
 use lib.IntN.{ℤ}
 use lib.Ieee.{Float}
-use borrow.Author.Tests.{leb-true, le-leb, lt-leb}
+use borrow.Author.Tests.{leb-true, le-leb, lt-leb, eqb-true}
 use Rattle.laws.specs.Checks.{rising, risingSeconds}
 use Rattle.slices.proofs.Calls.{cond-passes}
-use Rattle.lent.specs.Lent.{kind, size, few, frontSize, firstOf, degreeFine, countsFine, modelFits, statesFit, leastScratch, scratchFits, wholeScratchFits, rise}
+use Rattle.lent.specs.Lent.{kind, size, few, frontSize, firstOf, degreeFine, countsFine, modelFits, statesFit, leastScratch, scratchFits, lengthsFit, wholeScratchFits, rise}
 
 no : {X : Type 0} → false ≡ true → X
 no e = absurd (let z : _≡_ {A = ℕ} 0 1 = cc in omega arith)
@@ -85,6 +85,15 @@ scratch-passes N fields count scratch h =
     let a = both-pass (leb N 180) (leb fields 32 && (leb count 100000 && leb (leastScratch N fields count) scratch)) h .1 in
     let b = both-pass (leb fields 32) (leb count 100000 && leb (leastScratch N fields count) scratch) a .1 in
     leb-true (leastScratch N fields count) scratch (both-pass (leb count 100000) (leb (leastScratch N fields count) scratch) b .1)
+
+pub states-pass : (n values : ℕ) → statesFit n values ≡ true → values ≡ 6 * n
+unfolding statesFit
+states-pass n values h = eqb-true values (6 * n) (both-pass (few n) (eqb values (6 * n)) h .1)
+
+pub lengths-room : (N fields field added a b scratch : ℕ) → lengthsFit N fields field added a b scratch ≡ true → 8 * kind N + 150000 ≤ scratch
+unfolding lengthsFit
+lengths-room N fields field added a b scratch h =
+    omega (arith, scratch-passes N fields 0 scratch (both-pass (modelFits N fields field added a b) (scratchFits N fields 0 scratch) h .1))
 
 pub front-is : (N : ℕ) → N ≤ 180 → frontSize N ≡ 8 * kind N
 unfolding frontSize

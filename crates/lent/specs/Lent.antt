@@ -1,4 +1,4 @@
--- What is tested of the lists that the calls of module 5 and the whole path are lent (document 01, "Outcomes" and "Bounds"): the time-variable model with its Legendre
+-- What is tested of the lists that the calls of modules 4 and 5 and the whole path are lent (document 01, "Outcomes" and "Bounds"): the time-variable model with its Legendre
 -- tables, both satellites' states and accelerometer values by second. Assumes nothing.
 use Prim.Native.Nat.{ℕ, _+_, _-_, _*_}
 use mathlib.Core.Bool.{Bool, cond, _&&_}
@@ -33,11 +33,14 @@ degreeFine N = leb 2 N && leb N 180
 
 -- ---- 2: of fields; of the states and accelerometer values of C and D
 
+abbrev pub fieldsFine : ℕ → Bool
+fieldsFine n = leb 2 n && leb n 32
+
 abbrev pub few : ℕ → Bool
 few n = leb n 200000
 
 unfoldable pub countsFine : ℕ → ℕ → ℕ → ℕ → ℕ → Bool
-countsFine fields c d accC accD = (leb 2 fields && leb fields 32) && ((few c && few d) && (few accC && few accD))
+countsFine fields c d accC accD = fieldsFine fields && ((few c && few d) && (few accC && few accD))
 
 -- ---- 3: lengths. Each is judged where degree and counts are within their bounds
 
@@ -61,7 +64,11 @@ leastScratch N fields count = 2 * (fields * kind N) + 8 * kind N + 150000 + 10 *
 unfoldable pub scratchFits : ℕ → ℕ → ℕ → ℕ → Bool
 scratchFits N fields count scratch = leb N 180 && (leb fields 32 && (leb count 100000 && leb (leastScratch N fields count) scratch))
 
--- and of the whole path, with 49,200 numbers more for each pair of neighbouring nodes
+-- the lengths for a call on the model alone
+unfoldable pub lengthsFit : ℕ → ℕ → ℕ → ℕ → ℕ → ℕ → ℕ → Bool
+lengthsFit N fields field added a b scratch = modelFits N fields field added a b && scratchFits N fields 0 scratch
+
+-- the scratch of the whole path, with 49,200 numbers more for each pair of neighbouring nodes
 unfoldable pub wholeScratchFits : ℕ → ℕ → ℕ → ℕ → ℕ → Bool
 wholeScratchFits N fields nodes count scratch =
     leb N 180 && (leb fields 32 && (leb nodes 64 && (leb count 100000 && leb (leastScratch N fields count + 49200 * (nodes - 1)) scratch)))

@@ -1,10 +1,10 @@
-// Tests of the lists that the calls of module 5 and the whole path are lent.
+// Tests of the lists that the calls of modules 4 and 5 and the whole path are lent.
 ghost use mathlib.Core.Path.{_≡_};
 ghost use mathlib.Core.Bool.{_&&_};
 ghost use Prim.Native.Nat.{_+_, _-_, _*_, _≤_};
 ghost use lib.ListN.{length};
 ghost use lib.Dec.{leb, eqb};
-ghost use Rattle.lent.specs.Lent.{kind, size, firstOf, degreeFine, countsFine, modelFits, statesFit, tablesFit, frontSize, leastScratch, scratchFits, wholeScratchFits, modelFine, keyedFine, rise as riseOf};
+ghost use Rattle.lent.specs.Lent.{kind, size, firstOf, degreeFine, fieldsFine, countsFine, modelFits, statesFit, tablesFit, frontSize, leastScratch, scratchFits, lengthsFit, wholeScratchFits, modelFine, keyedFine, rise as riseOf};
 use slices;
 
 // Places for the coefficients of one kind.
@@ -43,6 +43,12 @@ pub fn front_size(degree: usize) -> usize
     8 * places(degree)
 }
 
+pub fn fields_fine(fields: usize) -> bool
+    ensures { λ r. ⌜ r ≡ fieldsFine fields ⌝ }
+{
+    slices::both(2 <= fields, fields <= 32)
+}
+
 // Counts of fields, states and accelerometer values.
 pub fn counts_fine(fields: usize, c: usize, d: usize, cacc: usize, dacc: usize) -> bool
     ensures { λ r. ⌜ r ≡ countsFine fields c d cacc dacc ⌝ }
@@ -51,7 +57,7 @@ pub fn counts_fine(fields: usize, c: usize, d: usize, cacc: usize, dacc: usize) 
         slices::both(c <= 200000, d <= 200000),
         slices::both(cacc <= 200000, dacc <= 200000),
     );
-    slices::both(slices::both(2 <= fields, fields <= 32), few)
+    slices::both(fields_fine(fields), few)
 }
 
 fn model_lengths(
@@ -94,7 +100,8 @@ pub fn model_fits(
     model_lengths(degree, fields, field, added, a, b)
 }
 
-fn states_fit(n: usize, values: usize) -> bool
+// Six numbers for each of n states.
+pub fn states_fit(n: usize, values: usize) -> bool
     ensures { λ r. ⌜ r ≡ statesFit n values ⌝ }
 {
     if 200000 < n {
@@ -183,6 +190,22 @@ pub fn scratch_fits(degree: usize, fields: usize, count: usize, scratch: usize) 
         return false;
     }
     least_scratch(degree, fields, count) <= scratch
+}
+
+// Lengths of the model's slices and of the scratch, for a call on the model alone.
+pub fn lengths_fit(
+    degree: usize,
+    fields: usize,
+    field: usize,
+    added: usize,
+    a: usize,
+    b: usize,
+    scratch: usize,
+) -> bool
+    ensures { λ r. ⌜ r ≡ lengthsFit degree fields field added a b scratch ⌝ }
+{
+    let model = model_fits(degree, fields, field, added, a, b);
+    slices::both(model, scratch_fits(degree, fields, 0, scratch))
 }
 
 fn whole_scratch(degree: usize, fields: usize, nodes: usize, count: usize) -> usize

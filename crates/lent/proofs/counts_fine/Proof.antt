@@ -12,16 +12,16 @@ both-requires-2 c κs = search needs
 both-requires-3 : tie.Need-both-requires-3
 both-requires-3 c κs = search needs
 
+fields-fine-requires : tie.Need-fields-fine-requires
+fields-fine-requires c κs = search needs
+
 both-requires-4 : tie.Need-both-requires-4
 both-requires-4 c κs = search needs
-
-both-requires-5 : tie.Need-both-requires-5
-both-requires-5 c κs = search needs
 
 returns : tie.Need-returns
 unfolding countsFine
 returns c =
-    simp (c .both5 .ensures, c .before .both4 .ensures, c .before .before .both3 .ensures, c .before .before .before .both2 .ensures, c .before .before .before .before .both .ensures)
+    simp (c .both4 .ensures, c .before .fields-fine .ensures, c .before .before .both3 .ensures, c .before .before .before .both2 .ensures, c .before .before .before .before .both .ensures)
 
 pub counts-fine-spec : {M : Type 1} → statement M
 counts-fine-spec =
@@ -30,6 +30,6 @@ counts-fine-spec =
     both-requires
     both-requires-2
     both-requires-3
+    fields-fine-requires
     both-requires-4
-    both-requires-5
     returns)
