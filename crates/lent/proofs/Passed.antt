@@ -90,6 +90,32 @@ pub states-pass : (n values : ℕ) → statesFit n values ≡ true → values �
 unfolding statesFit
 states-pass n values h = eqb-true values (6 * n) (both-pass (few n) (eqb values (6 * n)) h .1)
 
+pub record Sizes (N fields field all p q : ℕ) : Type 0 where
+  pub static : field ≡ size N
+  pub added : all ≡ fields * size N
+  pub a : p ≡ kind N
+  pub b : q ≡ kind N
+
+pub model-passes : (N fields field added a b : ℕ) → modelFits N fields field added a b ≡ true → Sizes N fields field added a b
+unfolding modelFits
+model-passes N fields field added a b h =
+    let p = both-pass (leb N 180) (leb fields 32 && ((eqb field (size N) && eqb added (fields * size N)) && (eqb a (kind N) && eqb b (kind N)))) h .1 in
+    let q = both-pass (leb fields 32) ((eqb field (size N) && eqb added (fields * size N)) && (eqb a (kind N) && eqb b (kind N))) p .1 in
+    let r = both-pass (eqb field (size N) && eqb added (fields * size N)) (eqb a (kind N) && eqb b (kind N)) q in
+    let s = both-pass (eqb field (size N)) (eqb added (fields * size N)) (r .0) in
+    let t = both-pass (eqb a (kind N)) (eqb b (kind N)) (r .1) in
+    record {
+      static = eqb-true field (size N) (s .0);
+      added = eqb-true added (fields * size N) (s .1);
+      a = eqb-true a (kind N) (t .0);
+      b = eqb-true b (kind N) (t .1);
+    }
+
+pub lengths-pass : (N fields field added a b scratch : ℕ) → lengthsFit N fields field added a b scratch ≡ true → Sizes N fields field added a b
+unfolding lengthsFit
+lengths-pass N fields field added a b scratch h =
+    model-passes N fields field added a b (both-pass (modelFits N fields field added a b) (scratchFits N fields 0 scratch) h .0)
+
 pub lengths-room : (N fields field added a b scratch : ℕ) → lengthsFit N fields field added a b scratch ≡ true → 8 * kind N + 150000 ≤ scratch
 unfolding lengthsFit
 lengths-room N fields field added a b scratch h =

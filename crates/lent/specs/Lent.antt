@@ -1,4 +1,4 @@
--- What is tested of the lists that the calls of modules 4 and 5 and the whole path are lent (document 01, "Outcomes" and "Bounds"): the time-variable model with its Legendre
+-- What is tested of the lists that the calls of modules 3 to 5 and the whole path are lent (document 01, "Outcomes" and "Bounds"): the time-variable model with its Legendre
 -- tables, both satellites' states and accelerometer values by second. Assumes nothing.
 use Prim.Native.Nat.{ℕ, _+_, _-_, _*_}
 use mathlib.Core.Bool.{Bool, cond, _&&_}
@@ -64,7 +64,7 @@ leastScratch N fields count = 2 * (fields * kind N) + 8 * kind N + 150000 + 10 *
 unfoldable pub scratchFits : ℕ → ℕ → ℕ → ℕ → Bool
 scratchFits N fields count scratch = leb N 180 && (leb fields 32 && (leb count 100000 && leb (leastScratch N fields count) scratch))
 
--- the lengths for a call on the model alone
+-- the lengths for a call on the model alone, or of one that fills two lists as long as the tables
 unfoldable pub lengthsFit : ℕ → ℕ → ℕ → ℕ → ℕ → ℕ → ℕ → Bool
 lengthsFit N fields field added a b scratch = modelFits N fields field added a b && scratchFits N fields 0 scratch
 

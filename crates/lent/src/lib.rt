@@ -1,4 +1,4 @@
-// Tests of the lists that the calls of modules 4 and 5 and the whole path are lent.
+// Tests of the lists that the calls of modules 3 to 5 and the whole path are lent.
 ghost use mathlib.Core.Path.{_≡_};
 ghost use mathlib.Core.Bool.{_&&_};
 ghost use Prim.Native.Nat.{_+_, _-_, _*_, _≤_};

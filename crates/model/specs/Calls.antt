@@ -14,6 +14,7 @@ use Rattle.finality.specs.Brackets.{covers}
 use Rattle.slices.specs.Calls.{firstFailed, Left, handed, settled}
 use Rattle.slices.specs.declared.Outcome.{Outcome}
 use Rattle.slices.specs.declared.Outcome.the-variants.{Accepted, Refused}
+use Rattle.lent.specs.Lent.{firstOf, degreeFine, fieldsFine, lengthsFit}
 use Rattle.model.specs.Field.{cosines, sines, size}
 use Rattle.model.specs.Model.{bracket, weight, kindAt, fieldAt}
 use Rattle.model.specs.declared.Cover.{Cover}
@@ -48,53 +49,18 @@ atLeft N field times added t out =
 
 -- ---- refusals 1 to 5
 
-unfoldable pub degreeFine : ℕ → Bool
-degreeFine N = leb 2 N && leb N 180
-
-unfoldable pub countFine : ℕ → Bool
-countFine n = leb 2 n && leb n 32
-
--- a test's answer, and what holds where it is true
-pub record DegreeTold (N : ℕ) (r : Bool) : Type 0 where
-  pub says : r ≡ degreeFine N
-  pub high : r ≡ true → N ≤ 180
-
-pub record CountTold (n : ℕ) (r : Bool) : Type 0 where
-  pub says : r ≡ countFine n
-  pub high : r ≡ true → n ≤ 32
-
 unfoldable pub timesFine : List Float → Float → Bool
 timesFine times t = all isTime times && isTime t
 
 unfoldable pub coverRefusal : List Float → Float → ℕ
-coverRefusal times t = firstFailed ((countFine (length times), 2) ∷ (timesFine times t, 4) ∷ (rising times, 5) ∷ [])
-
--- lengths: the field, the outputs, and at least so much scratch
-unfoldable pub shapeFine : ℕ → ℕ → ℕ → ℕ → ℕ → ℕ → Bool
-shapeFine N field c s scratch least = eqb field (size N) && eqb c (tri (N + 1)) && eqb s (tri (N + 1)) && leb least scratch
-
-abbrev pub modelScratch : ℕ → ℕ → ℕ
-modelScratch N fields = 2 * (fields * tri (N + 1)) + 8 * tri (N + 1) + 150000
-
--- the added fields are as many as their times
-unfoldable pub addedFine : ℕ → ℕ → ℕ → Bool
-addedFine N fields added = eqb added (fields * size N)
+coverRefusal times t = firstFailed ((fieldsFine (length times), 2) ∷ (timesFine times t, 4) ∷ (rising times, 5) ∷ [])
 
 unfoldable pub valuesFine : List Float → List Float → Bool
 valuesFine field added = all finite field && all finite added
 
 unfoldable pub atRefusal : ℕ → List Float → List Float → List Float → Float → ℕ → ℕ → ℕ → ℕ
 atRefusal N field times added t c s scratch =
-    firstFailed (
-    (degreeFine N, 1)
-    ∷ (countFine (length times), 2)
-    ∷ (shapeFine N (length field) c s scratch (modelScratch N (length times)), 3)
-    ∷ (addedFine N (length times) (length added), 3)
-    ∷ (valuesFine field added, 4)
-    ∷ (timesFine times t, 4)
-    ∷ (rising times, 5)
-    ∷ []
-    )
+    firstOf (degreeFine N) (fieldsFine (length times)) (lengthsFit N (length times) (length field) (length added) c s scratch) (valuesFine field added && timesFine times t) (rising times)
 
 -- ---- the calls
 

@@ -9,7 +9,7 @@ ghost use Rattle.laws.specs.Tables.{tri};
 ghost use Rattle.slices.specs.Calls.{left};
 ghost use Rattle.model.specs.Field.{sines as sinesFrom, size};
 ghost use Rattle.model.specs.Model.{kindAt};
-ghost use Rattle.model.specs.Calls.{DegreeTold, CountTold, timesFine, coverRefusal, coverCall, shapeFine, modelScratch, addedFine, valuesFine, atRefusal, handedTwo, atWork, atCall};
+ghost use Rattle.model.specs.Calls.{timesFine, coverRefusal, coverCall, valuesFine, atRefusal, handedTwo, atWork, atCall};
 use fields;
 use slices;
 
@@ -20,18 +20,6 @@ pub enum Cover {
 }
 
 // ---- what is refused
-
-fn degree_fine(degree: usize) -> bool
-    ensures { λ r. ⌜ DegreeTold degree r ⌝ }
-{
-    if 2 <= degree { degree <= 180 } else { false }
-}
-
-fn count_fine(fields: usize) -> bool
-    ensures { λ r. ⌜ CountTold fields r ⌝ }
-{
-    if 2 <= fields { fields <= 32 } else { false }
-}
 
 fn times_fine(times: &[f64], t: f64) -> bool
     ensures { λ r. ⌜ r ≡ timesFine (now (times .entry)) t ⌝ }
@@ -53,50 +41,10 @@ fn values_fine(field: &[f64], added: &[f64]) -> bool
     }
 }
 
-fn shape_fine(
-    degree: usize,
-    field: usize,
-    cosines: usize,
-    sines: usize,
-    scratch: usize,
-    least: usize,
-) -> bool
-    requires { ⌜ degree ≤ 180 ⌝ }
-    ensures { λ r. ⌜ r ≡ shapeFine degree field cosines sines scratch least ⌝ }
-{
-    let l = kernel::places(degree);
-    if field != 2 + 2 * l {
-        return false;
-    }
-    if cosines != l {
-        return false;
-    }
-    if sines != l {
-        return false;
-    }
-    least <= scratch
-}
-
-fn model_scratch(degree: usize, fields: usize) -> usize
-    requires { ⌜ (degree ≤ 180) × (fields ≤ 32) ⌝ }
-    ensures { λ r. ⌜ r ≡ modelScratch degree fields ⌝ }
-{
-    let l = kernel::places(degree);
-    2 * (fields * l) + 8 * l + 150000
-}
-
-fn added_fine(degree: usize, fields: usize, added: usize) -> bool
-    requires { ⌜ (degree ≤ 180) × (fields ≤ 32) ⌝ }
-    ensures { λ r. ⌜ r ≡ addedFine degree fields added ⌝ }
-{
-    let l = kernel::places(degree);
-    added == fields * (2 + 2 * l)
-}
-
 fn cover_refusal(times: &[f64], t: f64) -> u8
     ensures { λ r. ⌜ r ≡ coverRefusal (now (times .entry)) t ⌝ }
 {
-    if !count_fine(times.len()) {
+    if !lent::fields_fine(times.len()) {
         return 2;
     }
     if !times_fine(times, t) {
@@ -120,30 +68,24 @@ fn at_refusal(
 ) -> u8
     ensures { λ r. ⌜ r ≡ atRefusal degree (now (field .entry)) (now (times .entry)) (now (added .entry)) t cosines sines scratch ⌝ }
 {
-    if !degree_fine(degree) {
-        return 1;
-    }
     let fields = times.len();
-    if !count_fine(fields) {
-        return 2;
-    }
-    let least = model_scratch(degree, fields);
-    if !shape_fine(degree, field.len(), cosines, sines, scratch, least) {
-        return 3;
-    }
-    if !added_fine(degree, fields, added.len()) {
-        return 3;
-    }
-    if !values_fine(field, added) {
-        return 4;
-    }
-    if !times_fine(times, t) {
-        return 4;
-    }
-    if !slices::rising(times) {
-        return 5;
-    }
-    0
+    let lengths = lent::lengths_fit(
+        degree,
+        fields,
+        field.len(),
+        added.len(),
+        cosines,
+        sines,
+        scratch,
+    );
+    let values = slices::both(values_fine(field, added), times_fine(times, t));
+    lent::first_of(
+        lent::degree_fine(degree),
+        lent::fields_fine(fields),
+        lengths,
+        values,
+        slices::rising(times),
+    )
 }
 
 // ---- the work

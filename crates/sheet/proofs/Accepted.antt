@@ -14,8 +14,8 @@ use borrow.Author.Tests.{leb-true, le-leb, eqb-true, eq-eqb}
 use Rattle.laws.specs.Floats.{zero64}
 use Rattle.laws.specs.Tables.{tri}
 use Rattle.laws.specs.Checks.{all, isTime, rising, risingSeconds}
-use Rattle.lent.specs.Lent.{kind, size, few, degreeFine, countsFine, modelFits, statesFit, tablesFit, leastScratch, wholeScratchFits, modelFine, keyedFine, rise}
-use Rattle.lent.proofs.Passed.{both-pass, all-pass, Few, counts-pass, Rise, rise-passes}
+use Rattle.lent.specs.Lent.{kind, size, degreeFine, countsFine, modelFits, statesFit, tablesFit, leastScratch, wholeScratchFits, modelFine, keyedFine, rise}
+use Rattle.lent.proofs.Passed.{both-pass, all-pass, Few, counts-pass, Rise, rise-passes, states-pass, model-passes}
 use Rattle.series.specs.Prepared.{prepared}
 use Rattle.model.specs.Calls.{atFits}
 use Rattle.integrate.specs.Force.{frontSize}
@@ -64,19 +64,6 @@ record Lengths (S : Setting) (l : Lists) (outputs : List (List Float)) (room : �
   pub outputs-fit : placesFit l outputs ≡ true
   pub scratch : leastScratch (S .degree) (length (l .fieldTimes)) (length (l .times)) + 49200 * (length (l .nodes) - 1) ≤ room
 
-model-says : (N fields field added a b : ℕ) → modelFits N fields field added a b ≡ true → (field ≡ size N) × (added ≡ fields * size N)
-unfolding modelFits
-model-says N fields field added a b h =
-    let p = both-pass (leb N 180) _ h .1 in
-    let q = both-pass (leb fields 32) _ p .1 in
-    let r = both-pass (eqb field (size N) && eqb added (fields * size N)) _ q .0 in
-    let s = both-pass (eqb field (size N)) (eqb added (fields * size N)) r in
-    (eqb-true field (size N) (s .0), eqb-true added (fields * size N) (s .1))
-
-states-say : (n values : ℕ) → statesFit n values ≡ true → values ≡ 6 * n
-unfolding statesFit
-states-say n values h = eqb-true values (6 * n) (both-pass (few n) (eqb values (6 * n)) h .1)
-
 record Tables (c cs d ds p ps q qs : ℕ) : Type 0 where
   pub statesC : cs ≡ 6 * c
   pub statesD : ds ≡ 6 * d
@@ -89,7 +76,7 @@ tables-say c cs d ds p ps q qs h =
     let a = both-pass (statesFit c cs && statesFit d ds) (eqb ps p && eqb qs q) h in
     let s = both-pass (statesFit c cs) (statesFit d ds) (a .0) in
     let t = both-pass (eqb ps p) (eqb qs q) (a .1) in
-    record { statesC = states-say c cs (s .0); statesD = states-say d ds (s .1); accC = eqb-true ps p (t .0); accD = eqb-true qs q (t .1) }
+    record { statesC = states-pass c cs (s .0); statesD = states-pass d ds (s .1); accC = eqb-true ps p (t .0); accD = eqb-true qs q (t .1) }
 
 scratch-says : (N fields nodes count room : ℕ) → wholeScratchFits N fields nodes count room ≡ true → leastScratch N fields count + 49200 * (nodes - 1) ≤ room
 unfolding wholeScratchFits
@@ -109,14 +96,14 @@ module _ (S : Setting) (l : Lists) (outputs : List (List Float)) (room : ℕ) wh
       (modelFits (S .degree) (length (l .fieldTimes)) (length (S .static)) (length (l .added)) (length (S .a)) (length (S .b))
       && tablesFit (length (l .keysC)) (length (l .statesC)) (length (l .keysD)) (length (l .statesD)) (length (l .accKeysC)) (length (l .accC)) (length (l .accKeysD)) (length (l .accD))) _ h in
       let b = both-pass (modelFits (S .degree) (length (l .fieldTimes)) (length (S .static)) (length (l .added)) (length (S .a)) (length (S .b))) _ (a .0) in
-      let m = model-says (S .degree) (length (l .fieldTimes)) (length (S .static)) (length (l .added)) (length (S .a)) (length (S .b)) (b .0) in
+      let m = model-passes (S .degree) (length (l .fieldTimes)) (length (S .static)) (length (l .added)) (length (S .a)) (length (S .b)) (b .0) in
       let t = tables-say (length (l .keysC)) (length (l .statesC)) (length (l .keysD)) (length (l .statesD)) (length (l .accKeysC)) (length (l .accC)) (length (l .accKeysD)) (length (l .accD)) (b .1) in
       let e = both-pass ((eqb (length (l .values)) M && eqb (length (l .good)) M) && placesFit l outputs) _ (a .1) in
       let f = both-pass (eqb (length (l .values)) M && eqb (length (l .good)) M) (placesFit l outputs) (e .0) in
       let g = both-pass (eqb (length (l .values)) M) (eqb (length (l .good)) M) (f .0) in
       record {
-        static = m .0;
-        added = m .1;
+        static = m .static;
+        added = m .added;
         statesC = t .statesC;
         statesD = t .statesD;
         accC = t .accC;

@@ -12,7 +12,7 @@ work-requires : tie.Need-work-requires
 work-requires c κs =
     let a = c .before .before .before .before .before .before .before .before .before .before .before .before .before .before .args in
     let f : AtFits (a .degree) (a .field .now) (a .times .now) (a .added .now) (length (a .cosines .now)) (length (a .sines .now)) = search (needs, at-fits) in
-    (f .degree, f .shape .fields, f .count, f .fields, f .shape .cs, f .shape .ss)
+    (f .degree, f .sizes .static, f .count, f .sizes .added, f .sizes .a, f .sizes .b)
 
 returns-2 : tie.Need-returns-2
 returns-2 c = search (needs, at-answered)
