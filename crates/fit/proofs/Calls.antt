@@ -4,31 +4,31 @@ use mathlib.Core.Bool.{Bool, true, false, cond, _&&_}
 use mathlib.Core.List.{List, [], _∷_, map}
 use Prim.Native.Nat.{ℕ, zero, suc, _+_, _*_, _-_, _/_, _≤_, _<_}
 use native.Mathlib.Omega.{arith}
-use lib.Dec.{leb, eqb, ltb}
+use lib.Dec.{leb, ltb}
 use lib.IntN.{ℤ}
 use lib.Ieee.{Float}
 use lib.Ieee.Scale.{finite}
 use lib.ListN.{length, take, drop, length-drop}
 use lib.Seq.{length-take-le}
-use borrow.Author.Tests.{leb-true, eqb-true, le-leb, eq-eqb}
+use borrow.Author.Tests.{le-leb, eq-eqb}
 use Rattle.laws.specs.Checks.{all, rising, risingSeconds}
 use Rattle.laws.specs.Lists.{cond-ind}
 use Rattle.laws.specs.Loops.{cleared}
 use Rattle.vectors.specs.declared.Vector.{Vector}
 use Rattle.slices.specs.Slices.{copied}
-use Rattle.slices.specs.Calls.{left, firstFailed, settled}
-use Rattle.slices.proofs.Calls.{cond-passes, call-refused, call-failed, call-handed}
+use Rattle.slices.specs.Calls.{left, settled}
+use Rattle.slices.proofs.Calls.{call-refused, call-failed, call-handed}
 use Rattle.slices.proofs.Laws.{copied-all}
 use Rattle.lent.specs.Lent.{degreeFine, fieldsFine, few, lengthsFit, statesFit, modelFine, keyedFine}
-use Rattle.lent.proofs.Passed.{degree-passes, states-pass, lengths-room}
+use Rattle.lent.proofs.Passed.{both-pass, all-pass, degree-passes, states-pass, lengths-room}
 use Rattle.finality.specs.Brackets.{covers}
 use Rattle.least_squares.proofs.Laws.{never}
 use Rattle.integrate.specs.declared.kernel.Arc.{Arc}
 use Rattle.integrate.specs.Steps.{timeOf}
 use Rattle.integrate.specs.Room.{Run, Orbit, flat}
 use Rattle.integrate.specs.Force.{model, frontSize, fullForce}
-use Rattle.integrate.specs.Calls.{boundTests, arcFits}
-use Rattle.integrate.proofs.Calls.{stays, goes, flat-part}
+use Rattle.integrate.specs.Calls.{outFits, arcFits}
+use Rattle.integrate.proofs.Calls.{out-passes, flat-part}
 use Rattle.fit.specs.declared.kernel.Held.{Held}
 use Rattle.fit.specs.declared.kernel.Held.the-variants.{Known, Missing}
 use Rattle.fit.specs.declared.kernel.Fitted.{Fitted as Fit}
@@ -36,27 +36,9 @@ use Rattle.fit.specs.declared.kernel.Fitted.the-variants.{Fitted, Refuse
 use Rattle.fit.specs.Fit.{Observed, stateFor, fitOf, fitFrom, fittedFrom, orbitOf, observed, startOf, improved, regular, rmsAt}
 use Rattle.fit.specs.Contracts.{Fits, arcServes, ArcFit}
 use Rattle.fit.specs.Handing.{Handed}
-use Rattle.fit.specs.Calls.{numberOf, rmsIn, laterTests, refusal, fitCall}
+use Rattle.fit.specs.Calls.{numberOf, rmsIn, refusal, fitCall}
 
 -- ---- the tests
-
-pub later-is : (N : ℕ) (field a b ts fs : List Float) (ks : List ℤ) (ss : List Float) (arc : Arc) (out scratch : ℕ) (r k g m t l q : Bool) (n1 n2 n3 n4 n5 n6 n7 n8 n9 : ℕ) →
-    r ≡ rising ts → k ≡ risingSeconds ks → n1 ≡ cond k 0 5 → n2 ≡ cond r n1 5 → g ≡ keyedFine ks ss → n3 ≡ cond g n2 4 →
-    m ≡ modelFine field a b ts fs → t ≡ arcFits arc → n4 ≡ cond t n3 4 → n5 ≡ cond m n4 4 →
-    q ≡ statesFit (length ks) (length ss) → n6 ≡ cond q n5 3 → n7 ≡ cond (eqb out (6 * (arc .steps + 1))) n6 3 →
-    l ≡ lengthsFit N (length ts) (length field) (length fs) (length a) (length b) scratch → n8 ≡ cond l n7 3 → n9 ≡ cond (few (length ks)) n8 2 →
-    n9 ≡ firstFailed (laterTests N field a b ts fs ks ss arc out scratch)
-later-is N field a b ts fs ks ss arc out scratch r k g m t l q n1 n2 n3 n4 n5 n6 n7 n8 n9 er ek e1 e2 eg e3 em et e4 e5 eq e6 e7 el e8 e9 =
-    simp (e9, e8, el, e7, e6, eq, e5, em, e4, et, e3, eg, e2, er, e1, ek)
-
-module _ (N : ℕ) (field a b ts fs : List Float) (ks : List ℤ) (ss : List Float) (arc : Arc) (out scratch n : ℕ) (e : n ≡ firstFailed (boundTests N (length ts) (arc .steps))) where
-  pub refusal-first : (n ≡ 0 → ⊥) → n ≡ refusal N field a b ts fs ks ss arc out scratch
-  unfolding refusal
-  refusal-first h = stays (degreeFine N) (fieldsFine (length ts)) (leb (arc .steps) 5302) n (firstFailed (laterTests N field a b ts fs ks ss arc out scratch)) e h
-
-  pub refusal-later : n ≡ 0 → (m : ℕ) → m ≡ firstFailed (laterTests N field a b ts fs ks ss arc out scratch) → m ≡ refusal N field a b ts fs ks ss arc out scratch
-  unfolding refusal
-  refusal-later h m f = f ∙ goes (degreeFine N) (fieldsFine (length ts)) (leb (arc .steps) 5302) n (firstFailed (laterTests N field a b ts fs ks ss arc out scratch)) e h
 
 pub record Passed (N : ℕ) (arc : Arc) (ks : List ℤ) (states out scratch : ℕ) : Type 0 where
   pub degree : N ≤ 180
@@ -69,25 +51,19 @@ pub record Passed (N : ℕ) (arc : Arc) (ks : List ℤ) (states out scratch : �
 pub passes : (N : ℕ) (field a b ts fs : List Float) (ks : List ℤ) (ss : List Float) (arc : Arc) (out scratch : ℕ) → refusal N field a b ts fs ks ss arc out scratch ≡ 0 → Passed N arc ks (length ss) out scratch
 unfolding refusal
 passes N field a b ts fs ks ss arc out scratch h =
-    let x = cond-passes (degreeFine N) _ 0 h in
-    let y = cond-passes (fieldsFine (length ts)) _ 1 (x .1) in
-    let z = cond-passes (leb (arc .steps) 5302) _ 1 (y .1) in
-    let c = cond-passes (few (length ks)) _ 1 (z .1) in
-    let u = cond-passes (lengthsFit N (length ts) (length field) (length fs) (length a) (length b) scratch) _ 2 (c .1) in
-    let v = cond-passes (eqb out (6 * (arc .steps + 1))) _ 2 (u .1) in
-    let w = cond-passes (statesFit (length ks) (length ss)) _ 2 (v .1) in
-    let m = cond-passes (modelFine field a b ts fs) _ 3 (w .1) in
-    let t = cond-passes (arcFits arc) _ 3 (m .1) in
-    let g = cond-passes (keyedFine ks ss) _ 3 (t .1) in
-    let r = cond-passes (rising ts) _ 4 (g .1) in
-    let k = cond-passes (risingSeconds ks) _ 4 (r .1) in
+    let p = all-pass (degreeFine N) ((fieldsFine (length ts) && leb (arc .steps) 5302) && few (length ks))
+    (lengthsFit N (length ts) (length field) (length fs) (length a) (length b) scratch && (outFits (arc .steps) out && statesFit (length ks) (length ss)))
+    (modelFine field a b ts fs && (arcFits arc && keyedFine ks ss)) (rising ts && risingSeconds ks) h in
+    let l = both-pass (lengthsFit N (length ts) (length field) (length fs) (length a) (length b) scratch) (outFits (arc .steps) out && statesFit (length ks) (length ss)) (p .lengths) in
+    let s = both-pass (outFits (arc .steps) out) (statesFit (length ks) (length ss)) (l .1) in
+    let o = out-passes (arc .steps) out (s .0) in
     record {
-      degree = degree-passes N (x .0);
-      few = leb-true (arc .steps) 5302 (z .0);
-      room = lengths-room N (length ts) (length field) (length fs) (length a) (length b) scratch (u .0);
-      each = eqb-true out (6 * (arc .steps + 1)) (v .0);
-      rows = states-pass (length ks) (length ss) (w .0);
-      order = k .0;
+      degree = degree-passes N (p .degree);
+      few = o .0;
+      room = lengths-room N (length ts) (length field) (length fs) (length a) (length b) scratch (l .0);
+      each = o .1;
+      rows = states-pass (length ks) (length ss) (s .1);
+      order = both-pass (rising ts) (risingSeconds ks) (p .order) .1;
     }
 
 -- ---- an arc refused has a number from 6 on

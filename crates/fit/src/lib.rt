@@ -5,56 +5,11 @@ ghost use mathlib.Core.Path.{_≡_};
 ghost use mathlib.Core.List.{[], _∷_};
 ghost use Prim.Native.Nat.{_+_, _*_, _≤_};
 ghost use lib.ListN.{length, take, drop};
-ghost use Rattle.slices.specs.Calls.{left, firstFailed};
+ghost use Rattle.slices.specs.Calls.{left};
 ghost use Rattle.slices.specs.Slices.{copied};
 ghost use Rattle.integrate.specs.Force.{frontSize};
-ghost use Rattle.fit.specs.Calls.{laterTests, refusal as refusalOf, fitCall};
+ghost use Rattle.fit.specs.Calls.{refusal as refusalOf, fitCall};
 ghost use Rattle.fit.specs.Handing.{Handed};
-
-fn later_refusal(
-    degree: usize,
-    field: &[f64],
-    a: &[f64],
-    b: &[f64],
-    times: &[f64],
-    added: &[f64],
-    keys: &[i64],
-    states: &[f64],
-    arc: integrate::kernel::Arc,
-    out: usize,
-    scratch: usize,
-) -> u8
-    requires { ⌜ arc .steps ≤ 5302 ⌝ }
-    ensures { λ r. ⌜ r ≡ firstFailed (laterTests degree (now (field .entry)) (now (a .entry)) (now (b .entry)) (now (times .entry)) (now (added .entry)) (now (keys .entry)) (now (states .entry)) arc out scratch) ⌝ }
-{
-    let order = slices::unless(
-        slices::rising(times),
-        5,
-        slices::unless(slices::rising_keys(keys), 5, 0),
-    );
-    let numbers = slices::unless(lent::keyed_fine(keys, states), 4, order);
-    let values = slices::unless(
-        lent::model_fine(field, a, b, times, added),
-        4,
-        slices::unless(integrate::arc_fine(arc), 4, numbers),
-    );
-    let six_each = lent::states_fit(keys.len(), states.len());
-    let sizes = slices::unless(
-        out == 6 * (arc.steps + 1),
-        3,
-        slices::unless(six_each, 3, values),
-    );
-    let lengths = lent::lengths_fit(
-        degree,
-        times.len(),
-        field.len(),
-        added.len(),
-        a.len(),
-        b.len(),
-        scratch,
-    );
-    slices::unless(keys.len() <= 200000, 2, slices::unless(lengths, 3, sizes))
-}
 
 fn refusal(
     degree: usize,
@@ -71,23 +26,27 @@ fn refusal(
 ) -> u8
     ensures { λ r. ⌜ r ≡ refusalOf degree (now (field .entry)) (now (a .entry)) (now (b .entry)) (now (times .entry)) (now (added .entry)) (now (keys .entry)) (now (states .entry)) arc out scratch ⌝ }
 {
-    let first = integrate::bounds(degree, times.len(), arc.steps);
-    if first != 0 {
-        return first;
-    }
-    later_refusal(
+    let fields = times.len();
+    let few = slices::both(lent::fields_fine(fields), arc.steps <= 5302);
+    let counts = slices::both(few, keys.len() <= 200000);
+    let lists = lent::lengths_fit(
         degree,
-        field,
-        a,
-        b,
-        times,
-        added,
-        keys,
-        states,
-        arc,
-        out,
+        fields,
+        field.len(),
+        added.len(),
+        a.len(),
+        b.len(),
         scratch,
-    )
+    );
+    let sizes = slices::both(
+        integrate::out_fits(arc.steps, out),
+        lent::states_fit(keys.len(), states.len()),
+    );
+    let lengths = slices::both(lists, sizes);
+    let numbers = slices::both(integrate::arc_fine(arc), lent::keyed_fine(keys, states));
+    let values = slices::both(lent::model_fine(field, a, b, times, added), numbers);
+    let order = slices::both(slices::rising(times), slices::rising_keys(keys));
+    lent::first_of(lent::degree_fine(degree), counts, lengths, values, order)
 }
 
 // The fitted states into out, and the rms, where all are finite.

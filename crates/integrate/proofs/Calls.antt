@@ -9,75 +9,45 @@ use lib.Ieee.{Float, nan, le}
 use lib.Ieee.Scale.{finite}
 use lib.ListN.{length, take, drop, getD, length-append, length-drop}
 use lib.Seq.{ext-getD, getD-take, getD-drop, length-take-le, take-add, drop-drop}
-use borrow.Author.Tests.{leb-true, le-leb, eqb-true}
+use borrow.Author.Tests.{leb-true, lt-leb, le-leb, eqb-true}
 use Rattle.laws.specs.Floats.{bits}
 use Rattle.laws.specs.Checks.{all, isTime, rising, latest}
 use Rattle.laws.specs.Loops.{cleared}
 use Rattle.slices.specs.Slices.{copied}
-use Rattle.slices.specs.Calls.{left, firstFailed}
+use Rattle.slices.specs.Calls.{left}
 use Rattle.slices.specs.declared.Outcome.{Outcome}
 use Rattle.slices.specs.declared.Outcome.the-variants.{Accepted, Refused}
-use Rattle.slices.proofs.Calls.{cond-passes, call-refused, call-handed}
+use Rattle.slices.proofs.Calls.{call-refused, call-handed}
 use Rattle.slices.proofs.Laws.{copied-all}
 use Rattle.lent.specs.Lent.{degreeFine, fieldsFine, lengthsFit, modelFine}
-use Rattle.lent.proofs.Passed.{degree-passes, lengths-room}
+use Rattle.lent.proofs.Passed.{both-pass, all-pass, degree-passes, lengths-room}
 use Rattle.integrate.specs.declared.kernel.Arc.{Arc}
 use Rattle.integrate.specs.declared.kernel.State.{State}
 use Rattle.integrate.specs.declared.kernel.Force.{Force}
 use Rattle.integrate.specs.Room.{Run, Orbit, six, flat}
 use Rattle.integrate.specs.Force.{model, frontSize, attractionOf, runOf, runFits}
 use Rattle.integrate.specs.Work.{Ran, Listed}
-use Rattle.integrate.specs.Calls.{isStart, boundTests, arcFits, laterTests, refusal, integrateCall}
-use Rattle.integrate.proofs.Front.{never, and-second}
+use Rattle.integrate.specs.Calls.{isStart, outFits, arcFits, refusal, integrateCall}
 
 -- ---- the tests
 
-pub bounds-is : (N fields steps : ℕ) (u v : Bool) (n1 n2 n3 : ℕ) → u ≡ fieldsFine fields → n1 ≡ cond (leb steps 5302) 0 2 → n2 ≡ cond u n1 2 → v ≡ degreeFine N → n3 ≡ cond v n2 1 →
-    n3 ≡ firstFailed (boundTests N fields steps)
-bounds-is N fields steps u v n1 n2 n3 eu e1 e2 ev e3 = simp (e3, ev, e2, eu, e1)
+pub out-many : (steps out : ℕ) → 5302 < steps → false ≡ outFits steps out
+unfolding outFits
+out-many steps out h = rw (lt-leb steps 5302 h)
+
+pub out-within : (steps out : ℕ) → steps ≤ 5302 → eqb out (6 * (steps + 1)) ≡ outFits steps out
+unfolding outFits
+out-within steps out h = rw (le-leb steps 5302 h)
+
+pub out-passes : (steps out : ℕ) → outFits steps out ≡ true → (steps ≤ 5302) × (out ≡ 6 * (steps + 1))
+unfolding outFits
+out-passes steps out h =
+    let p = both-pass (leb steps 5302) (eqb out (6 * (steps + 1))) h in
+    (leb-true steps 5302 (p .0), eqb-true out (6 * (steps + 1)) (p .1))
 
 pub arc-is : (arc : Arc) (s n f t r : Bool) → s ≡ isStart (arc .t0) → n ≡ isTime (arc .node) → t ≡ s && n → f ≡ finite (arc .period) → r ≡ t && f → r ≡ arcFits arc
 unfolding arcFits
 arc-is arc s n f t r es en et ef er = simp (er, et, es, en, ef)
-
-pub later-is : (N : ℕ) (field a b ts fs : List Float) (arc : Arc) (p : List Float) (out scratch : ℕ) (r f m t l : Bool) (n1 n2 n3 n4 n5 n6 : ℕ) →
-    r ≡ rising ts → n1 ≡ cond r 0 5 → f ≡ arcFits arc → t ≡ all finite p → n2 ≡ cond t n1 4 → n3 ≡ cond f n2 4 → m ≡ modelFine field a b ts fs → n4 ≡ cond m n3 4 →
-    l ≡ lengthsFit N (length ts) (length field) (length fs) (length a) (length b) scratch → n5 ≡ cond (eqb out (6 * (arc .steps + 1))) n4 3 → n6 ≡ cond l n5 3 →
-    n6 ≡ firstFailed (laterTests N field a b ts fs arc p out scratch)
-later-is N field a b ts fs arc p out scratch r f m t l n1 n2 n3 n4 n5 n6 er e1 ef et e2 e3 em e4 el e5 e6 = simp (e6, el, e5, e4, em, e3, ef, e2, et, e1, er)
-
--- three tests before others
-pub stays : (d c s : Bool) (n rest : ℕ) → n ≡ cond d (cond c (cond s 0 2) 2) 1 → (n ≡ 0 → ⊥) → n ≡ cond d (cond c (cond s rest 2) 2) 1
-stays true true true n rest e h = absurd (h e)
-stays true true false n rest e h = e
-stays true false s n rest e h = e
-stays false c s n rest e h = e
-
-pub goes : (d c s : Bool) (n rest : ℕ) → n ≡ cond d (cond c (cond s 0 2) 2) 1 → n ≡ 0 → rest ≡ cond d (cond c (cond s rest 2) 2) 1
-goes true true true n rest e h = refl
-goes true true false n rest e h = absurd (omega arith)
-goes true false s n rest e h = absurd (omega arith)
-goes false c s n rest e h = absurd (omega arith)
-
--- where those three are passed, the steps are few
-pub bounds-few : (N fields steps n : ℕ) → n ≡ firstFailed (boundTests N fields steps) → n ≡ 0 → steps ≤ 5302
-bounds-few N fields steps n e h =
-    let x = cond-passes (degreeFine N) _ 0 (sym e ∙ h) in
-    let y = cond-passes (fieldsFine fields) _ 1 (x .1) in
-    let z = cond-passes (leb steps 5302) _ 1 (y .1) in
-    leb-true steps 5302 (z .0)
-
-module _ (N : ℕ) (field a b ts fs : List Float) (arc : Arc) (p : List Float) (out scratch n : ℕ) (e : n ≡ firstFailed (boundTests N (length ts) (arc .steps))) where
-  pub refusal-first : (n ≡ 0 → ⊥) → n ≡ refusal N field a b ts fs arc p out scratch
-  unfolding refusal
-  refusal-first h = stays (degreeFine N) (fieldsFine (length ts)) (leb (arc .steps) 5302) n (firstFailed (laterTests N field a b ts fs arc p out scratch)) e h
-
-  pub refusal-later : n ≡ 0 → (m : ℕ) → m ≡ firstFailed (laterTests N field a b ts fs arc p out scratch) → m ≡ refusal N field a b ts fs arc p out scratch
-  unfolding refusal
-  refusal-later h m f = f ∙ goes (degreeFine N) (fieldsFine (length ts)) (leb (arc .steps) 5302) n (firstFailed (laterTests N field a b ts fs arc p out scratch)) e h
-
-  pub few-steps : n ≡ 0 → arc .steps ≤ 5302
-  few-steps h = bounds-few N (length ts) (arc .steps) n e h
 
 -- ---- what holds where none fails
 
@@ -89,17 +59,16 @@ pub record Passed (N : ℕ) (arc : Arc) (out scratch : ℕ) : Type 0 where
 
 pub passes : (N : ℕ) (field a b ts fs : List Float) (arc : Arc) (p : List Float) (out scratch : ℕ) → refusal N field a b ts fs arc p out scratch ≡ 0 → Passed N arc out scratch
 unfolding refusal
-passes N field a b ts fs arc p out scratch h =
-    let x = cond-passes (degreeFine N) _ 0 h in
-    let y = cond-passes (fieldsFine (length ts)) _ 1 (x .1) in
-    let z = cond-passes (leb (arc .steps) 5302) _ 1 (y .1) in
-    let u = cond-passes (lengthsFit N (length ts) (length field) (length fs) (length a) (length b) scratch) _ 2 (z .1) in
-    let v = cond-passes (eqb out (6 * (arc .steps + 1))) _ 2 (u .1) in
+passes N field a b ts fs arc q out scratch h =
+    let p = all-pass (degreeFine N) (fieldsFine (length ts) && leb (arc .steps) 5302) (lengthsFit N (length ts) (length field) (length fs) (length a) (length b) scratch && outFits (arc .steps) out)
+    (modelFine field a b ts fs && (arcFits arc && all finite q)) (rising ts) h in
+    let l = both-pass (lengthsFit N (length ts) (length field) (length fs) (length a) (length b) scratch) (outFits (arc .steps) out) (p .lengths) in
+    let o = out-passes (arc .steps) out (l .1) in
     record {
-      degree = degree-passes N (x .0);
-      few = leb-true (arc .steps) 5302 (z .0);
-      room = lengths-room N (length ts) (length field) (length fs) (length a) (length b) scratch (u .0);
-      each = eqb-true out (6 * (arc .steps + 1)) (v .0);
+      degree = degree-passes N (p .degree);
+      few = o .0;
+      room = lengths-room N (length ts) (length field) (length fs) (length a) (length b) scratch (l .0);
+      each = o .1;
     }
 
 -- ---- the states of a run as a list

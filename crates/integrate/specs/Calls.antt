@@ -8,8 +8,8 @@ use lib.Ieee.{Float, le, neg}
 use lib.Ieee.Scale.{finite}
 use lib.ListN.{length}
 use Rattle.laws.specs.Checks.{all, isTime, rising, latest}
-use Rattle.slices.specs.Calls.{Left, settled, firstFailed}
-use Rattle.lent.specs.Lent.{degreeFine, fieldsFine, lengthsFit, modelFine}
+use Rattle.slices.specs.Calls.{Left, settled}
+use Rattle.lent.specs.Lent.{firstOf, degreeFine, fieldsFine, lengthsFit, modelFine}
 use Rattle.slices.specs.declared.Outcome.{Outcome}
 use Rattle.slices.specs.declared.Outcome.the-variants.{Accepted, Refused}
 use Rattle.integrate.specs.declared.kernel.Arc.{Arc}
@@ -21,28 +21,20 @@ use Rattle.integrate.specs.Force.{model, attractionOf, runOf}
 unfoldable pub isStart : Float → Bool
 isStart t = le (neg latest) t && le t latest
 
--- degree, fields and steps within their bounds
-abbrev pub boundTests : ℕ → ℕ → ℕ → List (Bool × ℕ)
-boundTests N fields steps = (degreeFine N, 1) ∷ (fieldsFine fields, 2) ∷ (leb steps 5302, 2) ∷ []
+-- six numbers for each state of so many steps, judged where these are within their bound
+unfoldable pub outFits : ℕ → ℕ → Bool
+outFits steps out = leb steps 5302 && eqb out (6 * (steps + 1))
 
 -- an arc's times: its start, its node and its period
 unfoldable pub arcFits : Arc → Bool
 arcFits arc = isStart (arc .t0) && isTime (arc .node) && finite (arc .period)
 
-abbrev pub laterTests : ℕ → List Float → List Float → List Float → List Float → List Float → Arc → List Float → ℕ → ℕ → List (Bool × ℕ)
-laterTests N field a b times added arc p out scratch =
-    (lengthsFit N (length times) (length field) (length added) (length a) (length b) scratch, 3)
-    ∷ (eqb out (6 * (arc .steps + 1)), 3)
-    ∷ (modelFine field a b times added, 4)
-    ∷ (arcFits arc, 4)
-    ∷ (all finite p, 4)
-    ∷ (rising times, 5)
-    ∷ []
-
 -- which of 1 to 5 the arguments call for, or 0
 unfoldable pub refusal : ℕ → List Float → List Float → List Float → List Float → List Float → Arc → List Float → ℕ → ℕ → ℕ
 refusal N field a b times added arc p out scratch =
-    firstFailed ((degreeFine N, 1) ∷ (fieldsFine (length times), 2) ∷ (leb (arc .steps) 5302, 2) ∷ laterTests N field a b times added arc p out scratch)
+    firstOf (degreeFine N) (fieldsFine (length times) && leb (arc .steps) 5302)
+    (lengthsFit N (length times) (length field) (length added) (length a) (length b) scratch && outFits (arc .steps) out)
+    (modelFine field a b times added && (arcFits arc && all finite p)) (rising times)
 
 -- the states of the run, or the refusal
 unfoldable pub integrateCall : Force → ℕ → List Float → List Float → List Float → List Float → List Float → Arc → List Float → List Float → List Float → Left Outcome

@@ -5,10 +5,10 @@ ghost use mathlib.Core.Path.{_≡_};
 ghost use mathlib.Core.List.{[], _∷_};
 ghost use Prim.Native.Nat.{_+_, _*_, _≤_};
 ghost use lib.ListN.{length};
-ghost use Rattle.slices.specs.Calls.{left, firstFailed};
+ghost use Rattle.slices.specs.Calls.{left};
 ghost use Rattle.integrate.specs.Work.{Listed};
 ghost use Rattle.integrate.specs.Force.{model, frontSize, attractionOf, runOf};
-ghost use Rattle.integrate.specs.Calls.{isStart, boundTests, arcFits, laterTests, refusal as refusalOf, integrateCall};
+ghost use Rattle.integrate.specs.Calls.{isStart, outFits, arcFits, refusal as refusalOf, integrateCall};
 
 // From −2^31 to 2^31, both included.
 pub fn is_start(t: f64) -> bool
@@ -21,16 +21,14 @@ pub fn is_start(t: f64) -> bool
     }
 }
 
-// The refusal of a degree, a count of fields or of steps outside its bound, or 0.
-pub fn bounds(degree: usize, fields: usize, steps: usize) -> u8
-    ensures { λ r. ⌜ r ≡ firstFailed (boundTests degree fields steps) ⌝ }
+// Whether there are six numbers for each state of so many steps.
+pub fn out_fits(steps: usize, out: usize) -> bool
+    ensures { λ r. ⌜ r ≡ outFits steps out ⌝ }
 {
-    let counts = slices::unless(
-        lent::fields_fine(fields),
-        2,
-        slices::unless(steps <= 5302, 2, 0),
-    );
-    slices::unless(lent::degree_fine(degree), 1, counts)
+    if 5302 < steps {
+        return false;
+    }
+    out == 6 * (steps + 1)
 }
 
 // The times of an arc.
@@ -39,44 +37,6 @@ pub fn arc_fine(arc: kernel::Arc) -> bool
 {
     let times = slices::both(is_start(arc.t0), slices::is_time(arc.node));
     slices::both(times, numbers::is_finite(arc.period))
-}
-
-fn later_refusal(
-    degree: usize,
-    field: &[f64],
-    a: &[f64],
-    b: &[f64],
-    times: &[f64],
-    added: &[f64],
-    arc: kernel::Arc,
-    p: [f64; 15],
-    out: usize,
-    scratch: usize,
-) -> u8
-    requires { ⌜ arc .steps ≤ 5302 ⌝ }
-    ensures { λ r. ⌜ r ≡ firstFailed (laterTests degree (now (field .entry)) (now (a .entry)) (now (b .entry)) (now (times .entry)) (now (added .entry)) arc p out scratch) ⌝ }
-{
-    let order = slices::unless(slices::rising(times), 5, 0);
-    let numbers = slices::unless(
-        arc_fine(arc),
-        4,
-        slices::unless(slices::all_finite(&p), 4, order),
-    );
-    let values = slices::unless(lent::model_fine(field, a, b, times, added), 4, numbers);
-    let lengths = lent::lengths_fit(
-        degree,
-        times.len(),
-        field.len(),
-        added.len(),
-        a.len(),
-        b.len(),
-        scratch,
-    );
-    slices::unless(
-        lengths,
-        3,
-        slices::unless(out == 6 * (arc.steps + 1), 3, values),
-    )
 }
 
 fn refusal(
@@ -93,11 +53,27 @@ fn refusal(
 ) -> u8
     ensures { λ r. ⌜ r ≡ refusalOf degree (now (field .entry)) (now (a .entry)) (now (b .entry)) (now (times .entry)) (now (added .entry)) arc p out scratch ⌝ }
 {
-    let first = bounds(degree, times.len(), arc.steps);
-    if first != 0 {
-        return first;
-    }
-    later_refusal(degree, field, a, b, times, added, arc, p, out, scratch)
+    let fields = times.len();
+    let counts = slices::both(lent::fields_fine(fields), arc.steps <= 5302);
+    let lists = lent::lengths_fit(
+        degree,
+        fields,
+        field.len(),
+        added.len(),
+        a.len(),
+        b.len(),
+        scratch,
+    );
+    let lengths = slices::both(lists, out_fits(arc.steps, out));
+    let numbers = slices::both(arc_fine(arc), slices::all_finite(&p));
+    let values = slices::both(lent::model_fine(field, a, b, times, added), numbers);
+    lent::first_of(
+        lent::degree_fine(degree),
+        counts,
+        lengths,
+        values,
+        slices::rising(times),
+    )
 }
 
 // The states of the run, six numbers each, into out.

@@ -1,20 +1,14 @@
-use Rattle.fit.proofs.Calls.{refusal-first, refusal-later}
-use Rattle.integrate.proofs.Calls.{bounds-few}
+use Rattle.fit.specs.Calls.{refusal}
 use borrow.Author.Needs.{needs}
 use Rattle.fit.proofs.refusal.Statement.{statement}
 use Rattle.fit.proofs.refusal.Tie as tie
 
-bounds-requires : tie.Need-bounds-requires
-bounds-requires c κs = search needs
-
 returns : tie.Need-returns
-returns c = search (needs, refusal-first)
-
-later-refusal-requires : tie.Need-later-refusal-requires
-later-refusal-requires c κs = search (needs, bounds-few)
-
-returns-2 : tie.Need-returns-2
-returns-2 c = search (needs, refusal-later)
+unfolding refusal
+returns c =
+    simp (c .first-of .ensures, c .before .degree-fine .ensures, c .before .before .both7 .ensures, c .before .before .before .rising-keys .ensures, c .before .before .before .before .rising .ensures, c .before .before .before .before .before .both6 .ensures, c .before .before .before .before .before .before .model-fine .ensures, c .before .before .before .before .before .before .before .both5 .ensures, c .before .before .before .before .before .before .before .before .keyed-fine .ensures, c .before .before .before .before .before .before .before .before .before .arc-fine .ensures, c .before .before .before .before .before .before .before .before .before .before .both4 .ensures, c .before .before .before .before .before .before .before .before .before .before .before .both3 .ensures, c .before .before .before .before .before .before .before .before .before .before .before .before .states-fit .ensures, c .before .before .before .before .before .before .before .before .before .before .before .before .before .out-fits .ensures, c .before .before .before .before .before .before .before .before .before .before .before .before .before .before .lengths-fit .ensures, c .before .before .before .before .before .before .before .before .before .before .before .before .before .before .before .both2 .ensures, c .before .before .before .before .before .before .before .before .before .before .before .before .before .before .before .before .both .ensures, c .before .before .before .before .before .before .before .before .before .before .before .before .before .before .before .before .before .before .fields-fine .ensures)
 
 pub refusal-spec : {M : Type 1} → statement M
-refusal-spec = tie.close (tie.spec bounds-requires returns later-refusal-requires returns-2)
+refusal-spec =
+    tie.close
+    (tie.spec (λ c κs. search needs) (λ c κs. search needs) (λ c κs. search needs) (λ c κs. search needs) (λ c κs. search needs) (λ c κs. search needs) (λ c κs. search needs) (λ c κs. search needs) (λ c κs. search needs) (λ c κs. search needs) (λ c κs. search needs) (λ c κs. search needs) (λ c κs. search needs) (λ c κs. search needs) (λ c κs. search needs) (λ c κs. search needs) (λ c κs. search needs) (λ c κs. search needs) returns)

@@ -1,19 +1,14 @@
-use Rattle.integrate.proofs.Calls.{refusal-first, refusal-later, few-steps}
+use Rattle.integrate.specs.Calls.{refusal}
 use borrow.Author.Needs.{needs}
 use Rattle.integrate.proofs.refusal.Statement.{statement}
 use Rattle.integrate.proofs.refusal.Tie as tie
 
-bounds-requires : tie.Need-bounds-requires
-bounds-requires c κs = search needs
-
 returns : tie.Need-returns
-returns c = search (needs, refusal-first)
-
-later-refusal-requires : tie.Need-later-refusal-requires
-later-refusal-requires c κs = search (needs, few-steps)
-
-returns-2 : tie.Need-returns-2
-returns-2 c = search (needs, refusal-later)
+unfolding refusal
+returns c =
+    simp (c .first-of .ensures, c .before .rising .ensures, c .before .before .degree-fine .ensures, c .before .before .before .both4 .ensures, c .before .before .before .before .model-fine .ensures, c .before .before .before .before .before .both3 .ensures, c .before .before .before .before .before .before .all-finite .ensures, c .before .before .before .before .before .before .before .before .arc-fine .ensures, c .before .before .before .before .before .before .before .before .before .both2 .ensures, c .before .before .before .before .before .before .before .before .before .before .out-fits .ensures, c .before .before .before .before .before .before .before .before .before .before .before .lengths-fit .ensures, c .before .before .before .before .before .before .before .before .before .before .before .before .both .ensures, c .before .before .before .before .before .before .before .before .before .before .before .before .before .before .fields-fine .ensures)
 
 pub refusal-spec : {M : Type 1} → statement M
-refusal-spec = tie.close (tie.spec bounds-requires returns later-refusal-requires returns-2)
+refusal-spec =
+    tie.close
+    (tie.spec (λ c κs. search needs) (λ c κs. search needs) (λ c κs. search needs) (λ c κs. search needs) (λ c κs. search needs) (λ c κs. search needs) (λ c. search needs) (λ c κs. search needs) (λ c κs. search needs) (λ c κs. search needs) (λ c κs. search needs) (λ c κs. search needs) (λ c κs. search needs) (λ c κs. search needs) returns)
