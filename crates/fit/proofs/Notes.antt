@@ -7,7 +7,7 @@ use native.Mathlib.Numerals.{add-one}
 use native.Mathlib.Omega.{arith}
 use lib.Dec.{eqb}
 use lib.Ieee.{Float, nan}
-use lib.ListN.{length, getD, set, length-append, List·getD-append}
+use lib.ListN.{length, getD, set, length-set, length-append, List·getD-append}
 use lib.Seq.{getD-set-same, getD-at}
 use borrow.Author.Tests.{eqb-true, eqb-false}
 use Rattle.vectors.specs.declared.Vector.{Vector}
@@ -25,10 +25,10 @@ use Rattle.integrate.specs.Steps.{timeOf}
 use Rattle.integrate.specs.Work.{Placed}
 use Rattle.laws.specs.WholeNumbers.{number}
 
-pub stored : (s s' : List Float) (at k : ℕ) (v : Vector) (x : Float) → at < length s → x ≡ number k → Placed (set s at x) s' (at + 1) v → Stored s s' at k v
+pub stored : (s s' : List Float) (at k : ℕ) (v : Vector) (x : Float) → at + 4 ≤ length s → x ≡ number k → Placed (set s at x) s' (at + 1) v → Stored s s' at k v
 stored s s' at k v x h e p = record {
-  step = p .only .same at (λ a b. omega arith) ∙ getD-set-same s at x nan h ∙ e;
-  place = p .here;
+  step = p .only .same at (λ a b. omega arith) ∙ getD-set-same s at x nan (omega arith) ∙ e;
+  place = p .here (simp length-set (omega arith));
   only = only-then at (at + 4) at (at + 1) (at + 1) (at + 1 + 3) s (set s at x) s' (set-only s at x) (p .only) (omega arith) (omega arith) (omega arith) (omega arith);
 }
 

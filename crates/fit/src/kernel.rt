@@ -17,7 +17,6 @@ ghost use Rattle.slices.specs.Slices.{lookup};
 ghost use Rattle.finality.specs.Brackets.{covers};
 ghost use Rattle.integrate.specs.Steps.{timeOf};
 ghost use Rattle.integrate.specs.Room.{Only, Orbit};
-ghost use Rattle.integrate.specs.Work.{Placed};
 ghost use Rattle.integrate.specs.Force.{model, frontSize, fullForce, attractionOf, runOf};
 ghost use Rattle.integrate.specs.declared.kernel.Force.the-variants.{Full, J2};
 ghost use Rattle.fit.specs.Fit.{stateFor, seen, observed, startOf, scaleOf, movedOf, updatedOf, rmsOf};
@@ -207,21 +206,12 @@ fn start(state: integrate::kernel::State) -> [f64; 15]
     ]
 }
 
-fn put(s: &mut [f64], at: usize, v: vectors::Vector)
-    requires { ⌜ at + 3 ≤ length (now s) ⌝ }
-    ensures { λ _. ⌜ Placed (now (s .entry)) (now (s .exit)) at v ⌝ }
-{
-    s[at] = v.x;
-    s[at + 1] = v.y;
-    s[at + 2] = v.z;
-}
-
 fn put_observed(s: &mut [f64], at: usize, k: usize, v: vectors::Vector)
     requires { ⌜ at + 4 ≤ length (now s) ⌝ }
     ensures { λ _. ⌜ Stored (now (s .entry)) (now (s .exit)) at k v ⌝ }
 {
     s[at] = std::num::nearest_u64_to_f64(k as u64);
-    put(s, at + 1, v);
+    integrate::kernel::put(s, at + 1, v);
 }
 
 // Step 5c's position, if it is known, after n others. Returns how many there are then.

@@ -190,8 +190,8 @@ advanced force M w w1 w2 base k known a t0 t s r lk eb lw et m p =
     record {
       ready = λ g f. ready-kept M (base + 6 * (k + 1)) (base + 6 * (k + 1) + 6) w1 w2 (r .known) (p .only) (omega arith) (omega (arith, m .only .long)) (m .ready g f);
       state = λ g. m .state g ∙ ap (λ (u : Float). stepOf a u s) et;
-      position = p .position;
-      velocity = p .velocity;
+      position = p .position (omega (arith, m .only .long));
+      velocity = p .velocity (omega (arith, m .only .long));
       states = λ i l h. p .only .same i (λ q z. omega arith) ∙ m .only .same i (λ q z. omega arith);
       only = only-then 0 (base + 31818) 0 (frontSize (M .degree)) (base + 6 * (k + 1)) (base + 6 * (k + 1) + 6) w w1 w2 (m .only) (p .only) (omega arith) (omega arith) (omega arith) (omega arith);
     }
@@ -215,7 +215,7 @@ pub flown-first : (force : Force) (M : Model) (w w1 w2 : List Float) (base : ℕ
     Orbit w2 base (stateAt a t0 start) 1 × Only 0 (base + 31818) w w2 × ReadyFor force M w2 known
 unfolding stateAt
 flown-first force M w w1 w2 base known a t0 start eb lw g p = (
-  orbit-first w1 w2 base (stateAt a t0 start) start p refl,
+  orbit-first w1 w2 base (stateAt a t0 start) start (omega (arith, g .only .long)) p refl,
   only-then 0 (base + 31818) 0 (frontSize (M .degree)) base (base + 6) w w1 w2 (g .only) (p .only) (omega arith) (omega arith) (omega arith) (omega arith),
   λ f. ready-kept M base (base + 6) w1 w2 known (p .only) (omega arith) (omega (arith, g .only .long)) (g .ready f),
 )

@@ -45,7 +45,7 @@ placed l at v h =
     let l₁ = set l at (v .x) in
     let l₂ = set l₁ (at + 1) (v .y) in
     record {
-      here = record {
+      here = λ _. record {
         x = getD-set-other l₂ (at + 2) at (v .z) nan (λ q. omega arith) ∙ getD-set-other l₁ (at + 1) at (v .y) nan (λ q. omega arith) ∙ getD-set-same l at (v .x) nan (omega arith);
         y = getD-set-other l₂ (at + 2) (at + 1) (v .z) nan (λ q. omega arith) ∙ getD-set-same l₁ (at + 1) (v .y) nan (simp length-set (omega arith));
         z = getD-set-same l₂ (at + 2) (v .z) nan (simp length-set (omega arith));
@@ -59,23 +59,29 @@ placed l at v h =
       };
     }
 
+pub not-placed : (l : List Float) (at : ℕ) (v : Vector) → (at + 3 ≤ length l → ⊥) → Placed l l at v
+not-placed l at v h = record { here = λ e. absurd (h e); only = only-same at (at + 3) l }
+
 -- a position, then a velocity
 pub stored : (s s₁ s₂ : List Float) (at : ℕ) (state : State) → Placed s s₁ at (state .position) → Placed s₁ s₂ (at + 3) (state .velocity) → Stored s s₂ at state
 stored s s₁ s₂ at state p q = record {
-  position = stays3 (at + 3) (at + 3 + 3) at s₁ s₂ (state .position) (q .only) (p .here) (λ k a b c d. omega arith);
-  velocity = q .here;
+  position = λ h. stays3 (at + 3) (at + 3 + 3) at s₁ s₂ (state .position) (q .only) (p .here (omega arith)) (λ k a b c d. omega arith);
+  velocity = λ h. q .here (omega (arith, h, p .only .long));
   only = only-then at (at + 6) at (at + 3) (at + 3) (at + 3 + 3) s s₁ s₂ (p .only) (q .only) (omega arith) (omega arith) (omega arith) (omega arith);
 }
 
+pub not-stored : (s : List Float) (at : ℕ) (state : State) → length s ≤ at → Stored s s at state
+not-stored s at state h = record { position = λ e. absurd (omega arith); velocity = λ e. absurd (omega arith); only = only-same at (at + 6) s }
+
 -- one state more
-pub orbit-more : (s s' : List Float) (at : ℕ) (run : Run) (n : ℕ) (state : State) → Orbit s at run n → Stored s s' (at + 6 * n) state → state ≡ run n → Orbit s' at run (n + 1)
-orbit-more s s' at run n state o w e = record {
+pub orbit-more : (s s' : List Float) (at : ℕ) (run : Run) (n : ℕ) (state : State) → Orbit s at run n → at + 6 * n + 6 ≤ length s → Stored s s' (at + 6 * n) state → state ≡ run n → Orbit s' at run (n + 1)
+orbit-more s s' at run n state o room w e = record {
   position = λ k h. by (eqb k n)
-      (λ t. subst (λ (m : ℕ). Holds3 s' (at + 6 * m) (run m .position)) (sym (eqb-true k n t)) (subst (λ (x : State). Holds3 s' (at + 6 * n) (x .position)) e (w .position)))
+      (λ t. subst (λ (m : ℕ). Holds3 s' (at + 6 * m) (run m .position)) (sym (eqb-true k n t)) (subst (λ (x : State). Holds3 s' (at + 6 * n) (x .position)) e (w .position room)))
       (λ t. let b : k < n = omega (arith, eqb-false k n t) in
       stays3 (at + 6 * n) (at + 6 * n + 6) (at + 6 * k) s s' (run k .position) (w .only) (o .position k b) (λ i p q r u. omega arith));
   velocity = λ k h. by (eqb k n)
-      (λ t. subst (λ (m : ℕ). Holds3 s' (at + 6 * m + 3) (run m .velocity)) (sym (eqb-true k n t)) (subst (λ (x : State). Holds3 s' (at + 6 * n + 3) (x .velocity)) e (w .velocity)))
+      (λ t. subst (λ (m : ℕ). Holds3 s' (at + 6 * m + 3) (run m .velocity)) (sym (eqb-true k n t)) (subst (λ (x : State). Holds3 s' (at + 6 * n + 3) (x .velocity)) e (w .velocity room)))
       (λ t. let b : k < n = omega (arith, eqb-false k n t) in
       stays3 (at + 6 * n) (at + 6 * n + 6) (at + 6 * k + 3) s s' (run k .velocity) (w .only) (o .velocity k b) (λ i p q r u. omega arith));
 }
@@ -83,10 +89,10 @@ orbit-more s s' at run n state o w e = record {
 pub orbit-none : (s : List Float) (at : ℕ) (run : Run) → Orbit s at run 0
 orbit-none s at run = record { position = λ k h. absurd (omega arith); velocity = λ k h. absurd (omega arith) }
 
-pub orbit-first : (s s' : List Float) (at : ℕ) (run : Run) (state : State) → Stored s s' at state → state ≡ run 0 → Orbit s' at run 1
-orbit-first s s' at run state w e =
+pub orbit-first : (s s' : List Float) (at : ℕ) (run : Run) (state : State) → at + 6 ≤ length s → Stored s s' at state → state ≡ run 0 → Orbit s' at run 1
+orbit-first s s' at run state room w e =
     let q : at ≡ at + 6 * 0 = omega arith in
-    orbit-more s s' at run 0 state (orbit-none s at run) (subst (λ (m : ℕ). Stored s s' m state) q w) e
+    orbit-more s s' at run 0 state (orbit-none s at run) (omega arith) (subst (λ (m : ℕ). Stored s s' m state) q w) e
 
 -- ---- past the end
 

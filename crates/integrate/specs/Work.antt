@@ -50,15 +50,15 @@ pub record Moved (force : Force) (M : Model) (w w' : List Float) (known : Instan
   pub state : ReadyFor force M w known → r .state ≡ value
   pub only : Only 0 (frontSize (M .degree)) w w'
 
--- three numbers were put at a place
+-- three numbers were put at a place, if they have room there
 pub record Placed (s s' : List Float) (at : ℕ) (v : Vector) : Type 0 where
-  pub here : Holds3 s' at v
+  pub here : at + 3 ≤ length s → Holds3 s' at v
   pub only : Only at (at + 3) s s'
 
--- a state was put at a place
+-- a state was put at a place, if it has room there
 pub record Stored (s s' : List Float) (at : ℕ) (state : State) : Type 0 where
-  pub position : Holds3 s' at (state .position)
-  pub velocity : Holds3 s' (at + 3) (state .velocity)
+  pub position : at + 6 ≤ length s → Holds3 s' at (state .position)
+  pub velocity : at + 6 ≤ length s → Holds3 s' (at + 3) (state .velocity)
   pub only : Only at (at + 6) s s'
 
 -- one step more, at its place

@@ -402,21 +402,27 @@ pub fn state_in(l: &[f64], i: usize) -> State
     }
 }
 
-fn put(w: &mut [f64], at: usize, v: vectors::Vector)
-    requires { ⌜ at + 3 ≤ length (now w) ⌝ }
+// Three numbers into a list, where they have room.
+pub fn put(w: &mut [f64], at: usize, v: vectors::Vector)
     ensures { λ _. ⌜ Placed (now (w .entry)) (now (w .exit)) at v ⌝ }
 {
-    w[at] = v.x;
-    w[at + 1] = v.y;
-    w[at + 2] = v.z;
+    if at < w.len() {
+        if 3 <= w.len() - at {
+            w[at] = v.x;
+            w[at + 1] = v.y;
+            w[at + 2] = v.z;
+        }
+    }
 }
 
-fn put_state(w: &mut [f64], at: usize, s: State)
-    requires { ⌜ at + 6 ≤ length (now w) ⌝ }
+// The six of a state likewise.
+pub fn put_state(w: &mut [f64], at: usize, s: State)
     ensures { λ _. ⌜ Stored (now (w .entry)) (now (w .exit)) at s ⌝ }
 {
-    put(w, at, s.position);
-    put(w, at + 3, s.velocity);
+    if at < w.len() {
+        put(w, at, s.position);
+        put(w, at + 3, s.velocity);
+    }
 }
 
 // Step k of a run: the next state, stored at its place.

@@ -8,7 +8,7 @@ use native.Mathlib.Omega.{arith}
 use lib.Dec.{T, eqb}
 use lib.IntN.{ℤ, pos}
 use lib.Ieee.{Float, nan, le, lt}
-use lib.ListN.{length, getD, set, length-append, List·getD-append}
+use lib.ListN.{length, getD, set, length-set, length-append, List·getD-append}
 use lib.Seq.{getD-set-same, getD-at}
 use borrow.Author.Tests.{eqb-true, eqb-false}
 use Rattle.laws.specs.Times.{Time, second, secondTime}
@@ -27,15 +27,16 @@ use Rattle.windows.proofs.Times.{held-inside}
 
 -- ---- one state at its place
 
-pub entered : (s s' : List Float) (at : ℕ) (second : ℤ) (state : State) → at < length s → Stored (set s at (secondTime second)) s' (at + 1) state → Entered s s' at second state
-entered s s' at second state h w = record {
-  entry = record {
-    second = w .only .same at (λ a b. omega arith) ∙ getD-set-same s at (secondTime second) nan h;
-    position = w .position;
-    velocity = let q : at + 1 + 3 ≡ at + 4 = omega arith in subst (λ (m : ℕ). Holds3 s' m (state .velocity)) q (w .velocity);
-  };
-  only = only-then at (at + 7) at (at + 1) (at + 1) (at + 1 + 6) s (set s at (secondTime second)) s' (set-only s at (secondTime second)) (w .only) (omega arith) (omega arith) (omega arith) (omega arith);
-}
+pub entered : (s s' : List Float) (at : ℕ) (second : ℤ) (state : State) → at + 7 ≤ length s → Stored (set s at (secondTime second)) s' (at + 1) state → Entered s s' at second state
+entered s s' at second state h w =
+    let room : at + 1 + 6 ≤ length (set s at (secondTime second)) = simp length-set (omega arith) in record {
+      entry = record {
+        second = w .only .same at (λ a b. omega arith) ∙ getD-set-same s at (secondTime second) nan (omega arith);
+        position = w .position room;
+        velocity = let q : at + 1 + 3 ≡ at + 4 = omega arith in subst (λ (m : ℕ). Holds3 s' m (state .velocity)) q (w .velocity room);
+      };
+      only = only-then at (at + 7) at (at + 1) (at + 1) (at + 1 + 6) s (set s at (secondTime second)) s' (set-only s at (secondTime second)) (w .only) (omega arith) (omega arith) (omega arith) (omega arith);
+    }
 
 -- a state apart from a change stays
 pub entry-stays : (a e at : ℕ) (s s' : List Float) (x : ℤ × State) → Only a e s s' → Entry s at x → ((k : ℕ) → at ≤ k → k < at + 7 → a ≤ k → k < e → ⊥) → Entry s' at x

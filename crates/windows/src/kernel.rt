@@ -16,7 +16,6 @@ ghost use Rattle.finality.specs.Brackets.{covers};
 ghost use Rattle.integrate.specs.Force.{model, frontSize, fullForce};
 ghost use Rattle.integrate.specs.Room.{Run, stateIn};
 ghost use Rattle.integrate.specs.Steps.{timeOf};
-ghost use Rattle.integrate.specs.Work.{Placed, Stored};
 ghost use Rattle.fit.specs.Fit.{stateFor};
 ghost use Rattle.windows.specs.Windows.{windowBy, windowFine, arcBetween, roomFor, windowsServe, Leaves, Windowed, Ends, Filled, WindowsFit};
 ghost use Rattle.windows.specs.Slots.{lowest, highest, within, Entered, Keeping, Keeps};
@@ -108,30 +107,13 @@ fn second_of(t: f64) -> f64
     std::num::nearest_i64_to_f64(k.0)
 }
 
-fn put(s: &mut [f64], at: usize, v: vectors::Vector)
-    requires { ⌜ at + 3 ≤ length (now s) ⌝ }
-    ensures { λ _. ⌜ Placed (now (s .entry)) (now (s .exit)) at v ⌝ }
-{
-    s[at] = v.x;
-    s[at + 1] = v.y;
-    s[at + 2] = v.z;
-}
-
-fn put_state(s: &mut [f64], at: usize, state: integrate::kernel::State)
-    requires { ⌜ at + 6 ≤ length (now s) ⌝ }
-    ensures { λ _. ⌜ Stored (now (s .entry)) (now (s .exit)) at state ⌝ }
-{
-    put(s, at, state.position);
-    put(s, at + 3, state.velocity);
-}
-
 // A state with its second.
 fn enter(s: &mut [f64], at: usize, t: f64, state: integrate::kernel::State)
     requires { ⌜ at + 7 ≤ length (now s) ⌝ }
     ensures { λ _. ⌜ Entered (now (s .entry)) (now (s .exit)) at (wholeSecond t) state ⌝ }
 {
     s[at] = second_of(t);
-    put_state(s, at + 1, state);
+    integrate::kernel::put_state(s, at + 1, state);
 }
 
 // Step k's state, if its time lies in the window, after n others. Returns how many there are then.

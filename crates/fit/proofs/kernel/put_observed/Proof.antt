@@ -17,4 +17,4 @@ returns c = stored (c .before .before .before .before .before .before .args .s .
 pub put-observed-spec : {M : Type 1} → statement M
 put-observed-spec =
     tie.close
-    (tie.spec (λ c κs. search needs) (λ c. search needs) (λ c. search needs) (λ c. search needs) (λ c κs. simp length-set (omega arith)) same-length returns)
+    (tie.spec (λ c κs. search needs) (λ c. search needs) (λ c. search needs) (λ c. search needs) (λ c κs. search needs) same-length returns)

@@ -1,4 +1,4 @@
-use Rattle.integrate.proofs.Places.{placed}
+use Rattle.integrate.proofs.Places.{placed, not-placed}
 use lib.ListN.{length-set}
 use native.Mathlib.Omega.{arith}
 use borrow.Author.Needs.{needs}
@@ -6,9 +6,15 @@ use Rattle.integrate.proofs.kernel.put.Statement.{statement}
 use Rattle.integrate.proofs.kernel.put.Tie as tie
 
 returns : tie.Need-returns
-returns c = placed (c .args .w .now) (c .args .at) (c .args .v) (c .pre)
+returns c = placed (c .before .before .args .w .now) (c .before .before .args .at) (c .before .before .args .v) (omega arith)
+
+returns-2 : tie.Need-returns-2
+returns-2 c = not-placed _ _ _ (λ h. omega (arith, h))
+
+returns-3 : tie.Need-returns-3
+returns-3 c = not-placed _ _ _ (λ h. omega (arith, h))
 
 pub put-spec : {M : Type 1} → statement M
 put-spec =
     tie.close
-    (tie.spec (λ c. search needs) (λ c. search needs) (λ c. search needs) (λ c. search needs) (λ c. simp length-set (omega arith)) (λ c. search needs) (λ c. search needs) (λ c. simp length-set (omega arith)) (λ c. search needs) returns)
+    (tie.spec (λ c. search needs) (λ c. search needs) (λ c. search needs) (λ c. search needs) (λ c. search needs) (λ c. simp length-set (omega arith)) (λ c. search needs) (λ c. search needs) (λ c. simp length-set (omega arith)) (λ c. search needs) returns returns-2 returns-3)

@@ -1,10 +1,16 @@
-use Rattle.integrate.proofs.Places.{stored}
+use Rattle.integrate.proofs.Places.{stored, not-stored}
+use native.Mathlib.Omega.{arith}
 use borrow.Author.Needs.{needs}
 use Rattle.integrate.proofs.kernel.put_state.Statement.{statement}
 use Rattle.integrate.proofs.kernel.put_state.Tie as tie
 
 returns : tie.Need-returns
-returns c = stored _ _ _ (c .before .before .before .before .before .before .before .before .before .args .at) (c .before .before .before .before .before .before .before .before .before .args .s) (c .before .before .before .before .before .before .put .ensures) (c .before .before .put2 .ensures)
+returns c =
+    let a = c .before .before .before .before .before .before .before .before .before .before .args in
+    stored _ _ _ (a .at) (a .s) (c .before .before .before .before .before .before .put .ensures) (c .before .before .put2 .ensures)
+
+returns-2 : tie.Need-returns-2
+returns-2 c = not-stored _ _ _ (omega arith)
 
 pub put-state-spec : {M : Type 1} → statement M
-put-state-spec = tie.close (tie.spec (λ c κs. search needs) (λ c. search needs) (λ c κs. search needs) (λ c. search needs) returns)
+put-state-spec = tie.close (tie.spec (λ c κs. search needs) (λ c. search needs) (λ c κs. search needs) (λ c. search needs) returns returns-2)

@@ -23,7 +23,7 @@ begin-requires : tie.Need-begin-requires Inv-loop μ-loop
 begin-requires c κs = search needs
 
 put-state-requires : tie.Need-put-state-requires Inv-loop μ-loop
-put-state-requires c κs = omega (arith, c .before .before .before .begin .ensures .only .long, c .before .before .before .before .before .before .before .before .before .before .before .pre .3)
+put-state-requires c κs = search needs
 
 loop-holds : tie.Need-loop-holds Inv-loop μ-loop
 unfolding stateAt
