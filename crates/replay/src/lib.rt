@@ -199,6 +199,14 @@ pub fn say_float(x: f64) {
     say(hex::pattern(x));
 }
 
+// Writes 0 for acceptance, or the refusal's number.
+pub fn say_outcome(outcome: slices::Outcome) {
+    match outcome {
+        slices::Outcome::Accepted => say(0),
+        slices::Outcome::Refused(n) => say(n as u64),
+    }
+}
+
 pub fn say_all(values: &[f64]) {
     let mut i = 0;
     while i < values.len() {

@@ -1,75 +1,15 @@
 // Replays the oracle's list of module 1: each call is its number and its arguments, a word a line; a slice is preceded by its
 // length. Outputs stand at 3.0 and scratch at 7.0 before a call; of long tables every so many numbers are told.
-ghost use Prim.Native.Nat.{_≤_};
-ghost use lib.ListN.{length};
 use replay::Item;
-
-fn at_most(n: u64, limit: usize) -> usize
-    ensures { λ r. ⌜ r ≤ limit ⌝ }
-{
-    if n < limit as u64 { n as usize } else { limit }
-}
-
-// A length, and so many doubles, as far as there is room.
-fn list(out: &mut [f64]) -> usize
-    ensures { λ r. ⌜ r ≤ length (now (out .exit)) ⌝ }
-{
-    let count = at_most(replay::number(), out.len());
-    replay::fill(out, count);
-    count
-}
-
-fn say_outcome(outcome: slices::Outcome) {
-    match outcome {
-        slices::Outcome::Accepted => {
-            replay::say(0);
-        }
-        slices::Outcome::Refused(n) => {
-            replay::say(n as u64);
-        }
-    }
-}
-
-fn all_are(values: &[f64], bits: u64) -> bool {
-    let mut i = 0;
-    while i < values.len() {
-        if hex::pattern(values[i]) != bits {
-            return false;
-        }
-        i += 1;
-    }
-    true
-}
 
 // 0 where the scratch is +0.0, 1 where it is unchanged, 2 otherwise.
 fn say_scratch(scratch: &[f64]) {
-    if all_are(scratch, 0) {
-        replay::say(0);
-    } else if all_are(scratch, 4619567317775286272) {
-        replay::say(1);
-    } else {
-        replay::say(2);
-    }
-}
-
-// Every so many numbers, by the count of those between.
-fn say_some(values: &[f64], between: u64) {
-    let mut left = 0;
-    let mut i = 0;
-    while i < values.len() {
-        if left == 0 {
-            replay::say_float(values[i]);
-            left = between;
-        } else {
-            left -= 1;
-        }
-        i += 1;
-    }
+    replay::say_left(scratch, 4619567317775286272);
 }
 
 fn index() {
-    let n = at_most(replay::number(), 1000000);
-    let m = at_most(replay::number(), 1000000);
+    let n = replay::number() as usize;
+    let m = replay::number() as usize;
     match fields::idx(n, m) {
         fields::Index::At(k) => {
             replay::say(0);
@@ -109,10 +49,10 @@ fn acceleration() {
 
 fn run_new(degree: usize, a: &mut [f64], b: &mut [f64], scratch: &mut [f64]) {
     let outcome = fields::legendre_new(degree, a, b, scratch);
-    say_outcome(outcome);
+    replay::say_outcome(outcome);
     let between = replay::number();
-    say_some(&a[..], between);
-    say_some(&b[..], between);
+    replay::say_some(&a[..], between);
+    replay::say_some(&b[..], between);
     say_scratch(&scratch[..]);
 }
 
@@ -121,10 +61,10 @@ fn legendre_new() {
     let mut a = [3.0; 16500];
     let mut b = [3.0; 16500];
     let mut scratch = [7.0; 132000];
-    let degree = at_most(replay::number(), 1000000);
-    let la = at_most(replay::number(), 16500);
-    let lb = at_most(replay::number(), 16500);
-    let ls = at_most(replay::number(), 132000);
+    let degree = replay::number() as usize;
+    let la = replay::count(16500);
+    let lb = replay::count(16500);
+    let ls = replay::count(132000);
     run_new(degree, &mut a[0..la], &mut b[0..lb], &mut scratch[0..ls]);
 }
 
@@ -138,47 +78,41 @@ fn run_rescaled(
     let gm = replay::float();
     let radius = replay::float();
     let outcome = fields::rescaled(degree, field, gm, radius, cosines, sines, scratch);
-    say_outcome(outcome);
+    replay::say_outcome(outcome);
     replay::say_all(&cosines[..]);
     replay::say_all(&sines[..]);
     say_scratch(&scratch[..]);
 }
 
 fn rescaled() {
-    let mut field = [0.0; 4000];
-    let mut cosines = [3.0; 2000];
-    let mut sines = [3.0; 2000];
-    let mut scratch = [7.0; 16000];
-    let degree = at_most(replay::number(), 1000000);
-    let f = list(&mut field);
-    let lc = at_most(replay::number(), 2000);
-    let ls = at_most(replay::number(), 2000);
-    let lw = at_most(replay::number(), 16000);
-    run_rescaled(
-        degree,
-        &field[0..f],
-        &mut cosines[0..lc],
-        &mut sines[0..ls],
-        &mut scratch[0..lw],
-    );
+    let mut f = [0.0; 4000];
+    let mut c = [3.0; 2000];
+    let mut s = [3.0; 2000];
+    let mut w = [7.0; 16000];
+    let degree = replay::number() as usize;
+    let field = replay::full_list(&mut f);
+    let lc = replay::count(2000);
+    let ls = replay::count(2000);
+    let lw = replay::count(16000);
+    run_rescaled(degree, field, &mut c[0..lc], &mut s[0..ls], &mut w[0..lw]);
 }
 
 fn run_derive(degree: usize, p: &[f64], dp: &mut [f64], scratch: &mut [f64]) {
     let outcome = fields::derive(degree, p, dp, scratch);
-    say_outcome(outcome);
+    replay::say_outcome(outcome);
     replay::say_all(&dp[..]);
     say_scratch(&scratch[..]);
 }
 
 fn derive() {
-    let mut p = [0.0; 2000];
+    let mut x = [0.0; 2000];
     let mut dp = [3.0; 2000];
     let mut scratch = [7.0; 16000];
-    let degree = at_most(replay::number(), 1000000);
-    let lp = list(&mut p);
-    let ld = at_most(replay::number(), 2000);
-    let lw = at_most(replay::number(), 16000);
-    run_derive(degree, &p[0..lp], &mut dp[0..ld], &mut scratch[0..lw]);
+    let degree = replay::number() as usize;
+    let p = replay::full_list(&mut x);
+    let ld = replay::count(2000);
+    let lw = replay::count(16000);
+    run_derive(degree, p, &mut dp[0..ld], &mut scratch[0..lw]);
 }
 
 fn run_compute(
@@ -191,10 +125,10 @@ fn run_compute(
 ) {
     let lat = replay::float();
     let outcome = fields::compute_with_derivative(degree, a, b, lat, p, dp, scratch);
-    say_outcome(outcome);
+    replay::say_outcome(outcome);
     let between = replay::number();
-    say_some(&p[..], between);
-    say_some(&dp[..], between);
+    replay::say_some(&p[..], between);
+    replay::say_some(&dp[..], between);
     say_scratch(&scratch[..]);
 }
 
@@ -226,9 +160,9 @@ fn compute_by(degree: usize, a: &[f64], b: &[f64]) {
     let mut p = [3.0; 16500];
     let mut dp = [3.0; 16500];
     let mut scratch = [7.0; 132000];
-    let lp = at_most(replay::number(), 16500);
-    let ld = at_most(replay::number(), 16500);
-    let lw = at_most(replay::number(), 132000);
+    let lp = replay::count(16500);
+    let ld = replay::count(16500);
+    let lw = replay::count(132000);
     run_compute(
         degree,
         a,
@@ -248,9 +182,9 @@ fn compute() {
     let mut a = [3.0; 16500];
     let mut b = [3.0; 16500];
     let mut room = [7.0; 132000];
-    let degree = at_most(replay::number(), 1000000);
-    let la = at_most(replay::number(), 16500);
-    let lb = at_most(replay::number(), 16500);
+    let degree = replay::number() as usize;
+    let la = replay::count(16500);
+    let lb = replay::count(16500);
     fill_and_compute(degree, &mut a[0..la], &mut b[0..lb], &mut room);
 }
 
@@ -291,8 +225,8 @@ fn all_places(
 // So many places; the scratch of one is left to the next.
 fn partials_by(degree: usize, field: &[f64], a: &[f64], b: &[f64]) {
     let mut scratch = [7.0; 132000];
-    let lw = at_most(replay::number(), 132000);
-    let count = at_most(replay::number(), 1000);
+    let lw = replay::count(132000);
+    let count = replay::count(1000);
     all_places(degree, field, a, b, &mut scratch[0..lw], count);
 }
 
@@ -302,21 +236,15 @@ fn fill_and_sum(degree: usize, field: &[f64], a: &mut [f64], b: &mut [f64], scra
 }
 
 fn partials() {
-    let mut field = [0.0; 33000];
+    let mut f = [0.0; 33000];
     let mut a = [3.0; 16500];
     let mut b = [3.0; 16500];
     let mut room = [7.0; 132000];
-    let degree = at_most(replay::number(), 1000000);
-    let f = list(&mut field);
-    let la = at_most(replay::number(), 16500);
-    let lb = at_most(replay::number(), 16500);
-    fill_and_sum(
-        degree,
-        &field[0..f],
-        &mut a[0..la],
-        &mut b[0..lb],
-        &mut room,
-    );
+    let degree = replay::number() as usize;
+    let field = replay::full_list(&mut f);
+    let la = replay::count(16500);
+    let lb = replay::count(16500);
+    fill_and_sum(degree, field, &mut a[0..la], &mut b[0..lb], &mut room);
 }
 
 fn choose(call: u64) {
