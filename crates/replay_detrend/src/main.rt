@@ -1,17 +1,6 @@
 // Replays the oracle's list of revolutions, detrending and nodes: each call is its number and its arguments, a word a line. A slice is its length, how many of
 // its numbers are given, and these; the others are 0. Outputs and scratch hold 7 before a call.
-ghost use mathlib.Core.Path.{_≡_};
-ghost use Prim.Native.Nat.{_≤_};
-ghost use lib.ListN.{length, drop};
 use replay::Item;
-
-// The next word, at most the limit.
-fn count(limit: usize) -> usize
-    ensures { λ r. ⌜ r ≤ limit ⌝ }
-{
-    let v = replay::number() as usize;
-    if v <= limit { v } else { limit }
-}
 
 fn fill_counts(out: &mut [usize], given: usize) {
     let mut i = 0;
@@ -24,40 +13,19 @@ fn fill_counts(out: &mut [usize], given: usize) {
     }
 }
 
+fn counts<'a>(room: &'a mut [usize]) -> &'a [usize] {
+    let n = replay::count(room.len());
+    let given = replay::count(room.len());
+    fill_counts(room, given);
+    let whole = &room[..];
+    &whole[0..n]
+}
+
 fn say_counts(counts: &[usize]) {
     let mut i = 0;
     while i < counts.len() {
         replay::say(counts[i] as u64);
         i += 1;
-    }
-}
-
-fn all_of(values: &[f64], bits: u64) -> bool {
-    let mut i = 0;
-    while i < values.len() {
-        if hex::pattern(values[i]) != bits {
-            return false;
-        }
-        i += 1;
-    }
-    true
-}
-
-// 0 where each number is +0.0, 1 where each is 7.0, 2 otherwise.
-fn say_kept(values: &[f64]) {
-    if all_of(values, 0) {
-        replay::say(0);
-    } else if all_of(values, 4619567317775286272) {
-        replay::say(1);
-    } else {
-        replay::say(2);
-    }
-}
-
-fn say_outcome(outcome: slices::Outcome) {
-    match outcome {
-        slices::Outcome::Accepted => replay::say(0),
-        slices::Outcome::Refused(n) => replay::say(n as u64),
     }
 }
 
@@ -91,23 +59,21 @@ fn list(
 }
 
 fn revolutions() {
-    let mut times = [0.0; 400];
-    let mut nodes = [0.0; 66];
+    let mut t = [0.0; 400];
+    let mut u = [0.0; 66];
     let mut firsts = [7usize; 66];
     let mut ends = [7usize; 66];
     let mut starts = [7.0; 66];
     let mut periods = [7.0; 66];
-    let n = count(400);
-    replay::fill(&mut times, count(400));
-    let m = count(66);
-    replay::fill(&mut nodes, count(66));
-    let f = count(66);
-    let e = count(66);
-    let s = count(66);
-    let p = count(66);
+    let times = replay::list(&mut t);
+    let nodes = replay::list(&mut u);
+    let f = replay::count(66);
+    let e = replay::count(66);
+    let s = replay::count(66);
+    let p = replay::count(66);
     list(
-        &times[0..n],
-        &nodes[0..m],
+        times,
+        nodes,
         &mut firsts[0..f],
         &mut ends[0..e],
         &mut starts[0..s],
@@ -125,39 +91,34 @@ fn settle(
     scratch: &mut [f64],
 ) {
     let answer = detrend::detrend(times, values, firsts, ends, starts, periods, scratch);
-    say_outcome(answer);
+    replay::say_outcome(answer);
     replay::say_all(values);
-    say_kept(scratch);
+    replay::say_left(scratch, 4619567317775286272);
 }
 
 fn detrending() {
-    let mut times = [0.0; 400];
+    let mut t = [0.0; 400];
     let mut values = [0.0; 400];
-    let mut firsts = [0usize; 66];
-    let mut ends = [0usize; 66];
-    let mut starts = [0.0; 66];
-    let mut periods = [0.0; 66];
+    let mut f = [0usize; 66];
+    let mut e = [0usize; 66];
+    let mut s = [0.0; 66];
+    let mut p = [0.0; 66];
     let mut scratch = [7.0; 3300];
-    let n = count(400);
-    replay::fill(&mut times, count(400));
-    let v = count(400);
-    replay::fill(&mut values, count(400));
-    let f = count(66);
-    fill_counts(&mut firsts, count(66));
-    let e = count(66);
-    fill_counts(&mut ends, count(66));
-    let s = count(66);
-    replay::fill(&mut starts, count(66));
-    let p = count(66);
-    replay::fill(&mut periods, count(66));
-    let room = count(3300);
+    let times = replay::list(&mut t);
+    let v = replay::count(400);
+    replay::fill(&mut values, replay::count(400));
+    let firsts = counts(&mut f);
+    let ends = counts(&mut e);
+    let starts = replay::list(&mut s);
+    let periods = replay::list(&mut p);
+    let room = replay::count(3300);
     settle(
-        &times[0..n],
+        times,
         &mut values[0..v],
-        &firsts[0..f],
-        &ends[0..e],
-        &starts[0..s],
-        &periods[0..p],
+        firsts,
+        ends,
+        starts,
+        periods,
         &mut scratch[0..room],
     );
 }
@@ -173,13 +134,12 @@ fn remove(work: &mut [f64], n: usize, nodes: &[f64]) {
 // The kernel: n times, n values, and the rest of the work area.
 fn remove_within() {
     let mut work = [7.0; 3300];
-    let mut nodes = [0.0; 66];
-    let n = count(400);
-    replay::fill(&mut work, count(800));
-    let m = count(66);
-    replay::fill(&mut nodes, count(66));
-    let room = count(3300);
-    remove(&mut work[0..room], n, &nodes[0..m]);
+    let mut u = [0.0; 66];
+    let n = replay::count(400);
+    replay::fill(&mut work, replay::count(800));
+    let nodes = replay::list(&mut u);
+    let room = replay::count(3300);
+    remove(&mut work[0..room], n, nodes);
 }
 
 fn find(keys: &[i64], states: &[f64], out: &mut [f64]) {
@@ -189,15 +149,13 @@ fn find(keys: &[i64], states: &[f64], out: &mut [f64]) {
 }
 
 fn ascending_nodes() {
-    let mut keys = [0i64; 60];
-    let mut states = [0.0; 360];
+    let mut k = [0i64; 60];
+    let mut x = [0.0; 360];
     let mut out = [7.0; 60];
-    let k = count(60);
-    replay::fill_keys(&mut keys, count(60));
-    let s = count(360);
-    replay::fill(&mut states, count(360));
-    let o = count(60);
-    find(&keys[0..k], &states[0..s], &mut out[0..o]);
+    let keys = replay::key_list(&mut k);
+    let states = replay::list(&mut x);
+    let o = replay::count(60);
+    find(keys, states, &mut out[0..o]);
 }
 
 // One call; false at the end of the list.
