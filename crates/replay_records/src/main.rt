@@ -14,14 +14,6 @@ struct Left {
     epochs: [Epoch; 128],
 }
 
-// The next word, at most the limit.
-fn count(limit: usize) -> usize
-    ensures { λ r. ⌜ r ≤ limit ⌝ }
-{
-    let v = replay::number() as usize;
-    if v <= limit { v } else { limit }
-}
-
 fn read_epoch() -> Epoch {
     let t = replay::float();
     let residual = replay::float();
@@ -82,35 +74,6 @@ fn say_epochs(epochs: [Epoch; 128], n: usize) {
     }
 }
 
-fn say_outcome(outcome: slices::Outcome) {
-    match outcome {
-        slices::Outcome::Accepted => replay::say(0),
-        slices::Outcome::Refused(n) => replay::say(n as u64),
-    }
-}
-
-fn all_of(values: &[f64], bits: u64) -> bool {
-    let mut i = 0;
-    while i < values.len() {
-        if hex::pattern(values[i]) != bits {
-            return false;
-        }
-        i += 1;
-    }
-    true
-}
-
-// 0 where each number is +0.0, 1 where each is 7.0, 2 otherwise.
-fn say_kept(values: &[f64]) {
-    if all_of(values, 0) {
-        replay::say(0);
-    } else if all_of(values, 4619567317775286272) {
-        replay::say(1);
-    } else {
-        replay::say(2);
-    }
-}
-
 // The first n records with each revolution's fit removed, and the others.
 fn removed(mut epochs: [Epoch; 128], n: usize, nodes: &[f64], scratch: &mut [f64]) -> Left
     requires { ⌜ n ≤ 128 ⌝ }
@@ -126,20 +89,19 @@ fn remove(epochs: [Epoch; 128], n: usize, nodes: &[f64], scratch: &mut [f64])
     let left = removed(epochs, n, nodes, scratch);
     let outcome = left.answer;
     let epochs = left.epochs;
-    say_outcome(outcome);
+    replay::say_outcome(outcome);
     say_epochs(epochs, n);
-    say_kept(scratch);
+    replay::say_left(scratch, 4619567317775286272);
 }
 
 fn call() {
-    let mut nodes = [0.0; 66];
+    let mut u = [0.0; 66];
     let mut scratch = [7.0; 1100];
-    let n = count(128);
+    let n = replay::count(128);
     let epochs = read_epochs(n);
-    let m = count(66);
-    replay::fill(&mut nodes, m);
-    let room = count(1100);
-    remove(epochs, n, &nodes[0..m], &mut scratch[0..room]);
+    let nodes = replay::full_list(&mut u);
+    let room = replay::count(1100);
+    remove(epochs, n, nodes, &mut scratch[0..room]);
 }
 
 // One call; false at the end of the list.
