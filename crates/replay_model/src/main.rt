@@ -1,62 +1,12 @@
 // Replays the oracle's list of the model: each call is its number and its arguments, a word a line; a slice is preceded by
 // its length. Outputs stand at 3.0 and scratch at 7.0 before a call.
-ghost use Prim.Native.Nat.{_≤_};
-ghost use lib.ListN.{length};
 use replay::Item;
 
-fn at_most(n: u64, limit: usize) -> usize
-    ensures { λ r. ⌜ r ≤ limit ⌝ }
-{
-    if n < limit as u64 { n as usize } else { limit }
-}
-
-// A length, and so many doubles, as far as there is room.
-fn list(out: &mut [f64]) -> usize
-    ensures { λ r. ⌜ r ≤ length (now (out .exit)) ⌝ }
-{
-    let count = at_most(replay::number(), out.len());
-    replay::fill(out, count);
-    count
-}
-
-fn say_outcome(outcome: slices::Outcome) {
-    match outcome {
-        slices::Outcome::Accepted => {
-            replay::say(0);
-        }
-        slices::Outcome::Refused(n) => {
-            replay::say(n as u64);
-        }
-    }
-}
-
-fn all_are(values: &[f64], bits: u64) -> bool {
-    let mut i = 0;
-    while i < values.len() {
-        if hex::pattern(values[i]) != bits {
-            return false;
-        }
-        i += 1;
-    }
-    true
-}
-
-// 0 where the scratch is +0.0, 1 where it is unchanged, 2 otherwise.
-fn say_scratch(scratch: &[f64]) {
-    if all_are(scratch, 0) {
-        replay::say(0);
-    } else if all_are(scratch, 4619567317775286272) {
-        replay::say(1);
-    } else {
-        replay::say(2);
-    }
-}
-
 fn covers() {
-    let mut times = [0.0; 40];
-    let n = list(&mut times);
+    let mut room = [0.0; 40];
+    let times = replay::full_list(&mut room);
     let t = replay::float();
-    let answer = model::covers(&times[0..n], t);
+    let answer = model::covers(times, t);
     match answer {
         model::Cover::Covered => {
             replay::say(0);
@@ -72,80 +22,62 @@ fn covers() {
     }
 }
 
-fn run_at(
-    degree: usize,
-    field: &[f64],
-    times: &[f64],
-    added: &[f64],
-    t: f64,
-    cosines: &mut [f64],
-    sines: &mut [f64],
-    scratch: &mut [f64],
-) {
-    let outcome = model::at(degree, field, times, added, t, cosines, sines, scratch);
-    say_outcome(outcome);
-    replay::say_all(&cosines[..]);
-    replay::say_all(&sines[..]);
-    say_scratch(&scratch[..]);
+fn say_model(outcome: slices::Outcome, cosines: &[f64], sines: &[f64], scratch: &[f64]) {
+    replay::say_outcome(outcome);
+    replay::say_all(cosines);
+    replay::say_all(sines);
+    replay::say_left(scratch, 4619567317775286272);
 }
 
 // The lengths of the outputs and of the scratch come next.
 fn public_at(degree: usize, field: &[f64], times: &[f64], added: &[f64], t: f64) {
-    let mut cosines = [3.0; 240];
-    let mut sines = [3.0; 240];
-    let mut scratch = [7.0; 160000];
-    let c = at_most(replay::number(), 240);
-    let s = at_most(replay::number(), 240);
-    let w = at_most(replay::number(), 160000);
-    run_at(
-        degree,
-        field,
-        times,
-        added,
-        t,
-        &mut cosines[0..c],
-        &mut sines[0..s],
-        &mut scratch[0..w],
-    );
-}
-
-fn run_kernel(degree: usize, field: &[f64], times: &[f64], added: &[f64], t: f64, out: &mut [f64]) {
-    model::kernel::at(degree, field, times, added, t, out);
-    replay::say_all(&out[..]);
+    let mut x = [3.0; 240];
+    let mut y = [3.0; 240];
+    let mut w = [7.0; 160000];
+    let c = replay::count(240);
+    let s = replay::count(240);
+    let m = replay::count(160000);
+    let cosines = &mut x[0..c];
+    let sines = &mut y[0..s];
+    let scratch = &mut w[0..m];
+    let outcome = model::at(degree, field, times, added, t, cosines, sines, scratch);
+    say_model(outcome, &cosines[..], &sines[..], &scratch[..]);
 }
 
 // The length of the output comes next.
 fn kernel_at(degree: usize, field: &[f64], times: &[f64], added: &[f64], t: f64) {
-    let mut out = [3.0; 480];
-    let n = at_most(replay::number(), 480);
-    run_kernel(degree, field, times, added, t, &mut out[0..n]);
+    let mut x = [3.0; 480];
+    let n = replay::count(480);
+    let out = &mut x[0..n];
+    model::kernel::at(degree, field, times, added, t, out);
+    replay::say_all(&out[..]);
 }
 
 // Call 1 is the public one, call 2 the kernel.
 fn at(call: u64) {
-    let mut field = [0.0; 500];
-    let mut times = [0.0; 40];
-    let mut added = [0.0; 3000];
-    let degree = at_most(replay::number(), 1000000);
-    let f = list(&mut field);
-    let n = list(&mut times);
-    let a = list(&mut added);
+    let mut f = [0.0; 500];
+    let mut x = [0.0; 40];
+    let mut g = [0.0; 3000];
+    let degree = replay::number() as usize;
+    let field = replay::full_list(&mut f);
+    let times = replay::full_list(&mut x);
+    let added = replay::full_list(&mut g);
     let t = replay::float();
     if call == 1 {
-        public_at(degree, &field[0..f], &times[0..n], &added[0..a], t);
+        public_at(degree, field, times, added, t);
     } else {
-        kernel_at(degree, &field[0..f], &times[0..n], &added[0..a], t);
+        kernel_at(degree, field, times, added, t);
     }
 }
 
 // The bracket and its weight.
 fn weight() {
-    let mut times = [0.0; 40];
-    let n = list(&mut times);
+    let mut room = [0.0; 40];
+    let times = replay::full_list(&mut room);
     let t = replay::float();
-    let j = model::kernel::bracket(&times[0..n], t);
+    let j = model::kernel::bracket(times, t);
     replay::say(j as u64);
-    replay::say_float(model::kernel::weight(&times[0..n], t, j));
+    replay::say_float(model::kernel::weight(times, t, j));
 }
 
 // One call; false at the end of the list.
