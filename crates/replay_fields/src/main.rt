@@ -47,88 +47,62 @@ fn acceleration() {
     }
 }
 
-fn run_new(degree: usize, a: &mut [f64], b: &mut [f64], scratch: &mut [f64]) {
-    let outcome = fields::legendre_new(degree, a, b, scratch);
+fn say_tables(outcome: slices::Outcome, a: &[f64], b: &[f64], scratch: &[f64], between: u64) {
     replay::say_outcome(outcome);
-    let between = replay::number();
-    replay::say_some(&a[..], between);
-    replay::say_some(&b[..], between);
-    say_scratch(&scratch[..]);
+    replay::say_some(a, between);
+    replay::say_some(b, between);
+    say_scratch(scratch);
 }
 
 // The lengths of a, b and the scratch, and how many numbers are passed over.
 fn legendre_new() {
-    let mut a = [3.0; 16500];
-    let mut b = [3.0; 16500];
-    let mut scratch = [7.0; 132000];
+    let mut x = [3.0; 16500];
+    let mut y = [3.0; 16500];
+    let mut w = [7.0; 132000];
     let degree = replay::number() as usize;
     let la = replay::count(16500);
     let lb = replay::count(16500);
-    let ls = replay::count(132000);
-    run_new(degree, &mut a[0..la], &mut b[0..lb], &mut scratch[0..ls]);
-}
-
-fn run_rescaled(
-    degree: usize,
-    field: &[f64],
-    cosines: &mut [f64],
-    sines: &mut [f64],
-    scratch: &mut [f64],
-) {
-    let gm = replay::float();
-    let radius = replay::float();
-    let outcome = fields::rescaled(degree, field, gm, radius, cosines, sines, scratch);
-    replay::say_outcome(outcome);
-    replay::say_all(&cosines[..]);
-    replay::say_all(&sines[..]);
-    say_scratch(&scratch[..]);
+    let lw = replay::count(132000);
+    let between = replay::number();
+    let a = &mut x[0..la];
+    let b = &mut y[0..lb];
+    let scratch = &mut w[0..lw];
+    let outcome = fields::legendre_new(degree, a, b, scratch);
+    say_tables(outcome, &a[..], &b[..], &scratch[..], between);
 }
 
 fn rescaled() {
     let mut f = [0.0; 4000];
-    let mut c = [3.0; 2000];
-    let mut s = [3.0; 2000];
+    let mut x = [3.0; 2000];
+    let mut y = [3.0; 2000];
     let mut w = [7.0; 16000];
     let degree = replay::number() as usize;
     let field = replay::full_list(&mut f);
     let lc = replay::count(2000);
     let ls = replay::count(2000);
     let lw = replay::count(16000);
-    run_rescaled(degree, field, &mut c[0..lc], &mut s[0..ls], &mut w[0..lw]);
-}
-
-fn run_derive(degree: usize, p: &[f64], dp: &mut [f64], scratch: &mut [f64]) {
-    let outcome = fields::derive(degree, p, dp, scratch);
-    replay::say_outcome(outcome);
-    replay::say_all(&dp[..]);
-    say_scratch(&scratch[..]);
+    let gm = replay::float();
+    let radius = replay::float();
+    let cosines = &mut x[0..lc];
+    let sines = &mut y[0..ls];
+    let scratch = &mut w[0..lw];
+    let outcome = fields::rescaled(degree, field, gm, radius, cosines, sines, scratch);
+    say_tables(outcome, &cosines[..], &sines[..], &scratch[..], 0);
 }
 
 fn derive() {
     let mut x = [0.0; 2000];
-    let mut dp = [3.0; 2000];
-    let mut scratch = [7.0; 16000];
+    let mut y = [3.0; 2000];
+    let mut w = [7.0; 16000];
     let degree = replay::number() as usize;
     let p = replay::full_list(&mut x);
     let ld = replay::count(2000);
     let lw = replay::count(16000);
-    run_derive(degree, p, &mut dp[0..ld], &mut scratch[0..lw]);
-}
-
-fn run_compute(
-    degree: usize,
-    a: &[f64],
-    b: &[f64],
-    p: &mut [f64],
-    dp: &mut [f64],
-    scratch: &mut [f64],
-) {
-    let lat = replay::float();
-    let outcome = fields::compute_with_derivative(degree, a, b, lat, p, dp, scratch);
+    let dp = &mut y[0..ld];
+    let scratch = &mut w[0..lw];
+    let outcome = fields::derive(degree, p, dp, scratch);
     replay::say_outcome(outcome);
-    let between = replay::number();
-    replay::say_some(&p[..], between);
-    replay::say_some(&dp[..], between);
+    replay::say_all(&dp[..]);
     say_scratch(&scratch[..]);
 }
 
@@ -156,43 +130,38 @@ fn fill_tables(degree: usize, a: &mut [f64], b: &mut [f64], scratch: &mut [f64])
     replace_first(a);
 }
 
+// The lengths of p, dp and the scratch, the latitude, and how many numbers are passed over.
 fn compute_by(degree: usize, a: &[f64], b: &[f64]) {
-    let mut p = [3.0; 16500];
-    let mut dp = [3.0; 16500];
-    let mut scratch = [7.0; 132000];
+    let mut x = [3.0; 16500];
+    let mut y = [3.0; 16500];
+    let mut w = [7.0; 132000];
     let lp = replay::count(16500);
     let ld = replay::count(16500);
     let lw = replay::count(132000);
-    run_compute(
-        degree,
-        a,
-        b,
-        &mut p[0..lp],
-        &mut dp[0..ld],
-        &mut scratch[0..lw],
-    );
-}
-
-fn fill_and_compute(degree: usize, a: &mut [f64], b: &mut [f64], scratch: &mut [f64]) {
-    fill_tables(degree, a, b, scratch);
-    compute_by(degree, &a[..], &b[..]);
+    let lat = replay::float();
+    let between = replay::number();
+    let p = &mut x[0..lp];
+    let dp = &mut y[0..ld];
+    let scratch = &mut w[0..lw];
+    let outcome = fields::compute_with_derivative(degree, a, b, lat, p, dp, scratch);
+    say_tables(outcome, &p[..], &dp[..], &scratch[..], between);
 }
 
 fn compute() {
-    let mut a = [3.0; 16500];
-    let mut b = [3.0; 16500];
+    let mut x = [3.0; 16500];
+    let mut y = [3.0; 16500];
     let mut room = [7.0; 132000];
     let degree = replay::number() as usize;
     let la = replay::count(16500);
     let lb = replay::count(16500);
-    fill_and_compute(degree, &mut a[0..la], &mut b[0..lb], &mut room);
+    let a = &mut x[0..la];
+    let b = &mut y[0..lb];
+    fill_tables(degree, a, b, &mut room);
+    compute_by(degree, &a[..], &b[..]);
 }
 
-fn run_partials(degree: usize, field: &[f64], a: &[f64], b: &[f64], scratch: &mut [f64]) {
-    let r = replay::float();
-    let lat = replay::float();
-    let lon = replay::float();
-    match fields::partials(degree, field, a, b, r, lat, lon, scratch) {
+fn say_partials(answer: fields::PartialsAnswer) {
+    match answer {
         fields::PartialsAnswer::Value(z) => {
             replay::say(0);
             replay::say_float(z.v);
@@ -204,6 +173,14 @@ fn run_partials(degree: usize, field: &[f64], a: &[f64], b: &[f64], scratch: &mu
             replay::say(k as u64);
         }
     }
+}
+
+fn run_partials(degree: usize, field: &[f64], a: &[f64], b: &[f64], scratch: &mut [f64]) {
+    let r = replay::float();
+    let lat = replay::float();
+    let lon = replay::float();
+    let answer = fields::partials(degree, field, a, b, r, lat, lon, scratch);
+    say_partials(answer);
     say_scratch(&scratch[..]);
 }
 
@@ -230,21 +207,19 @@ fn partials_by(degree: usize, field: &[f64], a: &[f64], b: &[f64]) {
     all_places(degree, field, a, b, &mut scratch[0..lw], count);
 }
 
-fn fill_and_sum(degree: usize, field: &[f64], a: &mut [f64], b: &mut [f64], scratch: &mut [f64]) {
-    fill_tables(degree, a, b, scratch);
-    partials_by(degree, field, &a[..], &b[..]);
-}
-
 fn partials() {
     let mut f = [0.0; 33000];
-    let mut a = [3.0; 16500];
-    let mut b = [3.0; 16500];
+    let mut x = [3.0; 16500];
+    let mut y = [3.0; 16500];
     let mut room = [7.0; 132000];
     let degree = replay::number() as usize;
     let field = replay::full_list(&mut f);
     let la = replay::count(16500);
     let lb = replay::count(16500);
-    fill_and_sum(degree, field, &mut a[0..la], &mut b[0..lb], &mut room);
+    let a = &mut x[0..la];
+    let b = &mut y[0..lb];
+    fill_tables(degree, a, b, &mut room);
+    partials_by(degree, field, &a[..], &b[..]);
 }
 
 fn choose(call: u64) {
