@@ -42,15 +42,13 @@ fn say_counted(counted: slices::Counted) {
     }
 }
 
-fn list(
-    times: &[f64],
-    nodes: &[f64],
-    firsts: &mut [usize],
-    ends: &mut [usize],
-    starts: &mut [f64],
-    periods: &mut [f64],
+fn say_revolutions(
+    answer: slices::Counted,
+    firsts: &[usize],
+    ends: &[usize],
+    starts: &[f64],
+    periods: &[f64],
 ) {
-    let answer = detrend::revolutions(times, nodes, firsts, ends, starts, periods);
     say_counted(answer);
     say_counts(firsts);
     say_counts(ends);
@@ -61,36 +59,25 @@ fn list(
 fn revolutions() {
     let mut t = [0.0; 400];
     let mut u = [0.0; 66];
-    let mut firsts = [7usize; 66];
-    let mut ends = [7usize; 66];
-    let mut starts = [7.0; 66];
-    let mut periods = [7.0; 66];
+    let mut x = [7usize; 66];
+    let mut y = [7usize; 66];
+    let mut v = [7.0; 66];
+    let mut w = [7.0; 66];
     let times = replay::list(&mut t);
     let nodes = replay::list(&mut u);
     let f = replay::count(66);
     let e = replay::count(66);
     let s = replay::count(66);
     let p = replay::count(66);
-    list(
-        times,
-        nodes,
-        &mut firsts[0..f],
-        &mut ends[0..e],
-        &mut starts[0..s],
-        &mut periods[0..p],
-    );
+    let firsts = &mut x[0..f];
+    let ends = &mut y[0..e];
+    let starts = &mut v[0..s];
+    let periods = &mut w[0..p];
+    let answer = detrend::revolutions(times, nodes, firsts, ends, starts, periods);
+    say_revolutions(answer, &firsts[..], &ends[..], &starts[..], &periods[..]);
 }
 
-fn settle(
-    times: &[f64],
-    values: &mut [f64],
-    firsts: &[usize],
-    ends: &[usize],
-    starts: &[f64],
-    periods: &[f64],
-    scratch: &mut [f64],
-) {
-    let answer = detrend::detrend(times, values, firsts, ends, starts, periods, scratch);
+fn say_detrended(answer: slices::Outcome, values: &[f64], scratch: &[f64]) {
     replay::say_outcome(answer);
     replay::say_all(values);
     replay::say_left(scratch, 4619567317775286272);
@@ -98,29 +85,24 @@ fn settle(
 
 fn detrending() {
     let mut t = [0.0; 400];
-    let mut values = [0.0; 400];
+    let mut x = [0.0; 400];
     let mut f = [0usize; 66];
     let mut e = [0usize; 66];
     let mut s = [0.0; 66];
     let mut p = [0.0; 66];
-    let mut scratch = [7.0; 3300];
+    let mut w = [7.0; 3300];
     let times = replay::list(&mut t);
     let v = replay::count(400);
-    replay::fill(&mut values, replay::count(400));
+    replay::fill(&mut x, replay::count(400));
     let firsts = counts(&mut f);
     let ends = counts(&mut e);
     let starts = replay::list(&mut s);
     let periods = replay::list(&mut p);
     let room = replay::count(3300);
-    settle(
-        times,
-        &mut values[0..v],
-        firsts,
-        ends,
-        starts,
-        periods,
-        &mut scratch[0..room],
-    );
+    let values = &mut x[0..v];
+    let scratch = &mut w[0..room];
+    let answer = detrend::detrend(times, values, firsts, ends, starts, periods, scratch);
+    say_detrended(answer, &values[..], &scratch[..]);
 }
 
 fn remove(work: &mut [f64], n: usize, nodes: &[f64]) {
@@ -142,20 +124,17 @@ fn remove_within() {
     remove(&mut work[0..room], n, nodes);
 }
 
-fn find(keys: &[i64], states: &[f64], out: &mut [f64]) {
-    let answer = nodes::ascending_nodes(keys, states, out);
-    say_counted(answer);
-    replay::say_all(out);
-}
-
 fn ascending_nodes() {
     let mut k = [0i64; 60];
     let mut x = [0.0; 360];
-    let mut out = [7.0; 60];
+    let mut y = [7.0; 60];
     let keys = replay::key_list(&mut k);
     let states = replay::list(&mut x);
     let o = replay::count(60);
-    find(keys, states, &mut out[0..o]);
+    let out = &mut y[0..o];
+    let answer = nodes::ascending_nodes(keys, states, out);
+    say_counted(answer);
+    replay::say_all(&out[..]);
 }
 
 // One call; false at the end of the list.
