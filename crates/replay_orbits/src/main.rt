@@ -20,13 +20,6 @@ fn say_output(values: &[f64], between: u64) {
     replay::say_some(values, between);
 }
 
-fn say_outcome(outcome: slices::Outcome) {
-    match outcome {
-        slices::Outcome::Accepted => replay::say(0),
-        slices::Outcome::Refused(n) => replay::say(n as u64),
-    }
-}
-
 fn solve(
     rows: &[f64],
     y: &[f64],
@@ -36,7 +29,7 @@ fn solve(
     between: u64,
 ) {
     let outcome = least_squares::ols(rows, y, columns, beta, residuals);
-    say_outcome(outcome);
+    replay::say_outcome(outcome);
     say_output(&beta[..], 0);
     say_output(&residuals[..], between);
 }
