@@ -106,16 +106,6 @@ fn derive() {
     say_scratch(&scratch[..]);
 }
 
-fn clear_unless(outcome: slices::Outcome, a: &mut [f64], b: &mut [f64]) {
-    match outcome {
-        slices::Outcome::Accepted => {}
-        slices::Outcome::Refused(_) => {
-            slices::clear(a);
-            slices::clear(b);
-        }
-    }
-}
-
 fn replace_first(values: &mut [f64]) {
     let first = replay::float();
     if 0 < values.len() {
@@ -123,10 +113,10 @@ fn replace_first(values: &mut [f64]) {
     }
 }
 
-// The tables come from `legendre_new`; a's first number is replaced.
-fn fill_tables(degree: usize, a: &mut [f64], b: &mut [f64], scratch: &mut [f64]) {
-    let outcome = fields::legendre_new(degree, a, b, scratch);
-    clear_unless(outcome, a, b);
+// The tables come from `legendre_new`, and stand as they stood where it refuses; a's first number is replaced.
+fn fill_tables(degree: usize, a: &mut [f64], b: &mut [f64]) {
+    let mut scratch = [7.0; 132000];
+    fields::legendre_new(degree, a, b, &mut scratch);
     replace_first(a);
 }
 
@@ -148,15 +138,14 @@ fn compute_by(degree: usize, a: &[f64], b: &[f64]) {
 }
 
 fn compute() {
-    let mut x = [3.0; 16500];
-    let mut y = [3.0; 16500];
-    let mut room = [7.0; 132000];
+    let mut x = [0.0; 16500];
+    let mut y = [0.0; 16500];
     let degree = replay::number() as usize;
     let la = replay::count(16500);
     let lb = replay::count(16500);
     let a = &mut x[0..la];
     let b = &mut y[0..lb];
-    fill_tables(degree, a, b, &mut room);
+    fill_tables(degree, a, b);
     compute_by(degree, &a[..], &b[..]);
 }
 
@@ -209,16 +198,15 @@ fn partials_by(degree: usize, field: &[f64], a: &[f64], b: &[f64]) {
 
 fn partials() {
     let mut f = [0.0; 33000];
-    let mut x = [3.0; 16500];
-    let mut y = [3.0; 16500];
-    let mut room = [7.0; 132000];
+    let mut x = [0.0; 16500];
+    let mut y = [0.0; 16500];
     let degree = replay::number() as usize;
     let field = replay::full_list(&mut f);
     let la = replay::count(16500);
     let lb = replay::count(16500);
     let a = &mut x[0..la];
     let b = &mut y[0..lb];
-    fill_tables(degree, a, b, &mut room);
+    fill_tables(degree, a, b);
     partials_by(degree, field, &a[..], &b[..]);
 }
 
