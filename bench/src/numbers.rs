@@ -15,6 +15,12 @@ fn each(xs: &[f64], f: impl Fn(f64) -> f64) -> Vec<f64> {
     xs.iter().map(|x| f(black_box(*x))).collect()
 }
 
+// Each argument waits for the answer before it.
+fn chained(xs: &[f64], f: impl Fn(f64) -> f64) -> Vec<f64> {
+    let mut last = 0.0;
+    xs.iter().map(|x| { last = f(last + *x); last }).collect()
+}
+
 pub fn works(bench: &mut Bench) {
     let mut random = Rng::new(1);
     let mut unit = || (random.next_u64() >> 11) as f64 / (1u64 << 53) as f64;
@@ -23,6 +29,7 @@ pub fn works(bench: &mut Bench) {
     let sizes: Vec<f64> = units.iter().map(|x| 7e6 * x.abs()).collect();
     bench.compare("root, inlined instruction", 200, 1000, &mut || each(&sizes, |x| x.sqrt()), &mut || each(&sizes, |x| raw::root(x)));
     bench.compare("root, behind a call", 200, 1000, &mut || each(&sizes, |x| black_box(machine_root as extern "C" fn(f64) -> f64)(x)), &mut || each(&sizes, |x| raw::root(x)));
+    bench.compare("root, behind a call, chained", 200, 1000, &mut || chained(&sizes, |x| black_box(machine_root as extern "C" fn(f64) -> f64)(x)), &mut || chained(&sizes, |x| raw::root(x)));
     bench.compare("sine", 200, 1000, &mut || each(&angles, |x| sine_cosine(x).0), &mut || each(&angles, |x| raw::sine(x)));
     bench.compare("cosine", 200, 1000, &mut || each(&angles, |x| sine_cosine(x).1), &mut || each(&angles, |x| raw::cosine(x)));
     bench.compare("arctangent", 200, 1000, &mut || each(&units, |x| arctangent(x, 0.3)), &mut || each(&units, |x| raw::arctangent(x, 0.3)));
