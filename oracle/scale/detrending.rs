@@ -44,8 +44,8 @@ fn listing(tally: &mut Tally, rounds: u64) {
             let time = edge_time(&mut random);
             match random.below(5) {
                 0 => lengths[random.below(4)] = (k + 1).saturating_sub(2 * random.below(2)),
-                1 => put(&mut random, &mut times, time),
-                2 => put(&mut random, &mut nodes, time),
+                1 => put_edge(&mut times, time),
+                2 => put_edge(&mut nodes, time),
                 3 => unsorted(&mut random, &mut times),
                 _ => unsorted(&mut random, &mut nodes),
             }
@@ -102,10 +102,10 @@ fn removing(tally: &mut Tally, rounds: u64) {
                 3 => off_by_one(&mut random, &mut starts, bad),
                 4 => off_by_one(&mut random, &mut periods, bad),
                 5 => put(&mut random, &mut ends, n + 1),
-                6 => put(&mut random, &mut firsts, usize::MAX),
-                7 => put(&mut random, &mut times, time),
+                6 => if let Some(k) = firsts.len().min(ends.len()).checked_sub(1) { firsts[k] = [ends[k] + 1, usize::MAX][random.below(2)] },
+                7 => put_edge(&mut times, time),
                 8 => put(&mut random, &mut values, bad),
-                9 => put(&mut random, &mut starts, time),
+                9 => put_edge(&mut starts, time),
                 10 => put(&mut random, &mut periods, bad),
                 11 => { unsorted(&mut random, &mut times); if random.below(2) == 0 { unsorted(&mut random, &mut starts) } }
                 _ => values.iter_mut().for_each(|v| *v = if random.below(2) == 0 { 0.0 } else { -0.0 }),

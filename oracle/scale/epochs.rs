@@ -7,6 +7,13 @@ use crate::source::{Epoch, Rng, residuals};
 use crate::tally::Tally;
 use pozsmeteg::raw;
 
+/// GM or radius of the first field, or any number.
+fn put_either(random: &mut Rng, fields: &mut [f64], value: f64) {
+    let first = fields.len().min(2);
+    let part = if random.below(2) == 0 { &mut fields[..first] } else { fields };
+    put(random, part, value);
+}
+
 impl Fields {
     pub fn new(random: &mut Rng, n: usize, times: Vec<f64>) -> Fields {
         let mut main = field(random, n, 1.0, 1e-6);
@@ -26,11 +33,11 @@ impl Fields {
             4 => off_by_one(random, &mut self.a, bad),
             5 => off_by_one(random, &mut self.b, bad),
             6 => off_by_one(random, &mut self.added, bad),
-            7 => put(random, &mut self.field, bad),
+            7 => put_either(random, &mut self.field, bad),
             8 => put(random, &mut self.a, bad),
             9 => put(random, &mut self.b, bad),
-            10 => put(random, &mut self.added, bad),
-            11 => put(random, &mut self.times, time),
+            10 => put_either(random, &mut self.added, bad),
+            11 => put_edge(&mut self.times, time),
             _ => unsorted(random, &mut self.times),
         }
     }
@@ -42,7 +49,7 @@ impl Rows {
         match random.below(7) {
             0 => off_by_one(random, &mut self.values, bad),
             1 => put(random, &mut self.values, bad),
-            2 => put(random, &mut self.keys, key),
+            2 => put_edge(&mut self.keys, key),
             3 => unsorted(random, &mut self.keys),
             4 => { self.keys.clear(); self.values.clear() }
             5 => { self.keys.pop(); }
@@ -54,11 +61,12 @@ impl Rows {
 fn keys(random: &mut Rng, base: i64) -> Vec<i64> {
     let n = match random.below(300) { 0 => 200_000, 1 => 200_001, 2..20 => random.below(10), _ => 20 + random.below(60) };
     let mut key = base;
-    (0..n).map(|_| { let now = key; key += if n > 1000 || random.below(25) > 0 { 1 } else { 1 + random.below(4) as i64 }; now }).collect()
+    let last = LAST_KEY + (random.below(20) == 0) as i64;
+    (0..n).map(|_| { let now = key; key += if n > 1000 || random.below(25) > 0 { 1 } else { 1 + random.below(4) as i64 }; now }).take_while(|key| *key <= last).collect()
 }
 
 impl Observing {
-    fn new(random: &mut Rng) -> Observing {
+    pub fn new(random: &mut Rng) -> Observing {
         let n = match random.below(50) { 0 => 180, 1 => 20 + random.below(20), _ => 2 + random.below(7) };
         let base = match random.below(6) { 0 => 0, 1 => LAST_KEY - 40, _ => random.below(1 << 30) as i64 };
         let count = match random.below(20) { 0 => 32, 1 => 33, _ => 2 + random.below(3) };
@@ -78,7 +86,7 @@ impl Observing {
         Observing { fields, rows: [polar(&c, 0.0), polar(&d, 0.032), c_acc, d_acc], obs, values, good, outs: [m; 5], scratch }
     }
 
-    fn damage(&mut self, random: &mut Rng) {
+    pub fn damage(&mut self, random: &mut Rng) {
         let (bad, time, m) = (strange(random), edge_time(random), self.obs.len());
         match random.below(12) {
             0..=3 => self.fields.damage(random),
@@ -86,7 +94,7 @@ impl Observing {
             7 => off_by_one(random, &mut self.values, bad),
             8 => off_by_one(random, &mut self.good, 1),
             9 => self.outs[random.below(5)] = (m + 1).saturating_sub(2 * random.below(2)),
-            10 => if random.below(2) == 0 { put(random, &mut self.obs, time) } else { put(random, &mut self.values, bad) },
+            10 => if random.below(2) == 0 { put_edge(&mut self.obs, time) } else { put(random, &mut self.values, bad) },
             _ => match random.below(3) {
                 0 => unsorted(random, &mut self.obs),
                 1 => self.rows[1] = self.rows[0].clone(),

@@ -21,7 +21,7 @@ pub fn compare(tally: &mut Tally, rounds: u64) {
             match random.below(7) {
                 0 => off_by_one(&mut random, &mut x, bad),
                 1 => places = (n + 1).saturating_sub(2 * random.below(2)),
-                2 => put(&mut random, &mut times, time),
+                2 => put_edge(&mut times, time),
                 3 => put(&mut random, &mut x, bad),
                 4 => unsorted(&mut random, &mut times),
                 5 => x.iter_mut().for_each(|v| *v = 1.7e308 * (*v / size).signum()),

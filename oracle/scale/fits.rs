@@ -38,8 +38,8 @@ fn orbit(random: &mut Rng, first: i64, seconds: usize, gaps: usize) -> Rows {
 
 impl Asked {
     fn new(random: &mut Rng) -> Asked {
-        let n = match random.below(60) { 0 => 20, _ => 2 + random.below(5) };
         let steps = match random.below(200) { 0 => 5_302, 1..20 => random.below(12), _ => 300 + random.below(400) };
+        let n = match random.below(60) { 0 => 20, 1..15 if steps < 12 => 180, _ => 2 + random.below(5) };
         let base = match random.below(8) { 0 => -(random.below(20) as i64), 1 => LAST_KEY - 2 * steps as i64 - random.below(4) as i64, _ => random.below(1 << 30) as i64 };
         let t0 = base as f64 + match random.below(3) { 0 => 0.0, 1 => unit(random), _ => 2.0f64.powi(-20) };
         let period = match random.below(12) { 0 => 0.0, 1 => -700.0, 2 => 1e-6, _ => 2.0 * steps as f64 * (0.5 + 0.3 * unit(random)) };
@@ -50,6 +50,11 @@ impl Asked {
             1 => times[2] = last,
             2 => times[2] = last.next_up(),
             3 => times[0] = t0.next_up().max(0.0),
+            _ => (),
+        }
+        match random.below(30) {
+            0 => { times.remove(1); }
+            1 => times = (0..32).map(|k| times[0] + (times[2] - times[0]) * k as f64 / 31.0).collect(),
             _ => (),
         }
         times.iter_mut().for_each(|t| *t = t.clamp(0.0, LAST));

@@ -18,8 +18,9 @@ fn bits(list: &[f64]) -> Vec<u64> {
 
 impl Lent {
     pub fn new(random: &mut Rng, length: usize) -> Lent {
-        let value = old(random);
-        Lent::holding(vec![value; length])
+        // two values, so that places exchanged would show
+        let (value, other) = (old(random), old(random));
+        Lent::holding((0..length).map(|k| if k % 3 == 1 { other } else { value }).collect())
     }
 
     pub fn holding(now: Vec<f64>) -> Lent {
@@ -80,6 +81,13 @@ pub fn put<T>(random: &mut Rng, list: &mut [T], value: T) {
     if !list.is_empty() {
         let k = random.below(list.len());
         list[k] = value;
+    }
+}
+
+/// A time or key at or beside a bound, at the end of the list where it belongs, so that the list may still rise.
+pub fn put_edge<T: PartialOrd + Copy>(list: &mut [T], value: T) {
+    if let Some(k) = list.len().checked_sub(1) {
+        list[if value > list[0] { k } else { 0 }] = value;
     }
 }
 

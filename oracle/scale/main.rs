@@ -5,7 +5,6 @@
 mod elementary;
 mod fieldlists;
 mod generate;
-mod list;
 mod source;
 mod submission;
 mod whole;
@@ -19,6 +18,7 @@ mod fits;
 mod flat;
 mod lent;
 mod numbers;
+mod refusals;
 mod sheets;
 mod tally;
 
@@ -38,6 +38,7 @@ fn main() {
     finals::compare(&mut tally, calls);
     epochs::compare(&mut tally, calls);
     fits::compare(&mut tally, calls);
+    refusals::compare(&mut tally, calls);
     sheets::sheets(&mut tally, number("sheets", 20));
     sheets::pairs(&mut tally, number("pairs", 20), false);
     sheets::pairs(&mut tally, number("alone", 20), true);

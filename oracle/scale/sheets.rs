@@ -61,14 +61,18 @@ fn told(answer: &Result<Sheet, u8>) -> String {
 
 // ---- submissions
 
+const FAR: f64 = 7_000.0;
+
 fn plan(random: &mut Rng, n: usize, most: usize) -> Plan {
     let windows = 1 + random.below(most);
     let window = 60.0 + 20.0 * random.below(10) as f64;
-    let span = windows as f64 * (window + 20.0) + 4_100.0;
+    // now and then states enough for a window of just under 7,000 s behind the others
+    let far = if random.below(16) == 0 { FAR } else { 0.0 };
+    let span = windows as f64 * (window + 20.0) + 4_100.0 + far;
     let base = [695_304_000, 695_304_001, 4_000, 200, 1 << 30, 777_777_777, (1 << 31) - span as i64 - 40][random.below(7)];
     Plan {
         seed: random.next_u64(), n, base, windows, window, real: false, step: [1, 1, 1, 2, 5][random.below(5)], noise: 0.01, truth_j2: n > 6 || random.below(3) > 0,
-        tail: 1_806.0 + 100.0 * random.below(5) as f64, frac: random.below(4) > 0, field_step: [97.25, 211.5, 1000.0, 1803.0, 10800.0f64][random.below(5)].max(span / 28.0),
+        tail: 1_806.0 + far + 100.0 * random.below(5) as f64, frac: random.below(4) > 0, field_step: [97.25, 211.5, 1000.0, 1803.0, 10800.0f64][random.below(5)].max(span / 28.0),
     }
 }
 
@@ -84,6 +88,8 @@ fn shaped(random: &mut Rng, n: usize, most: usize) -> Submission {
     s.obs.retain(|o| o.0 <= LAST);
     s.nodes.retain(|t| *t <= LAST);
     if s.obs.is_empty() || s.nodes.len() < 2 { return s }
+    let last = s.nodes[s.nodes.len() - 1];
+    if s.obs[s.obs.len() - 1].0 > last + FAR + 1_800.0 { s.nodes.push(last + [6_999.999, FAR.next_down(), FAR, 7_000.5][random.below(4)]) }
     if random.below(3) > 0 {
         let (b, w, every) = (s.obs[0].0, 9.0 + random.below(40) as f64, 2 + random.below(4) as i64);
         s.obs.retain(|o| ((o.0 - b) / w) as i64 % every != every - 1);
@@ -95,7 +101,7 @@ fn shaped(random: &mut Rng, n: usize, most: usize) -> Submission {
 fn odd(random: &mut Rng, s: &mut Submission) {
     let j = random.below(s.nodes.len() - 1);
     let (a, b) = (s.nodes[j], s.nodes[j + 1]);
-    match random.below(14) {
+    match random.below(16) {
         0 => s.obs.iter_mut().for_each(|o| o.0 = o.0.floor() + 0.96875),
         1 => { s.nodes.iter_mut().for_each(|t| *t = 2.0 * (*t / 2.0).floor()); s.nodes.dedup() }
         2 => { s.nodes.extend([a + 1.0 + unit(random), a + 3.9, a + 7.5]); sort(&mut s.nodes) }
@@ -115,7 +121,15 @@ fn odd(random: &mut Rng, s: &mut Submission) {
             s.obs.sort_by(|x, y| x.0.total_cmp(&y.0));
             s.obs.dedup_by(|y, x| x.0 == y.0);
         }
-        12 => match random.below(6) { 0 => s.nodes.clear(), 1 => s.nodes.truncate(1), 2 => s.obs.clear(), 3 => s.states[1].clear(), 4 => s.acc[0].clear(), _ => s.nodes.insert(0, -0.0) },
+        // nodes on the seconds of the only states
+        12 => {
+            s.nodes.iter_mut().for_each(|t| *t = 10.0 * (*t / 10.0).floor());
+            s.nodes.dedup();
+            s.states.iter_mut().for_each(|l| l.retain(|r| r.0 % 10 == 0));
+        }
+        // just below a whole second, as far as doubles near 2^31 tell
+        13 => { s.nodes.iter_mut().for_each(|t| *t = t.floor() + (1.0 - 2f64.powi(-22))); s.nodes.dedup() }
+        14 => match random.below(6) { 0 => s.nodes.clear(), 1 => s.nodes.truncate(1), 2 => s.obs.clear(), 3 => s.states[1].clear(), 4 => s.acc[0].clear(), _ => s.nodes.insert(0, -0.0) },
         _ => s.obs.iter_mut().for_each(|o| o.2 = (random.below(4) > 0) as u8),
     }
     if s.nodes.len() < 2 { s.nodes = vec![a, b] }
@@ -155,7 +169,7 @@ pub fn sheets(tally: &mut Tally, count: u64) {
     let (mut kept, mut finals) = (0, 0);
     for case in 0..count {
         let mut random = tally.random(case);
-        let n = if case % 1000 == 999 { 60 } else if case % 400 == 399 { 20 } else if case % 100 == 99 { 12 } else { 2 + random.below(5) };
+        let n = if case % 100 == 99 { [12, 20, 12, 60][(tally.seed + case / 100) as usize % 4] } else { 2 + random.below(5) };
         let mut s = shaped(&mut random, n, if n > 12 { 1 } else { 4 });
         if random.below(6) == 0 { damage(&mut random, &mut s) }
         let (ours, left) = engine(&mut random, &s);
@@ -184,6 +198,7 @@ fn shorter(random: &mut Rng, s: &Submission) -> Submission {
         match random.below(12) {
             0..=3 if !together => f64::INFINITY,
             4 => z + random.below(5) as f64 - 2.0,
+            5 if !s.obs.is_empty() => s.obs[random.below(s.obs.len())].0,
             _ => z + 1804.0 + random.below(9) as f64 - 4.0,
         }
     };
@@ -201,11 +216,11 @@ fn shorter(random: &mut Rng, s: &Submission) -> Submission {
     out
 }
 
-/// The shortest prefixes that make one node the horizon.
+/// The shortest prefixes that make one node the horizon, or that would if its reach were shorter.
 fn tight(random: &mut Rng, s: &Submission) -> Submission {
     let mut out = s.clone();
     let j = random.below(s.nodes.len());
-    let reach = s.nodes[j] + 1804.0;
+    let reach = s.nodes[j] + [1804.0, 1804.0, 1802.0, 1800.0, 1790.0, 1700.0][random.below(6)];
     fn upto<T>(list: &mut Vec<T>, time: impl Fn(&T) -> f64, reach: f64) {
         if let Some(k) = list.iter().position(|x| time(x) >= reach) { list.truncate(k + 1) }
     }
@@ -259,26 +274,28 @@ fn broken(short: &Sheet, long: &Sheet) -> Option<String> {
 /// Pairs on both sides, or on the engine alone.
 pub fn pairs(tally: &mut Tally, count: u64, alone: bool) {
     tally.begin(if alone { "pairs, engine alone" } else { "pairs" });
-    let (mut done, mut positive, mut grew, mut case) = (0, 0, 0, 0);
+    let (mut done, mut positive, mut grew, mut next) = (0, 0, 0, 0);
     let answer = |random: &mut Rng, s: &Submission, tally: &mut Tally, case: u64| {
         let (ours, left) = engine(random, s);
         let theirs = if alone { Err(0) } else { rust(s) };
         tally.judge(left && (alone || same(&ours, &theirs)), || format!("case {case}: ours {}, Rust {}, slices left {left}", told(&ours), told(&theirs)));
         ours.ok()
     };
-    while done < count && case < 20 * count + 20 {
+    while done < count && next < 20 * count + 20 {
+        let case = next;
+        next += 1;
         let mut random = tally.random(case);
         let n = if case % 50 == 49 { 6 } else { 2 + random.below(2) };
-        let s = shaped(&mut random, n, 3);
-        case += 1;
+        let most = if random.below(8) == 0 { 6 } else { 3 };
+        let s = shaped(&mut random, n, most);
         if check(&s).is_some() || s.nodes.is_empty() { continue }
         let Some(long) = answer(&mut random, &s, tally, case) else { continue };
         for kind in 0..4 {
-            // cut, cut tightly, and appended to the tightly cut one
+            // cut, cut tightly, and twice appended to the tightly cut one
             let short = if kind % 2 == 0 { shorter(&mut random, &s) } else { tight(&mut random, &s) };
             let Some(first) = answer(&mut random, &short, tally, case) else { continue };
             let mut against = vec![broken(&first, &long)];
-            if kind % 2 == 1 {
+            for _ in 0..2 * (kind % 2) {
                 let appended = longer(&mut random, &short);
                 if let Some(second) = answer(&mut random, &appended, tally, case) {
                     grew += (second.f > first.f) as u64;
