@@ -114,6 +114,35 @@ pub fn partials(tables: &Tables, field: &[f64], r: f64, lat: f64, lon: f64) -> R
     Ok(Partials { v, dr, dlat, dlon })
 }
 
+/// A field for many evaluations at one degree: what they share is worked out once.
+pub struct Prepared<'a> {
+    tables: &'a Tables,
+    gm: f64,
+    radius: f64,
+    work: Vec<f64>,
+}
+
+impl<'a> Prepared<'a> {
+    pub fn new(tables: &'a Tables, field: &[f64]) -> Result<Prepared<'a>, Refusal> {
+        let l = tables.a.len();
+        if field.len() != 2 + 2 * l {
+            return Err(Refusal::Length);
+        }
+        let mut work = vec![0.0; 8 * l];
+        work[..2 * l].copy_from_slice(&field[2..]);
+        raw::prepare(tables.degree, &mut work);
+        Ok(Prepared { tables, gm: field[0], radius: field[1], work })
+    }
+
+    /// As [`partials`], without its tests: what is not finite is handed out.
+    pub fn partials(&self, r: f64, lat: f64, lon: f64) -> Partials {
+        let mut out = [0.0; 4];
+        raw::partials_prepared(self.tables.degree, self.gm, self.radius, &self.tables.a, &self.tables.b, &self.work, r, lat, lon, &mut out);
+        let [v, dr, dlat, dlon] = out;
+        Partials { v, dr, dlat, dlon }
+    }
+}
+
 /// The static field and the added fields, end to end, with their times.
 #[derive(Clone, Copy)]
 pub struct Model<'a> {

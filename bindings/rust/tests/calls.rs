@@ -1,4 +1,4 @@
-// Each call once accepted, and once refused for each kind of cause that it has.
+// Each call once accepted, and once refused with each number that it can answer here: lengths that this crate makes itself are right.
 use pozsmeteg::*;
 
 const GM: f64 = 3.986_004_415e14;
@@ -53,6 +53,10 @@ fn tables_and_partials() {
     assert_eq!(partials(&tables, &earth(3), 6.878e6, 0.4, 1.0), Err(Refusal::Length));
     assert_eq!(partials(&tables, &earth(4), f64::NAN, 0.4, 1.0), Err(Refusal::Value));
     assert_eq!(partials(&tables, &earth(4), 0.0, 0.4, 1.0), Err(Refusal::NotFinite));
+    assert!(Prepared::new(&tables, &earth(3)).is_err_and(|why| why == Refusal::Length));
+    let prepared = Prepared::new(&tables, &earth(4)).unwrap();
+    assert_eq!(prepared.partials(6.878e6, 0.4, 1.0), p);
+    assert!(!prepared.partials(0.0, 0.4, 1.0).v.is_finite());
 }
 
 #[test]
@@ -82,8 +86,13 @@ fn detrending() {
     assert_eq!(flat[114..], line[114..]);
     assert_eq!(revolutions(&times, &[5.0, 5.0]), Err(Refusal::Order));
     assert_eq!(revolutions(&times, &[]), Ok(vec![]));
+    assert_eq!(revolutions(&vec![0.0; 100_001], &[]), Err(Refusal::Count));
+    assert_eq!(revolutions(&[-1.0], &[]), Err(Refusal::Value));
     assert_eq!(detrend(&times, &line, &[Revolution { first: 2, end: 121, start: 0.0, period: 1.0 }]), Err(Refusal::Count));
     assert_eq!(detrend(&times, &line[1..], &[]), Err(Refusal::Length));
+    assert_eq!(detrend(&times, &line, &[Revolution { start: -1.0, ..found[0] }]), Err(Refusal::Value));
+    assert_eq!(detrend(&times, &line, &[found[0], found[0]]), Err(Refusal::Order));
+    assert_eq!(detrend(&times, &line, &[Revolution { period: 0.0, ..found[0] }]), Err(Refusal::NotFinite));
 }
 
 #[test]
@@ -99,7 +108,11 @@ fn fitting() {
     assert_eq!(fit.states.len(), 801);
     assert!(fit.rms < 100.0);
     assert_eq!(fit_orbit(&model, states, Arc { steps: 5_303, ..arc }), Err(Refusal::Count));
+    assert_eq!(fit_orbit(&model, Keyed { values: &values[1..], ..states }, arc), Err(Refusal::Length));
     assert_eq!(fit_orbit(&model, states, Arc { t0: f64::NAN, ..arc }), Err(Refusal::Value));
+    let falling: Vec<i64> = keys.iter().rev().copied().collect();
+    assert_eq!(fit_orbit(&model, Keyed { keys: &falling, ..states }, arc), Err(Refusal::Order));
+    assert_eq!(fit_orbit(&model, states, Arc { period: 0.0, ..arc }), Err(Refusal::NotFinite));
     assert_eq!(fit_orbit(&model, states, Arc { t0: 4_900.0, ..arc }), Err(Refusal::Uncovered));
     assert_eq!(fit_orbit(&model, Keyed { keys: &[], values: &[] }, arc), Err(Refusal::FewStates));
     assert_eq!(fit_orbit(&model, Keyed { keys: &keys[101..], values: &values[606..] }, arc), Err(Refusal::NoFirstState));
@@ -118,6 +131,12 @@ fn epochs() {
     let seen = Observations { times: &[1.0, 2.5, 3.0, 200.0], values: &[0.0; 4], good: &[1, 255, 0, 1] };
     let kept = residuals(&model, pair, seen).unwrap();
     assert_eq!(kept.iter().map(|e| e.t).collect::<Vec<_>>(), vec![1.0, 2.5]);
+    // the same observations, a value more: the residual grows by it
+    let more = residuals(&model, pair, Observations { values: &[1.0, 2.0, 3.0, 4.0], ..seen }).unwrap();
+    assert!(kept.iter().zip(&more).zip([1.0, 2.0]).all(|((a, b), value)| (b.residual - a.residual - value).abs() < 1e-9));
+    let long = vec![0.0; 100_001];
+    assert_eq!(residuals(&model, pair, Observations { times: &long, values: &long, good: &vec![0; 100_001] }), Err(Refusal::Count));
+    assert_eq!(residuals(&model, pair, Observations { values: &[f64::NAN, 0.0, 0.0, 0.0], ..seen }), Err(Refusal::Value));
     assert_eq!(residuals(&model, pair, Observations { good: &[1; 3], ..seen }), Err(Refusal::Length));
     assert_eq!(residuals(&model, pair, Observations { times: &[1.0, 3.0, 2.0, 200.0], ..seen }), Err(Refusal::Order));
     assert_eq!(residuals(&model, Pair { d: pair.c, ..pair }, seen), Err(Refusal::NotFinite));
@@ -155,7 +174,15 @@ fn whole_path() {
     assert_eq!(found.final_count, found.times.iter().filter(|t| **t < 2_300.0).count());
     assert!(found.final_count > 0);
     assert_eq!([found.raws.len(), found.detrended.len(), found.passed.len()], [found.times.len(); 3]);
+    // no observed value, so the raw residual is what the model gives; a run of 64 or fewer is passed as zeros
+    let first = found.times.iter().position(|t| *t > 2_300.0).unwrap();
+    assert!(found.raws.iter().all(|v| *v != 0.0) && found.detrended[..first] != found.raws[..first]);
+    assert!(found.passed[..first].iter().any(|v| *v != 0.0));
     assert_eq!(sheet_of(&[]).unwrap().times, Vec::<f64>::new());
+    assert_eq!(sheet(&model, Pair { c: Keyed { values: &c[1..], ..pair.c }, ..pair }, &[], seen), Err(Refusal::Length));
+    assert_eq!(sheet_of(&[-1.0]), Err(Refusal::Value));
+    let large = vec![1.7e308; values.len()];
+    assert_eq!(sheet(&model, pair, &[1_900.5, 2_500.5], Observations { values: &large, ..seen }), Err(Refusal::NotFinite));
     assert_eq!(sheet_of(&[2.0, 1.0]), Err(Refusal::Order));
     assert_eq!(sheet_of(&vec![0.0; 65]), Err(Refusal::Count));
 }
