@@ -1,5 +1,6 @@
 // The elementary numbers, a thousand arguments a call.
 use crate::elementary::{arcsine, arctangent, power, sine_cosine};
+use crate::generate::unit;
 use crate::source::Rng;
 use crate::timing::Bench;
 use pozsmeteg::raw;
@@ -23,8 +24,7 @@ fn chained(xs: &[f64], f: impl Fn(f64) -> f64) -> Vec<f64> {
 
 pub fn works(bench: &mut Bench) {
     let mut random = Rng::new(1);
-    let mut unit = || (random.next_u64() >> 11) as f64 / (1u64 << 53) as f64;
-    let units: Vec<f64> = (0..1000).map(|_| 2.0 * unit() - 1.0).collect();
+    let units: Vec<f64> = (0..1000).map(|_| 2.0 * unit(&mut random) - 1.0).collect();
     let angles: Vec<f64> = units.iter().map(|x| 50.0 * x).collect();
     let sizes: Vec<f64> = units.iter().map(|x| 7e6 * x.abs()).collect();
     bench.compare("root, inlined instruction", 200, 1000, &mut || each(&sizes, |x| x.sqrt()), &mut || each(&sizes, |x| raw::root(x)));

@@ -1,26 +1,8 @@
 // Module 4: the fit of one window, a revolution of 5,650 s with 30 minutes either side, to states of every second.
-use crate::elementary::sine_cosine;
-use crate::fieldlists::Rows;
-use crate::generate::{gauss, random_fields, rk1, unit};
+use crate::generate::{low_orbit, random_fields, unit};
 use crate::source::*;
 use crate::timing::Bench;
 use pozsmeteg::raw;
-
-// A low orbit under point mass and J2, with noise: the states of so many seconds.
-fn orbit(r: &mut Rng, first: i64, seconds: i64) -> Rows {
-    let radius = 6.871e6;
-    let speed = (GM_E / radius).sqrt();
-    let ((su, cu), (si, ci)) = (sine_cosine(-0.25), sine_cosine(1.55));
-    let mut x = [radius * cu, radius * su * ci, radius * su * si];
-    let mut v = [-speed * su + OMEGA * x[1], speed * cu * ci - OMEGA * x[0], speed * cu * si];
-    let mut states = Rows { keys: vec![], values: vec![], width: 6 };
-    for k in 0..=seconds {
-        states.keys.push(first + k);
-        states.values.extend(x.iter().chain(&v).enumerate().map(|(i, w)| w + 0.01 * if i < 3 { 1.0 } else { 1e-3 } * gauss(r)));
-        (x, v) = rk1(1.0, (first + k) as f64, x, v, &mut |_, x, v| add(j2_gravity(x), fictitious(x, v)));
-    }
-    states
-}
 
 fn window(bench: &mut Bench, n: usize, runs: usize) -> (f64, f64) {
     let mut r = Rng::new(3);
@@ -28,7 +10,7 @@ fn window(bench: &mut Bench, n: usize, runs: usize) -> (f64, f64) {
     let b = a + 5_650.0 + unit(&mut r);
     let t0 = 2.0 * ((a - 1800.0) / 2.0).floor();
     let arc = Arc { t0, steps: ((b + 1800.0 - t0) / 2.0).ceil() as usize, node: a, period: b - a };
-    let states = orbit(&mut r, t0 as i64, 2 * arc.steps as i64);
+    let states = low_orbit(&mut r, t0 as i64, 2 * arc.steps as i64 + 1, -0.25, 0);
     let fields = random_fields(&mut r, n, vec![0.0, 10_800.0, 21_600.0]);
     let (model, known) = (fields.source(), states.states());
     let mut buffer = model.fields[0].1.clone();

@@ -18,8 +18,7 @@ fn last(random: &mut Rng, nodes: &[f64]) -> f64 {
 fn submission(random: &mut Rng) -> (Submission, Vec<f64>) {
     let count = [0, 1, 2, 5, 64][random.below(5)];
     let mut t = 3e3 * unit(random);
-    let nodes: Vec<f64> = (0..count).map(|_| { t += if random.below(3) == 0 { 0.3 } else { 50.0 + 6e3 * unit(random) }; if random.below(2) == 0 { t } else { t.floor() } }).collect();
-    let mut nodes = nodes;
+    let mut nodes: Vec<f64> = (0..count).map(|_| { t += if random.below(3) == 0 { 0.3 } else { 50.0 + 6e3 * unit(random) }; if random.below(2) == 0 { t } else { t.floor() } }).collect();
     nodes.dedup();
     let none = || FieldData { gm: 0.0, radius: 0.0, c: vec![], s: vec![] };
     let mut s = Submission { n: 2, stat: none(), fields: vec![], states: [vec![], vec![]], acc: [vec![], vec![]], nodes, obs: vec![] };

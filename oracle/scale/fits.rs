@@ -1,10 +1,9 @@
 // Single fits: short and long arcs, whole, fractional and negative starts, gaps in the states, the edges of the fields, each cause of
 // refusal, 5,302 steps and one more, 200,000 keys and one more.
-use crate::elementary::sine_cosine;
 use crate::fieldlists::{Fields, LAST, LAST_KEY, Rows, rising};
-use crate::generate::{gauss, rk1, unit};
+use crate::generate::{low_orbit, unit};
 use crate::lent::*;
-use crate::source::{Arc, GM_E, OMEGA, Rng, add, fictitious, j2_gravity};
+use crate::source::{Arc, Rng};
 use crate::tally::Tally;
 use crate::whole::single_fit;
 use pozsmeteg::raw;
@@ -15,25 +14,6 @@ struct Asked {
     arc: raw::Arc,
     places: usize,
     scratch: usize,
-}
-
-/// A low orbit under point mass and J2 with noise, some seconds left out.
-fn orbit(random: &mut Rng, first: i64, seconds: usize, gaps: usize) -> Rows {
-    let radius = 6.871e6;
-    let speed = (GM_E / radius).sqrt();
-    let ((su, cu), (si, ci)) = (sine_cosine(6.0 * unit(random)), sine_cosine(1.55));
-    let mut x = [radius * cu, radius * su * ci, radius * su * si];
-    let mut v = [-speed * su + OMEGA * x[1], speed * cu * ci - OMEGA * x[0], speed * cu * si];
-    let mut out = Rows { keys: vec![], values: vec![], width: 6 };
-    for k in 0..seconds as i64 {
-        let key = first + k;
-        if key >= 0 && key <= LAST_KEY && (gaps == 0 || random.below(gaps) > 0) {
-            out.keys.push(key);
-            out.values.extend(x.iter().chain(&v).enumerate().map(|(i, w)| w + 0.01 * if i < 3 { 1.0 } else { 1e-3 } * gauss(random)));
-        }
-        (x, v) = rk1(1.0, key as f64, x, v, &mut |_, x, v| add(j2_gravity(x), fictitious(x, v)));
-    }
-    out
 }
 
 impl Asked {
@@ -61,7 +41,8 @@ impl Asked {
         times.dedup();
         let fields = Fields::new(random, n, times);
         let gaps = [0, 0, 2, 4, 20][random.below(5)];
-        let mut states = orbit(random, base, 2 * steps + 2, gaps);
+        let angle = 6.0 * unit(random);
+        let mut states = low_orbit(random, base, 2 * steps as i64 + 2, angle, gaps);
         if random.below(12) == 0 {
             // about as many positions as a fit needs
             let wanted = (steps / 10 + random.below(3)).saturating_sub(1);

@@ -12,7 +12,7 @@ fn old(random: &mut Rng) -> f64 {
     [7.0, -0.0, f64::NAN, f64::INFINITY, 1e300, -1e-300][random.below(6)]
 }
 
-fn bits(list: &[f64]) -> Vec<u64> {
+pub fn bits(list: &[f64]) -> Vec<u64> {
     list.iter().map(|v| v.to_bits()).collect()
 }
 

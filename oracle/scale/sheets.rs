@@ -40,10 +40,6 @@ fn rust(s: &Submission) -> Result<Sheet, u8> {
     whole(s).map(|w| Sheet { lists: w.lists, f: w.f })
 }
 
-fn bits(list: &[f64]) -> Vec<u64> {
-    list.iter().map(|v| v.to_bits()).collect()
-}
-
 fn same(ours: &Result<Sheet, u8>, theirs: &Result<Sheet, u8>) -> bool {
     match (ours, theirs) {
         (Err(a), Err(b)) => a == b,

@@ -1,5 +1,6 @@
 // A seeded generator of physically sensible submissions.
-use crate::fieldlists::{Fields, Rows, places};
+use crate::elementary::sine_cosine;
+use crate::fieldlists::{Fields, LAST_KEY, Rows, places};
 use crate::source::*;
 use crate::submission::*;
 use std::f64::consts::PI;
@@ -47,6 +48,23 @@ pub fn polar(keys: &[i64], ahead: f64) -> Rows {
         [r * c, 0.1 * r * s, r * s, -v * s, 0.1 * v * c, v * c]
     }).collect();
     Rows { keys: keys.to_vec(), values, width: 6 }
+}
+/// A low orbit under point mass and J2 with noise, from an angle on: the states of so many seconds, one in `gaps` left out, and those that are no keys.
+pub fn low_orbit(r: &mut Rng, first: i64, seconds: i64, angle: f64, gaps: usize) -> Rows {
+    let radius = 6.871e6;
+    let speed = (GM_E / radius).sqrt();
+    let ((su, cu), (si, ci)) = (sine_cosine(angle), sine_cosine(1.55));
+    let mut x = [radius * cu, radius * su * ci, radius * su * si];
+    let mut v = [-speed * su + OMEGA * x[1], speed * cu * ci - OMEGA * x[0], speed * cu * si];
+    let mut out = Rows { keys: vec![], values: vec![], width: 6 };
+    for key in first..first + seconds {
+        if (0..=LAST_KEY).contains(&key) && (gaps == 0 || r.below(gaps) > 0) {
+            out.keys.push(key);
+            out.values.extend(x.iter().chain(&v).enumerate().map(|(i, w)| w + 0.01 * if i < 3 { 1.0 } else { 1e-3 } * gauss(r)));
+        }
+        (x, v) = rk1(1.0, key as f64, x, v, &mut |_, x, v| add(j2_gravity(x), fictitious(x, v)));
+    }
+    out
 }
 pub fn rk1(h: f64, t: f64, x: V3, v: V3, a: &mut dyn FnMut(f64, V3, V3) -> V3) -> (V3, V3) {
     let a1 = a(t, x, v);

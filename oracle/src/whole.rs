@@ -5,9 +5,6 @@ use crate::submission::*;
 pub struct Whole {
     pub lists: [Vec<f64>; 4], // time, raw, detrended, passed, kept entries only
     pub f: usize,
-    pub z: Option<f64>,
-    pub rms: [Vec<f64>; 2],
-    pub fitted: [States; 2],
 }
 pub fn horizon(s: &Submission) -> Option<f64> {
     let lasts = [
@@ -32,8 +29,8 @@ pub fn whole(s: &Submission) -> std::result::Result<Whole, u8> {
     if let Some(r) = check(s) { return Err(r); }
     let model = model_of(s);
     let gnv = [map_states(&s.states[0]), map_states(&s.states[1])];
-    let (c, rc) = fitted_orbits(&model, &gnv[0], &s.nodes);
-    let (d, rd) = fitted_orbits(&model, &gnv[1], &s.nodes);
+    let (c, _) = fitted_orbits(&model, &gnv[0], &s.nodes);
+    let (d, _) = fitted_orbits(&model, &gnv[1], &s.nodes);
     let (ca, da) = (map_acc(&s.acc[0]), map_acc(&s.acc[1]));
     let inp = Inputs { model: &model, c: &c, d: &d, c_acc: &ca, d_acc: &da };
     let obs: Vec<(f64, f64, bool)> = s.obs.iter().map(|o| (o.0, o.1, o.2 != 0)).collect();
@@ -43,11 +40,10 @@ pub fn whole(s: &Submission) -> std::result::Result<Whole, u8> {
     remove_per_revolution(&mut epochs, &s.nodes);
     let det: Vec<f64> = epochs.iter().map(|e| e.residual).collect();
     let passed = band_pass(&times, &det);
-    let z = horizon(s);
-    let f = final_count(&times, z);
+    let f = final_count(&times, horizon(s));
     let lists = [times, raw, det, passed];
     if lists.iter().flatten().any(|v| !v.is_finite()) { return Err(10); }
-    Ok(Whole { lists, f, z, rms: [rc, rd], fitted: [c, d] })
+    Ok(Whole { lists, f })
 }
 /// A single fit: Ok or the refusal 6 to 10 (the Rust answers None for 6 to 9).
 pub fn single_fit(model: &Model, gnv: &States, arc: Arc) -> std::result::Result<(Vec<(V3, V3)>, f64), u8> {
