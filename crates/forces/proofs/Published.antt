@@ -10,10 +10,11 @@ use Rattle.laws.specs.Tables.{rows, rows-length}
 use Rattle.series.specs.Legendre.{aOf, bOf}
 use Rattle.series.specs.Field.{size, part, partialsBy}
 use Rattle.series.proofs.Published.{IsPrepared, lent-published, prepared-partials, prepared-stays}
+use Rattle.tide.specs.Gravity.{gradient, gravityOf}
 use Rattle.tide.specs.Tide.{placeOf}
 use Rattle.tide.specs.declared.kernel.Place.{Place}
 use Rattle.vectors.specs.declared.Vector.{Vector}
-use Rattle.forces.specs.Forces.{gradient, gravityOf, gravityBy, gravityWith}
+use Rattle.forces.specs.Forces.{gravityBy, gravityWith}
 use Rattle.forces.specs.Calls.{gravityOfField}
 
 -- the gravity by those tables is that of the published series
