@@ -7,8 +7,8 @@ use native.Mathlib.Omega.{arith}
 use borrow.Author.Tests.{lt-leb, le-leb, leb-true, eqb-true}
 use borrow.Rule.Slice.PartMut.{putMid}
 use lib.Dec.{leb, eqb}
-use lib.ListN.{length, take, drop, getD, replicate, length-append, length-drop}
-use lib.Seq.{take-all, take-at, drop-at, drop-drop, length-take-le, take-append-le, drop-append-le}
+use lib.ListN.{length, take, drop, getD, replicate, length-drop, take-append-drop}
+use lib.Seq.{take-all, drop-drop, length-take-le}
 use lib.Ieee.{Float, nan}
 use Rattle.laws.specs.Floats.{zero64}
 use Rattle.laws.specs.Loops.{cleared}
@@ -16,16 +16,15 @@ use Rattle.slices.specs.Slices.{copied}
 use Rattle.slices.specs.Calls.{Left, left, settled}
 use Rattle.slices.proofs.Calls.{cond-passes, call-refused}
 use Rattle.slices.proofs.Laws.{copied-all}
-use Rattle.series.specs.Field.{size, part, Fits, partialsWith, partialsBy}
+use Rattle.series.specs.Field.{size, Fits}
 use Rattle.series.specs.Prepared.{prepared}
-use Rattle.series.specs.declared.Partials.{Partials}
-use Rattle.series.proofs.Published.{IsPrepared, prepared-partials, prepared-prepared, prepared-length, prepared-stays}
-use Rattle.tide.specs.Tide.{placeOf}
+use Rattle.series.proofs.Published.{IsPrepared, prepared-prepared, prepared-length}
 use Rattle.vectors.specs.declared.Vector.{Vector}
-use Rattle.forces.specs.Forces.{gradient, gravityWith, gravityBy}
+use Rattle.forces.specs.Forces.{gravityWith}
 use Rattle.forces.specs.Calls.{answer, gravityOfField, lengthsFine, valuesFine, gravityRefusal, gravityCall}
 use Rattle.forces.specs.declared.Answer.{Answer}
 use Rattle.forces.specs.declared.Answer.the-variants.{Refused}
+use Rattle.forces.proofs.Published.{front-gravity}
 
 -- ---- the tests
 
@@ -64,35 +63,16 @@ gravity-fits N f a b w v n e z =
 
 -- ---- the work
 
--- the field's coefficients stand before the prepared tables
-module _ (N : ℕ) (D p : List Float) (ld : length D ≡ 2 * size N) (lp : 8 * size N ≤ length p) (prep : IsPrepared N p) where
-  abbrev front : List Float
-  front = D ++ drop (2 * size N) p
-
-  front-prepared : IsPrepared N front
-  front-prepared =
-      let l : length p ≡ length front = sym (length-append D (drop (2 * size N) p) ∙ ap (λ (k : ℕ). length D + k) (length-drop (2 * size N) p) ∙ omega arith) in
-      prepared-stays N p front l (sym (drop-at D (drop (2 * size N) p) (2 * size N) ld)) prep
-
-  front-cosines : part front 0 (size N) ≡ take (size N) D
-  front-cosines =
-      let k : size N - 0 ≡ size N = omega arith in
-      ap (λ (i : ℕ). take i (D ++ drop (2 * size N) p)) k ∙ take-append-le (size N) D (drop (2 * size N) p) (omega arith)
-
-  front-sines : part front (size N) (2 * size N) ≡ take (size N) (drop (size N) D)
-  front-sines =
-      let k : 2 * size N - size N ≡ size N = omega arith in
-      let l = length-drop (size N) D in
-      ap₂ (λ (i : ℕ) (z : List Float). take i z) k (drop-append-le (size N) D (drop (2 * size N) p) (omega arith))
-      ∙ take-append-le (size N) (drop (size N) D) (drop (2 * size N) p) (omega arith)
-
 pub gravity-is : (N : ℕ) (field a b w p q : List Float) (x g : Vector) → length field ≡ 2 + 2 * size N → Fits N (length a) (length b) (length w) → p ≡ prepared N w →
     q ≡ copied (take (length field - 2) (drop 2 field)) (take (length field - 2 - 0) (drop 0 p)) →
     g ≡ gravityWith N (getD field 0 nan) (getD field 1 nan) a b (putMid 0 (length field - 2 - 0) p q) x → g ≡ gravityOfField N field a b x
-unfolding gravityWith gravityBy gravityOfField
+unfolding gravityOfField
 gravity-is N field a b w p q x g lf fits ep eq eg =
     let D : List Float = drop 2 field in
+    let c : List Float = take (size N) D in
+    let s : List Float = take (size N) (drop (2 + size N) field) in
     let ld : length D ≡ 2 * size N = length-drop 2 field ∙ omega arith in
+    let lr : length (drop (2 + size N) field) ≡ size N = length-drop (2 + size N) field ∙ omega arith in
     let lw = fits .work in
     let lp : length p ≡ length w = ap length ep ∙ prepared-length N w (fits .degree) lw in
     let prep : IsPrepared N p = subst (IsPrepared N) (sym ep) (prepared-prepared N w (fits .degree) lw) in
@@ -100,15 +80,12 @@ gravity-is N field a b w p q x g lf fits ep eq eg =
     let whole : take (length field - 2) D ≡ D = take-all (length field - 2) D (omega arith) in
     let lq : length (take (length field - 2 - 0) p) ≡ length (take (length field - 2) D) = length-take-le (length field - 2 - 0) p (omega arith) ∙ two ∙ sym ld ∙ ap length (sym whole) in
     let is : q ≡ D = eq ∙ copied-all (take (length field - 2) D) (take (length field - 2 - 0) p) lq ∙ whole in
-    let y : putMid 0 (length field - 2 - 0) p q ≡ D ++ drop (2 * size N) p = ap₂ (λ (l : List Float) (i : ℕ). l ++ drop i p) is two in
-    let big : 8 * size N ≤ length p = omega arith in
-    let ok : IsPrepared N (D ++ drop (2 * size N) p) = front-prepared N D p ld big prep in
-    let s : take (size N) (drop (size N) D) ≡ take (size N) (drop (2 + size N) field) = ap (take (size N)) (drop-drop (size N) 2 field) in
-    let gm : Float = getD field 0 nan in
-    let radius : Float = getD field 1 nan in
-    eg ∙ ap (λ (l : List Float). gradient (placeOf x) (partialsWith N gm radius a b l (placeOf x .r) (placeOf x .lat) (placeOf x .lon))) y
-    ∙ ap (gradient (placeOf x)) (prepared-partials N gm radius a b (D ++ drop (2 * size N) p) (placeOf x .r) (placeOf x .lat) (placeOf x .lon) (fits .degree) (fits .a) (fits .b) ok)
-    ∙ ap₂ (λ (c d : List Float). gradient (placeOf x) (partialsBy N gm radius a b c d (placeOf x .r) (placeOf x .lat) (placeOf x .lon))) (front-cosines N D p ld big prep) (front-sines N D p ld big prep ∙ s)
+    let rest : drop (size N) D ≡ s = drop-drop (size N) 2 field ∙ sym (take-all (size N) (drop (2 + size N) field) (omega arith)) in
+    let both : D ≡ c ++ s = sym (take-append-drop (size N) D) ∙ ap (λ (l : List Float). c ++ l) rest in
+    let y : putMid 0 (length field - 2 - 0) p q ≡ (c ++ s) ++ drop (2 * size N) p = ap₂ (λ (l : List Float) (i : ℕ). l ++ drop i p) (is ∙ both) two in
+    eg ∙ ap (λ (l : List Float). gravityWith N (getD field 0 nan) (getD field 1 nan) a b l x) y
+    ∙ front-gravity N c s p (length-take-le (size N) D (omega arith)) (length-take-le (size N) (drop (2 + size N) field) (omega arith)) prep
+    (getD field 0 nan) (getD field 1 nan) a b x (fits .degree) (fits .a) (fits .b)
 
 -- ---- what is left behind
 

@@ -12,25 +12,14 @@ use Rattle.vectors.specs.Vector.{plus, minus, times, inner, norm, cross}
 use Rattle.vectors.specs.declared.Vector.{Vector}
 use Rattle.numbers.specs.Constants.{decimal, earthGM, earthRadius, sunGM, moonGM, rotation, flattening}
 use Rattle.sky.specs.Sky.{sunMoon}
-use Rattle.series.specs.Field.{partialsWith, partialsBy, partialsOf}
-use Rattle.series.specs.declared.Partials.{Partials}
+use Rattle.series.specs.Field.{partialsWith, partialsBy}
 use Rattle.tide.specs.Tide.{placeOf, solidTide}
 use Rattle.tide.specs.declared.kernel.Place.{Place}
-use Rattle.tide.specs.Gravity.{fromLocal, tideGravity}
+use Rattle.tide.specs.Gravity.{gradient, tideGravity}
 use Rattle.forces.specs.declared.kernel.Moment.{Moment}
 use Rattle.forces.specs.declared.kernel.Axes.{Axes}
 
--- the gradient of a potential at a place, from its partial derivatives: north, east and up, turned to Earth-fixed axes
-unfoldable pub gradient : Place → Partials → Vector
-gradient at p =
-    let lat = sineCosine (at .lat) in
-    fromLocal lat (sineCosine (at .lon)) (p .dlat ⊘ at .r) (p .dlon ⊘ (at .r ⊗ lat .cosine)) (p .dr)
-
--- the gravity at x of the published series to degree N of the coefficients c, s
-unfoldable pub gravityOf : ℕ → Float → Float → List Float → List Float → Vector → Vector
-gravityOf N gm radius c s x = let at = placeOf x in gradient at (partialsOf N gm radius c s (at .r) (at .lat) (at .lon))
-
--- the same from lent Legendre tables a and b
+-- the gravity at x from lent Legendre tables a and b: with those that `Legendre::new` fills, `gravityOf` of crate `tide`, the published series (proofs/Published)
 unfoldable pub gravityBy : ℕ → Float → Float → List Float → List Float → List Float → List Float → Vector → Vector
 gravityBy N gm radius a b c s x = let at = placeOf x in gradient at (partialsBy N gm radius a b c s (at .r) (at .lat) (at .lon))
 

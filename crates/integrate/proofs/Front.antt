@@ -48,7 +48,7 @@ fits-room : (N f n a o : ℕ) → atFits N f n a o ≡ true → 2 * tri (N + 1) 
 unfolding atFits
 fits-room N f n a o h = leb-true (2 * tri (N + 1)) o (and-second (leb N 180 && eqb f (size N) && leb 2 n && leb n (a / size N)) (leb (2 * tri (N + 1)) o) h)
 
-kind-long : (N k : ℕ) (field ts fs : List Float) (t : Float) → length (kindAt N k field ts fs t) ≡ tri (N + 1)
+pub kind-long : (N k : ℕ) (field ts fs : List Float) (t : Float) → length (kindAt N k field ts fs t) ≡ tri (N + 1)
 unfolding kindAt
 kind-long N k field ts fs t = kind-length N k field fs (weight ts t (bracket ts t)) (bracket ts t)
 
@@ -58,10 +58,10 @@ field-length N field ts fs t =
     ∙ omega (arith, kind-long N cosines field ts fs t, kind-long N (sines N) field ts fs t)
 
 module _ (N : ℕ) (field ts fs : List Float) where
-  abbrev fits : List Float → Bool
+  abbrev pub fits : List Float → Bool
   fits out = atFits N (length field) (length ts) (length fs) (length out)
 
-  fitting : (t : Float) (out : List Float) → fits out ≡ true → atLeft N field ts fs t out ≡ fieldAt N field ts fs t ++ drop (2 * tri (N + 1)) out
+  pub fitting : (t : Float) (out : List Float) → fits out ≡ true → atLeft N field ts fs t out ≡ fieldAt N field ts fs t ++ drop (2 * tri (N + 1)) out
   unfolding atLeft
   fitting t out h = simp h
 

@@ -2,3 +2,4 @@ pub mod Places
 pub mod Front
 pub mod Laws
 pub mod Calls
+pub mod Published

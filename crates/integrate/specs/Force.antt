@@ -40,9 +40,13 @@ frontSize N = 8 * tri (N + 1)
 unfoldable pub frontAt : Model → Float → List Float
 frontAt M t = atLeft (M .degree) (M .field) (M .times) (M .added) t (prepared (M .degree) (replicate (frontSize (M .degree)) zero64))
 
--- the field's attraction at t, with the Legendre tables a and b, and the tides
+-- the gravity of the field at t, with the Legendre tables a and b: with those that `Legendre::new` fills, that of the published series (proofs/Published)
+abbrev pub gravityAt : Model → List Float → List Float → Float → Vector → Vector
+gravityAt M a b t x = gravityWith (M .degree) (gm (M .field)) (radius (M .field)) a b (frontAt M t) x
+
+-- with the tides
 unfoldable pub fullForce : Model → List Float → List Float → Float → Vector → Vector
-fullForce M a b t x = plus (gravityWith (M .degree) (gm (M .field)) (radius (M .field)) a b (frontAt M t) x) (tidesOf t x)
+fullForce M a b t x = plus (gravityAt M a b t x) (tidesOf t x)
 
 unfoldable pub attractionOf : Force → Model → List Float → List Float → Float → Vector → Vector
 attractionOf Full M a b t x = fullForce M a b t x

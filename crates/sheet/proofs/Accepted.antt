@@ -3,23 +3,18 @@ use mathlib.Core.Path.{_≡_, refl, sym, ap, _∙_, subst}
 use mathlib.Core.Bool.{Bool, true, false, cond, _&&_}
 use mathlib.Core.List.{List, [], _∷_}
 use Prim.Native.Nat.{ℕ, zero, suc, _+_, _-_, _*_, _/_, _≤_, _<_}
-use native.Mathlib.Nat.{mul-div-cancel}
 use native.Mathlib.Omega.{arith}
 use lib.Dec.{T, leb, eqb}
 use lib.IntN.{ℤ}
 use lib.Ieee.{Float}
 use lib.Ieee.Scale.{finite}
-use lib.ListN.{length, replicate, length-replicate}
+use lib.ListN.{length}
 use borrow.Author.Tests.{leb-true, le-leb, eqb-true, eq-eqb}
-use Rattle.laws.specs.Floats.{zero64}
-use Rattle.laws.specs.Tables.{tri}
 use Rattle.laws.specs.Checks.{all, isTime, rising, risingSeconds}
 use Rattle.lent.specs.Lent.{kind, size, degreeFine, countsFine, modelFits, statesFit, tablesFit, leastScratch, wholeScratchFits, modelFine, keyedFine, rise}
 use Rattle.lent.proofs.Passed.{both-pass, all-pass, Few, counts-pass, Rise, rise-passes, states-pass, model-passes}
-use Rattle.series.specs.Prepared.{prepared}
-use Rattle.model.specs.Calls.{atFits}
-use Rattle.integrate.specs.Force.{frontSize}
-use Rattle.integrate.proofs.Front.{prepared-length}
+use Rattle.integrate.specs.Force.{model, frontSize}
+use Rattle.integrate.proofs.Published.{sized-fits}
 use Rattle.windows.specs.Stage.{Setting}
 use Rattle.windows.specs.Windows.{roomFor, windowsServe}
 use Rattle.sheet.specs.Submission.{Lists, Passed}
@@ -214,15 +209,7 @@ module _ (S : Setting) (l : Lists) (outputs : List (List Float)) (room : ℕ) (h
   }
 
   pub model-fits : ModelFits S l
-  unfolding atFits
-  model-fits =
-      let N : ℕ = S .degree in
-      let f : ℕ = length (l .fieldTimes) in
-      let w = prepared-length N (replicate (frontSize N) zero64) in
-      let pos : 0 < size N = omega arith in
-      let q : length (l .added) / size N ≡ f = ap (λ (n : ℕ). n / size N) (h .added) ∙ mul-div-cancel f pos in
-      let room' : 2 * tri (N + 1) ≤ length (prepared N (replicate (frontSize N) zero64)) = omega (arith, w, length-replicate (frontSize N) zero64) in
-      rw (le-leb N 180 (h .degree), eq-eqb (length (S .static)) (size N) (h .static), le-leb 2 f (h .fields), le-leb f (length (l .added) / size N) (omega (arith, q)), le-leb (2 * tri (N + 1)) (length (prepared N (replicate (frontSize N) zero64))) room') refl
+  model-fits = sized-fits (model (S .degree) (S .static) (l .fieldTimes) (l .added)) (record { degree = h .degree; static = h .static; fields = h .fields; added = h .added })
 
   -- there is room for the fits of a satellite
   pub windows-serve : (keys : List ℤ) (states : List Float) (satellite : ℕ) → satellite ≤ 1 → length states ≡ 6 * length keys → risingSeconds keys ≡ true →

@@ -8,14 +8,11 @@ use lib.IntN.{ℤ}
 use lib.Ieee.{Float, nan}
 use lib.ListN.{length, getD, replicate}
 use Rattle.numbers.specs.Seconds.{wholeSecond}
-use Rattle.vectors.specs.declared.Vector.{Vector}
 use Rattle.finality.specs.Brackets.{covers}
 use Rattle.finality.specs.Tables.{Table, find}
 use Rattle.finality.specs.Sheet.{Observation}
-use Rattle.forces.specs.Forces.{gravityWith}
-use Rattle.model.specs.Field.{gm, radius}
 use Rattle.epochs.specs.declared.Epoch.{Epoch}
-use Rattle.integrate.specs.Force.{Model, frontAt}
+use Rattle.integrate.specs.Force.{Model, gravityAt}
 use Rattle.integrate.specs.Room.{stateIn}
 use Rattle.integrate.specs.declared.kernel.State.{State}
 use Rattle.sighting.specs.Epoch.{epochWith}
@@ -42,10 +39,6 @@ unfoldable pub numbers : Keyed → Table Float
 numbers l = rowsFrom (λ (i : ℕ). getD (l .values) i nan) 0 (l .keys)
 
 -- ---- one epoch
-
--- the field's gravity at a time
-abbrev pub gravityAt : Model → List Float → List Float → Float → Vector → Vector
-gravityAt m a b t = gravityWith (m .degree) (gm (m .field)) (radius (m .field)) a b (frontAt m t)
 
 -- the record from both states and accelerometer values
 unfoldable pub recordAt : Model → List Float → List Float → Float → Float → State → State → Float → Float → Epoch

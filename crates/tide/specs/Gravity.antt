@@ -1,59 +1,30 @@
--- The gravity of a field of degree 3 with the Earth's GM and radius, by degree n and order m. Assumes nothing: definitions only.
-use Prim.Native.Nat.{ℕ, zero, suc, _+_}
+-- The gravity of the published series at a position, and the solid tide's, which is of degree 3 (synthesis.rs, `partials` and `acceleration_neu`; t1.rs, `gravity`;
+-- the coefficients are those of IERS Conventions 2010, eq. 6.6). Assumes nothing: definitions only.
+use Prim.Native.Nat.{ℕ, _+_}
 use mathlib.Core.List.{List}
-use lib.ListN.{getD}
-use lib.Ieee.{Float, nan, neg}
-use Rattle.laws.specs.Floats.{_⊕_, _⊖_, _⊗_, _⊘_, zero64, one64}
+use lib.Ieee.{Float, neg}
+use Rattle.laws.specs.Floats.{_⊕_, _⊖_, _⊗_}
 use Rattle.laws.specs.WholeNumbers.{number}
-use Rattle.numbers.specs.Numbers.{sine, cosine, sineCosine}
+use Rattle.laws.specs.Tables.{rows}
+use Rattle.numbers.specs.Constants.{earthGM, earthRadius}
+use Rattle.numbers.specs.Numbers.{sineCosine}
 use Rattle.numbers.specs.declared.SineCosine.{SineCosine}
 use Rattle.vectors.specs.declared.Vector.{Vector}
-use Rattle.numbers.specs.Constants.{earthGM, earthRadius}
-use Rattle.laws.specs.Tables.{tri, rows}
+use Rattle.series.specs.Arrays.{at, total}
+use Rattle.series.specs.Field.{partialsOf}
 use Rattle.series.specs.Legendre.{legendre, derived}
+use Rattle.series.specs.Sums.{Degree, degreeOf, termV, termLat, termLon, power, allR, allLat, allLon}
+use Rattle.series.specs.declared.Partials.{Partials}
+use Rattle.fields.specs.Calls.{accelerationOf}
+use Rattle.fields.specs.declared.NorthEastUp.{NorthEastUp}
 use Rattle.tide.specs.Tide.{entry, placeOf, ordersOf}
 use Rattle.tide.specs.declared.SolidTide.{SolidTide}
+use Rattle.tide.specs.declared.kernel.Place.{Place}
 use Rattle.tide.specs.declared.degree3.Tables.{Tables}
 use Rattle.tide.specs.declared.degree3.Sums.{Sums}
 use Rattle.tide.specs.declared.degree3.Totals.{Totals}
 
--- one order more: P̄ (C cos mλ + S sin mλ), its latitude derivative, and P̄ m (S cos mλ − C sin mλ)
-unfoldable pub addOrder : Tables → ℕ → ℕ → Sums → Sums
-addOrder f n m s =
-    let x = getD (f .cos) m nan in
-    let y = getD (f .sin) m nan in
-    let even = entry (f .c) n m ⊗ x ⊕ entry (f .s) n m ⊗ y in
-    record {
-      v = s .v ⊕ entry (f .p) n m ⊗ even;
-      lat = s .lat ⊕ entry (f .dp) n m ⊗ even;
-      lon = s .lon ⊕ entry (f .p) n m ⊗ number m ⊗ (entry (f .s) n m ⊗ x ⊖ entry (f .c) n m ⊗ y);
-    }
-
--- the sums of degree n over its first orders
-unfoldable pub orderSums : Tables → ℕ → ℕ → Sums
-orderSums f n zero = record { v = zero64; lat = zero64; lon = zero64 }
-orderSums f n (suc m) = addOrder f n m (orderSums f n m)
-
--- one degree more, with its factor (R/r)^n
-unfoldable pub addDegree : Tables → Float → ℕ → Totals → Totals
-addDegree f q n t =
-    let s = orderSums f n (n + 1) in
-    record {
-      power = t .power ⊗ q;
-      r = t .r ⊖ number (n + 1) ⊗ t .power ⊗ s .v;
-      lat = t .lat ⊕ t .power ⊗ s .lat;
-      lon = t .lon ⊕ t .power ⊗ s .lon;
-    }
-
--- over the first degrees
-unfoldable pub degreeSums : Tables → Float → ℕ → Totals
-degreeSums f q zero = record { power = one64; r = zero64; lat = zero64; lon = zero64 }
-degreeSums f q (suc n) = addDegree f q n (degreeSums f q n)
-
-unfoldable pub tablesOf : SolidTide → SineCosine → Float → Tables
-tablesOf field lat lon =
-    let p = rows (legendre (lat .sine) (lat .cosine)) 4 in
-    record { c = field .c; s = field .s; p = p; dp = rows (derived (entry p)) 4; cos = ordersOf lon .cos; sin = ordersOf lon .sin }
+-- ---- m/s², Earth-fixed
 
 -- north, east and up at a latitude and longitude, to Earth-fixed axes
 unfoldable pub fromLocal : SineCosine → SineCosine → Float → Float → Float → Vector
@@ -63,11 +34,48 @@ fromLocal lat lon n e u = record {
   z = lat .cosine ⊗ n ⊕ lat .sine ⊗ u;
 }
 
--- m/s², Earth-fixed
+-- the gradient of a potential at a place, from its partial derivatives
+unfoldable pub gradient : Place → Partials → Vector
+gradient at p =
+    let a = accelerationOf p (at .r) (at .lat) in
+    fromLocal (sineCosine (at .lat)) (sineCosine (at .lon)) (a .north) (a .east) (a .up)
+
+-- the gravity at x of the published series to degree N of the coefficients c, s
+unfoldable pub gravityOf : ℕ → Float → Float → List Float → List Float → Vector → Vector
+gravityOf N gm radius c s x = let at = placeOf x in gradient at (partialsOf N gm radius c s (at .r) (at .lat) (at .lon))
+
+-- the solid tide's: to degree 3, with the Earth's GM and radius
 unfoldable pub tideGravity : SolidTide → Vector → Vector
-tideGravity field x =
-    let at = placeOf x in
-    let lat = sineCosine (at .lat) in
-    let t = degreeSums (tablesOf field lat (at .lon)) (earthRadius ⊘ at .r) 4 in
-    let k = earthGM ⊘ at .r in
-    fromLocal lat (sineCosine (at .lon)) (k ⊗ t .lat ⊘ at .r) (k ⊗ t .lon ⊘ (at .r ⊗ lat .cosine)) (k ⊘ at .r ⊗ t .r)
+tideGravity tide x = gravityOf 3 earthGM earthRadius (tide .c) (tide .s) x
+
+-- ---- words of the contracts: the sums of the series from tables of ten numbers
+
+unfoldable pub tablesOf : SolidTide → SineCosine → Float → Tables
+tablesOf tide lat lon =
+    let p = rows (legendre (lat .sine) (lat .cosine)) 4 in
+    record { c = tide .c; s = tide .s; p = p; dp = rows (derived (entry p)) 4; cos = ordersOf lon .cos; sin = ordersOf lon .sin }
+
+-- degree n of the tables
+abbrev pub degreeIn : Tables → ℕ → Degree
+degreeIn f n = degreeOf (entry (f .c) n) (entry (f .s) n) (at (f .cos)) (at (f .sin)) (entry (f .p) n) (entry (f .dp) n)
+
+-- the sums of degree n over its first j orders, and with order m added
+unfoldable pub orderSums : Tables → ℕ → ℕ → Sums
+orderSums f n j = let g = degreeIn f n in record { v = total (termV g) j; lat = total (termLat g) j; lon = total (termLon g) j }
+
+unfoldable pub addOrder : Tables → ℕ → ℕ → Sums → Sums
+addOrder f n m s = let g = degreeIn f n in record { v = s .v ⊕ termV g m; lat = s .lat ⊕ termLat g m; lon = s .lon ⊕ termLon g m }
+
+-- the sums over the first j degrees with q to the j, and with degree n added
+unfoldable pub degreeSums : Tables → Float → ℕ → Totals
+degreeSums f q j = let g = degreeIn f in record { power = power q j; r = allR g q j; lat = allLat g q j; lon = allLon g q j }
+
+unfoldable pub addDegree : Tables → Float → ℕ → Totals → Totals
+addDegree f q n t =
+    let s = orderSums f n (n + 1) in
+    record {
+      power = t .power ⊗ q;
+      r = t .r ⊖ number (n + 1) ⊗ t .power ⊗ s .v;
+      lat = t .lat ⊕ t .power ⊗ s .lat;
+      lon = t .lon ⊕ t .power ⊗ s .lon;
+    }

@@ -11,15 +11,19 @@ use lib.Dec.{T, leb, eqb, ltb}
 use lib.IntN.{ℤ, pos, negsuc}
 use lib.Signed.{ltZ}
 use lib.Ieee.{Float, nan}
-use lib.ListN.{length, getD, drop, replicate}
+use lib.ListN.{length, getD, drop, replicate, length-replicate}
 use Rattle.laws.specs.Floats.{zero64}
-use Rattle.laws.specs.Tables.{tri}
+use Rattle.laws.specs.Tables.{tri, rows}
 use Rattle.laws.specs.Times.{second}
 use Rattle.numbers.specs.Seconds.{isHeld, wholeSecond}
 use Rattle.vectors.specs.Vector.{plus}
 use Rattle.vectors.specs.declared.Vector.{Vector}
+use Rattle.series.specs.Legendre.{aOf, bOf}
 use Rattle.series.specs.Prepared.{prepared}
+use Rattle.series.proofs.Published.{prepared-prepared}
+use Rattle.tide.specs.Gravity.{gravityOf as publishedGravity}
 use Rattle.forces.specs.Forces.{gravityWith, tidesOf}
+use Rattle.forces.proofs.Published.{front-published}
 use Rattle.model.specs.Field.{gm, radius}
 use Rattle.model.specs.Model.{fieldAt}
 use Rattle.model.specs.Calls.{atFits, atLeft}
@@ -49,6 +53,15 @@ pub full-is : (N : ℕ) (field a b ts added : List Float) → atFits N (length f
 unfolding fullForce gravityOf
 full-is N field a b ts added e t x =
     ap (λ (l : List Float). plus (gravityWith N (gm field) (radius field) a b l x) (tidesOf t x)) (front-is N field ts added t e)
+
+-- with the Legendre tables that `Legendre::new` fills, the stage's gravity of a field of coefficients c, s is that of their published series
+pub stage-published : (N : ℕ) (static c s : List Float) (x : Vector) → N ≤ 180 → length c ≡ tri (N + 1) → length s ≡ tri (N + 1) →
+    gravityOf (settingOf N static (rows aOf (N + 1)) (rows bOf (N + 1))) (c ++ s) x ≡ publishedGravity N (gm static) (radius static) c s x
+unfolding gravityOf front
+stage-published N static c s x h lc ls =
+    let w : List Float = replicate (frontSize N) zero64 in
+    ap (λ (m : ℕ). gravityWith N (gm static) (radius static) (rows aOf (N + 1)) (rows bOf (N + 1)) ((c ++ s) ++ drop (2 * tri m) (prepared N w)) x) (sym (add-one N))
+    ∙ front-published N c s (prepared N w) lc ls (prepared-prepared N w h (omega (arith, length-replicate (frontSize N) zero64))) (gm static) (radius static) x h
 
 -- ---- the look-up of states
 

@@ -1,11 +1,13 @@
-use Rattle.forces.specs.Forces.{gravityWith, gradient}
+use Rattle.numbers.specs.Numbers.{sineCosine}
+use Rattle.tide.specs.Gravity.{gradient}
+use Rattle.forces.specs.Forces.{gravityWith}
 use mathlib.Core.Path.{_≡_, refl, sym, ap, _∙_}
 use borrow.Author.Needs.{needs}
 use Rattle.forces.proofs.kernel.gravity.Statement.{statement}
 use Rattle.forces.proofs.kernel.gravity.Tie as tie
 
 returns : tie.Need-returns
-unfolding gravityWith gradient
+unfolding gravityWith gradient sineCosine
 returns c = simp (c .from-local .ensures, c .before .before .before .before .before .before .sine-cosine2 .ensures, c .before .before .before .before .before .before .before .sine-cosine .ensures, c .before .before .before .before .before .before .before .before .partials .ensures, c .before .before .before .before .before .before .before .before .before .place-of .ensures)
 
 pub gravity-spec : {M : Type 1} → statement M

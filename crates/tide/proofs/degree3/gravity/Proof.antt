@@ -1,13 +1,13 @@
 use Rattle.laws.specs.WholeNumbers.{number}
 use lib.Ieee.{ofBits, ofInt, round, neg}
-use Rattle.tide.specs.Gravity.{tideGravity}
+use Rattle.tide.proofs.Series.{summed, summed-published}
 use mathlib.Core.Path.{_≡_, refl, sym, ap, _∙_}
 use borrow.Author.Needs.{needs}
 use Rattle.tide.proofs.degree3.gravity.Statement.{statement}
 use Rattle.tide.proofs.degree3.gravity.Tie as tie
 
 returns : tie.Need-returns
-unfolding tideGravity ofBits number ofInt round
+unfolding summed ofBits number ofInt round
 returns c =
     simp (
       c .from-local .ensures,
@@ -16,7 +16,7 @@ returns c =
       c .before .before .before .before .before .before .before .before .before .before .before .before .sine-cosine2 .ensures,
       c .before .before .before .before .before .before .before .before .before .before .before .before .before .sine-cosine .ensures,
       c .before .before .before .before .before .before .before .before .before .before .before .before .before .before .place-of .ensures,
-    )
+    ) (summed-published _ _)
 
 pub gravity-spec : {M : Type 1} → statement M
 gravity-spec =
