@@ -62,7 +62,7 @@ uint8_t pozsmeteg_partials(size_t degree, const double *field, size_t field_leng
 void pozsmeteg_prepare(size_t degree, double *work, size_t work_length);
 
 /* As pozsmeteg_partials, without its tests and without its preparation, from a prepared work list with C and S in front; +0.0
- * four times where a length does not fit. An out whose length is not 4 is left unspecified. */
+ * four times where a length does not fit. An out whose length is not 4 stays as it was. */
 void pozsmeteg_partials_prepared(size_t degree, double gm, double radius, const double *a, size_t a_length,
                                  const double *b, size_t b_length, const double *work, size_t work_length,
                                  double r, double lat, double lon, double *out, size_t out_length);

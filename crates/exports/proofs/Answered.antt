@@ -6,7 +6,7 @@ use mathlib.Core.Option.{Option, none, some}
 use mathlib.Core.List.{List, [], _∷_}
 use native.Mathlib.Omega.{arith}
 use borrow.Author.Tests.{le-leb, lt-leb, eq-eqb, ne-eqb}
-use lib.Dec.{leb, eqb}
+use lib.Dec.{leb}
 use lib.ListN.{length, set}
 use lib.Ieee.{Float}
 use Rattle.laws.specs.Floats.{_⊖_, bits, zero64}
@@ -25,7 +25,7 @@ use Rattle.finality.specs.Sheet.{countTo}
 use Rattle.horizon.specs.Horizon.{horizonAnswer, horizonAt}
 use Rattle.horizon.specs.declared.kernel.HorizonNode.{HorizonNode}
 use Rattle.horizon.specs.declared.kernel.HorizonNode.the-variants as node
-use Rattle.exports.specs.Four.{fourOf}
+use Rattle.exports.specs.Four.{fourIn}
 use Rattle.exports.specs.Answers.{outcomeNumber, outcomeLeft, countedNumber, countIn, revolutionsTold, revolutionsLeft, listsTold, residualsLeft, sheetNumber, countsIn, sheetTold, sheetLeft, partialsNumber, partialsIn, partialsLeft, horizonTold, horizonNumber}
 use Rattle.exports.proofs.Stored.{four-set}
 use Rattle.laws.specs.WholeNumbers.{number}
@@ -91,13 +91,16 @@ sheet-left l answer n cs₀ cs columns scratch h e = (λ i. sheetTold (h .0 i) (
 
 -- ---- partials
 
-pub four-in : (out : List Float) (p : Partials) → length out ≡ 4 → set (set (set (set out 0 (p .v)) 1 (p .dr)) 2 (p .dlat)) 3 (p .dlon) ≡ cond (eqb (length out) 4) (fourOf p) out
-four-in out p h = simp (eq-eqb (length out) 4 h) (four-set out p p refl h)
+pub four-in : (out : List Float) (p : Partials) → length out ≡ 4 → set (set (set (set out 0 (p .v)) 1 (p .dr)) 2 (p .dlat)) 3 (p .dlon) ≡ fourIn p out
+four-in out p h = simp (eq-eqb (length out) 4 h) (four-set out p h)
 
-pub four-out : (out : List Float) (p : Partials) → (length out ≡ 4 → ⊥) → out ≡ cond (eqb (length out) 4) (fourOf p) out
+pub four-out : (out : List Float) (p : Partials) → (length out ≡ 4 → ⊥) → out ≡ fourIn p out
 four-out out p h = simp (ne-eqb (length out) 4 h)
 
-pub partials-stored : (answer : PartialsAnswer) (p : Partials) (out new : List Float) → answer ≡ partials.Value p → new ≡ cond (eqb (length out) 4) (fourOf p) out → (0 ≡ partialsNumber answer) × (new ≡ partialsIn answer out)
+pub four-put : (out new : List Float) (p q : Partials) → new ≡ fourIn p out → p ≡ q → new ≡ fourIn q out
+four-put out new p q h e = h ∙ ap (λ x. fourIn x out) e
+
+pub partials-stored : (answer : PartialsAnswer) (p : Partials) (out new : List Float) → answer ≡ partials.Value p → new ≡ fourIn p out → (0 ≡ partialsNumber answer) × (new ≡ partialsIn answer out)
 partials-stored answer p out new e h = (sym (ap partialsNumber e), h ∙ sym (ap (λ a. partialsIn a out) e))
 
 pub partials-refused : (answer : PartialsAnswer) (n : ℕ) (out new : List Float) → answer ≡ partials.Refused n → new ≡ cond (leb n 5) out (cleared out) → (n ≡ partialsNumber answer) × (new ≡ partialsIn answer out)

@@ -3,8 +3,8 @@ use Prim.Native.Nat.{ℕ}
 use mathlib.Core.Bool.{cond}
 use mathlib.Core.Option.{Option, none, some}
 use mathlib.Core.List.{List, [], _∷_}
-use lib.Dec.{leb, eqb}
-use lib.ListN.{length, set}
+use lib.Dec.{leb}
+use lib.ListN.{set}
 use lib.Ieee.{Float}
 use Rattle.laws.specs.Floats.{bits}
 use Rattle.laws.specs.Loops.{cleared}
@@ -21,7 +21,7 @@ use Rattle.sheet.specs.declared.SheetAnswer.{SheetAnswer}
 use Rattle.sheet.specs.declared.SheetAnswer.the-variants as sheet
 use Rattle.horizon.specs.declared.kernel.HorizonNode.{HorizonNode}
 use Rattle.horizon.specs.declared.kernel.HorizonNode.the-variants as horizon
-use Rattle.exports.specs.Four.{fourOf}
+use Rattle.exports.specs.Four.{fourIn}
 
 -- ---- an outcome
 
@@ -99,7 +99,7 @@ partialsNumber (partials.Value p) = 0
 partialsNumber (partials.Refused n) = n
 
 abbrev pub partialsIn : PartialsAnswer → List Float → List Float
-partialsIn (partials.Value p) out = cond (eqb (length out) 4) (fourOf p) out
+partialsIn (partials.Value p) out = fourIn p out
 partialsIn (partials.Refused n) out = cond (leb n 5) out (cleared out)
 
 abbrev pub partialsLeft : Left PartialsAnswer → List Float → Left ℕ

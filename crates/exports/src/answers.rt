@@ -1,10 +1,10 @@
 // Answers told in numbers: 0 for acceptance, or the refusal's number; counts in the first place of a lent list.
 ghost use mathlib.Core.Path.{_≡_};
 ghost use mathlib.Core.Bool.{cond};
-ghost use lib.Dec.{leb, eqb};
-ghost use lib.ListN.{length, set};
+ghost use lib.Dec.{leb};
+ghost use lib.ListN.{set};
 ghost use Rattle.laws.specs.Loops.{cleared};
-ghost use Rattle.exports.specs.Four.{fourOf};
+ghost use Rattle.exports.specs.Four.{fourIn};
 ghost use Rattle.exports.specs.Told.{toldOf};
 ghost use Rattle.exports.specs.Answers.{outcomeNumber, countedNumber, countIn, partialsNumber, partialsIn, horizonNumber, sheetNumber, countsIn};
 
@@ -92,8 +92,9 @@ pub fn store_counts(answer: sheet::SheetAnswer, counts: &mut [usize]) -> u8
     }
 }
 
-fn put_four(p: series::Partials, out: &mut [f64])
-    ensures { λ _. ⌜ now (out .exit) ≡ cond (eqb (length (now (out .entry))) 4) (fourOf p) (now (out .entry)) ⌝ }
+// An out of another length stays as it was.
+pub fn put_four(p: series::Partials, out: &mut [f64])
+    ensures { λ _. ⌜ now (out .exit) ≡ fourIn p (now (out .entry)) ⌝ }
 {
     if out.len() == 4 {
         out[0] = p.v;

@@ -8,7 +8,7 @@ ghost use lib.Ieee.{binary64};
 ghost use lib.ListN.{length};
 ghost use Rattle.series.specs.Field.{partialsWith};
 ghost use Rattle.series.specs.Prepared.{prepared};
-ghost use Rattle.exports.specs.Four.{fourOf};
+ghost use Rattle.exports.specs.Four.{fourIn};
 ghost use Rattle.slices.specs.Calls.{left};
 ghost use Rattle.fields.specs.Calls.{newCall, partialsCall};
 ghost use Rattle.filter.specs.Calls.{bandPassCall};
@@ -75,7 +75,7 @@ pub extern "C" fn pozsmeteg_prepare(degree: usize, work: &mut [f64])
     fields::kernel::prepare(degree, work);
 }
 
-// The kernel over a prepared work slice; the four numbers go into out.
+// The kernel over a prepared work slice; the four numbers go into an out of four places, another stays as it was.
 #[no_mangle]
 pub extern "C" fn pozsmeteg_partials_prepared(
     degree: usize,
@@ -89,15 +89,10 @@ pub extern "C" fn pozsmeteg_partials_prepared(
     lon: f64,
     out: &mut [f64],
 )
-    ensures { λ _. ⌜ (length (now (out .entry)) ≡ 4 → now (out .exit) ≡ fourOf (partialsWith degree gm radius (now (a .entry)) (now (b .entry)) (now (work .entry)) r lat lon)) ⌝ }
+    ensures { λ _. ⌜ now (out .exit) ≡ fourIn (partialsWith degree gm radius (now (a .entry)) (now (b .entry)) (now (work .entry)) r lat lon) (now (out .entry)) ⌝ }
 {
     let z = fields::kernel::partials(degree, gm, radius, a, b, work, r, lat, lon);
-    if out.len() == 4 {
-        out[0] = z.v;
-        out[1] = z.dr;
-        out[2] = z.dlat;
-        out[3] = z.dlon;
-    }
+    answers::put_four(z, out);
 }
 
 #[no_mangle]
