@@ -51,8 +51,8 @@ double pozsmeteg_power(double a, uint32_t n, double c);
 uint8_t pozsmeteg_legendre_new(size_t degree, double *a, size_t a_length, double *b, size_t b_length,
                                double *scratch, size_t scratch_length);
 
-/* The potential and its derivatives by radius, latitude and longitude, into the four places of out; an out of another length is
- * left as it is. Lengths: field 2 + 2 L, a and b L, scratch at least 8 L. Refuses 1, 3, 4, 10. */
+/* The potential and its derivatives by radius, latitude and longitude, into the four places of out.
+ * Lengths: field 2 + 2 L, a and b L, out 4, scratch at least 8 L. Refuses 1, 3, 4, 10. */
 uint8_t pozsmeteg_partials(size_t degree, const double *field, size_t field_length, const double *a, size_t a_length,
                            const double *b, size_t b_length, double r, double lat, double lon,
                            double *out, size_t out_length, double *scratch, size_t scratch_length);

@@ -53,6 +53,9 @@ fn tables_and_partials() {
     assert_eq!(partials(&tables, &earth(3), 6.878e6, 0.4, 1.0), Err(Refusal::Length));
     assert_eq!(partials(&tables, &earth(4), f64::NAN, 0.4, 1.0), Err(Refusal::Value));
     assert_eq!(partials(&tables, &earth(4), 0.0, 0.4, 1.0), Err(Refusal::NotFinite));
+    let (mut five, mut scratch) = ([7.0; 5], [7.0; 120]);
+    assert_eq!(raw::partials(4, &earth(4), &[0.0; 15], &[0.0; 15], 6.878e6, 0.4, 1.0, &mut five, &mut scratch), 3);
+    assert!(five == [7.0; 5] && scratch == [7.0; 120]);
 }
 
 #[test]

@@ -1,10 +1,10 @@
 -- Answers told in numbers, for C: 0 for acceptance or document 01's refusal number, a count in the first place of a lent list. Assumes nothing.
 use Prim.Native.Nat.{ℕ}
-use mathlib.Core.Bool.{cond}
+use mathlib.Core.Bool.{true, false, cond}
 use mathlib.Core.Option.{Option, none, some}
 use mathlib.Core.List.{List, [], _∷_}
-use lib.Dec.{leb}
-use lib.ListN.{set}
+use lib.Dec.{leb, eqb}
+use lib.ListN.{length, set}
 use lib.Ieee.{Float}
 use Rattle.laws.specs.Floats.{bits}
 use Rattle.laws.specs.Loops.{cleared}
@@ -13,6 +13,7 @@ use Rattle.slices.specs.declared.Outcome.{Outcome}
 use Rattle.slices.specs.declared.Outcome.the-variants as outcome
 use Rattle.slices.specs.declared.Counted.{Counted}
 use Rattle.slices.specs.declared.Counted.the-variants as counted
+use Rattle.fields.specs.Calls.{refusalOf}
 use Rattle.fields.specs.declared.PartialsAnswer.{PartialsAnswer}
 use Rattle.fields.specs.declared.PartialsAnswer.the-variants as partials
 use Rattle.detrend.specs.Calls.{LeftLists}
@@ -21,7 +22,7 @@ use Rattle.sheet.specs.declared.SheetAnswer.{SheetAnswer}
 use Rattle.sheet.specs.declared.SheetAnswer.the-variants as sheet
 use Rattle.horizon.specs.declared.kernel.HorizonNode.{HorizonNode}
 use Rattle.horizon.specs.declared.kernel.HorizonNode.the-variants as horizon
-use Rattle.exports.specs.Four.{fourIn}
+use Rattle.exports.specs.Four.{fourOf}
 
 -- ---- an outcome
 
@@ -99,11 +100,15 @@ partialsNumber (partials.Value p) = 0
 partialsNumber (partials.Refused n) = n
 
 abbrev pub partialsIn : PartialsAnswer → List Float → List Float
-partialsIn (partials.Value p) out = fourIn p out
+partialsIn (partials.Value p) out = fourOf p
 partialsIn (partials.Refused n) out = cond (leb n 5) out (cleared out)
 
 abbrev pub partialsLeft : Left PartialsAnswer → List Float → Left ℕ
 partialsLeft l out = left (partialsNumber (l .answer)) (partialsIn (l .answer) out ∷ []) (l .scratch)
+
+-- of degree N: an out of another length is 3, 1 before it, and all stays as it was
+abbrev pub partialsTold : ℕ → Left PartialsAnswer → List Float → List Float → Left ℕ
+partialsTold N l out scratch = cond (eqb (length out) 4) (partialsLeft l out) (left (refusalOf N false true) (out ∷ []) scratch)
 
 -- ---- the horizon's time, -1.0 without one
 

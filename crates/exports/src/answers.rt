@@ -1,9 +1,10 @@
 // Answers told in numbers: 0 for acceptance, or the refusal's number; counts in the first place of a lent list.
 ghost use mathlib.Core.Path.{_≡_};
-ghost use mathlib.Core.Bool.{cond};
+ghost use mathlib.Core.Bool.{true, false, cond};
 ghost use lib.Dec.{leb};
-ghost use lib.ListN.{set};
+ghost use lib.ListN.{length, set};
 ghost use Rattle.laws.specs.Loops.{cleared};
+ghost use Rattle.fields.specs.Calls.{refusalOf};
 ghost use Rattle.exports.specs.Four.{fourIn};
 ghost use Rattle.exports.specs.Told.{toldOf};
 ghost use Rattle.exports.specs.Answers.{outcomeNumber, countedNumber, countIn, partialsNumber, partialsIn, horizonNumber, sheetNumber, countsIn};
@@ -112,8 +113,16 @@ fn clear_after(out: &mut [f64], n: u8)
     }
 }
 
+// 3, or 1 where the degree is refused before any length.
+pub fn length_refusal(degree: usize) -> u8
+    ensures { λ r. ⌜ r ≡ refusalOf degree false true ⌝ }
+{
+    slices::unless(slices::both(2 <= degree, degree <= 180), 1, 3)
+}
+
 // The four numbers in a list of four.
 pub fn store_partials(answer: fields::PartialsAnswer, out: &mut [f64]) -> u8
+    requires { ⌜ length (now out) ≡ 4 ⌝ }
     ensures number { λ r. ⌜ r ≡ partialsNumber answer ⌝ }
     ensures places { λ _. ⌜ now (out .exit) ≡ partialsIn answer (now (out .entry)) ⌝ }
 {

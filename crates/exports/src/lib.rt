@@ -22,7 +22,7 @@ ghost use Rattle.finality.specs.Sheet.{horizonOf, countTo};
 ghost use Rattle.horizon.specs.Horizon.{endsOf, finalEntries};
 ghost use Rattle.fit.specs.Calls.{fitCall};
 ghost use Rattle.exports.specs.Told.{toldLeft};
-ghost use Rattle.exports.specs.Answers.{outcomeLeft, partialsLeft, horizonTold, revolutionsTold, revolutionsLeft, listsTold, residualsLeft, sheetTold, sheetLeft};
+ghost use Rattle.exports.specs.Answers.{outcomeLeft, partialsTold, horizonTold, revolutionsTold, revolutionsLeft, listsTold, residualsLeft, sheetTold, sheetLeft};
 ghost use Rattle.root.specs.Root.{sqrt};
 ghost use Rattle.numbers.specs.Numbers.{sine as Numbers·sine, cosine as Numbers·cosine, arctangent as Numbers·arctangent, arcsine as Numbers·arcsine, power as Numbers·power};
 
@@ -148,6 +148,7 @@ pub extern "C" fn pozsmeteg_legendre_new(
     answers::number(fields::legendre_new(degree, a, b, scratch))
 }
 
+// The four numbers go into out; an out of another length is refused like any other length.
 #[no_mangle]
 pub extern "C" fn pozsmeteg_partials(
     degree: usize,
@@ -160,8 +161,11 @@ pub extern "C" fn pozsmeteg_partials(
     out: &mut [f64],
     scratch: &mut [f64],
 ) -> u8
-    ensures { λ z. ⌜ left z (now (out .exit) ∷ []) (now (scratch .exit)) ≡ partialsLeft (partialsCall degree (now (field .entry)) (now (a .entry)) (now (b .entry)) r lat lon (now (scratch .entry))) (now (out .entry)) ⌝ }
+    ensures { λ z. ⌜ left z (now (out .exit) ∷ []) (now (scratch .exit)) ≡ partialsTold degree (partialsCall degree (now (field .entry)) (now (a .entry)) (now (b .entry)) r lat lon (now (scratch .entry))) (now (out .entry)) (now (scratch .entry)) ⌝ }
 {
+    if out.len() != 4 {
+        return answers::length_refusal(degree);
+    }
     let answer = fields::partials(degree, field, a, b, r, lat, lon, scratch);
     answers::store_partials(answer, out)
 }
