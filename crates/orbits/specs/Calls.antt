@@ -10,7 +10,7 @@ use lib.ListN.{length, replicate}
 use Rattle.laws.specs.Floats.{zero64}
 use Rattle.laws.specs.Checks.{all, isTime, rising, risingSeconds}
 use Rattle.laws.specs.Loops.{cleared}
-use Rattle.lent.specs.Lent.{firstOf, degreeFine, countsFine, modelFits, wholeScratchFits, modelFine, keyedFine}
+use Rattle.lent.specs.Lent.{firstOf, degreeFine, fieldsFine, few, modelFits, wholeScratchFits, modelFine, keyedFine}
 use Rattle.finality.specs.Tables.{keyOf}
 use Rattle.finality.specs.Brackets.{covers}
 use Rattle.integrate.specs.Force.{Model, fullForce}
@@ -53,11 +53,11 @@ lengthsFit g o scratch =
     && (placesFit (length (g .nodes)) (length (o .keys)) (length (o .states)) (length (o .rms))
     && wholeScratchFits (g .model .degree) (length (g .model .times)) (length (g .nodes)) 0 scratch)
 
--- fit: whether all lengths do; of the other lists that `countsFine` tests the call has none
+-- fit: whether all lengths do
 unfoldable pub refusal : Given → Bool → ℕ
 refusal g fit =
     firstOf (degreeFine (g .model .degree))
-    (countsFine (length (g .model .times)) (length (g .keys)) 0 0 0 && leb (length (g .nodes)) 64)
+    ((fieldsFine (length (g .model .times)) && few (length (g .keys))) && leb (length (g .nodes)) 64)
     fit
     (modelFine (g .model .field) (g .a) (g .b) (g .model .times) (g .model .added) && (keyedFine (g .keys) (g .states) && all isTime (g .nodes)))
     (rising (g .model .times) && (risingSeconds (g .keys) && rising (g .nodes)))
