@@ -11,15 +11,17 @@ use lib.ListN.{length, set}
 use lib.Ieee.{Float}
 use Rattle.laws.specs.Floats.{_⊖_, bits, zero64}
 use Rattle.laws.specs.Loops.{cleared}
+use Rattle.slices.specs.Answers.{outcomeNumber, countedNumber}
 use Rattle.slices.specs.declared.Outcome.{Outcome}
 use Rattle.slices.specs.declared.Counted.{Counted}
 use Rattle.slices.specs.declared.Counted.the-variants as counted
 use Rattle.series.specs.declared.Partials.{Partials}
-use Rattle.fields.specs.Calls.{refusalOf}
+use Rattle.fields.specs.Calls.{refusalOf, partialsNumber}
 use Rattle.fields.specs.declared.PartialsAnswer.{PartialsAnswer}
 use Rattle.fields.specs.declared.PartialsAnswer.the-variants as partials
 use Rattle.detrend.specs.Calls.{LeftLists, listed}
 use Rattle.residuals.specs.Calls.{Lists, ListsLeft, listsLeft}
+use Rattle.sheet.specs.Calls.{sheetNumber}
 use Rattle.sheet.specs.declared.SheetAnswer.{SheetAnswer}
 use Rattle.sheet.specs.declared.SheetAnswer.the-variants as sheet
 use Rattle.finality.specs.Sheet.{countTo}
@@ -27,7 +29,7 @@ use Rattle.horizon.specs.Horizon.{horizonAnswer, horizonAt}
 use Rattle.horizon.specs.declared.kernel.HorizonNode.{HorizonNode}
 use Rattle.horizon.specs.declared.kernel.HorizonNode.the-variants as node
 use Rattle.exports.specs.Four.{fourOf, fourIn}
-use Rattle.exports.specs.Answers.{outcomeNumber, outcomeLeft, countedNumber, countIn, revolutionsTold, revolutionsLeft, listsTold, residualsLeft, sheetNumber, countsIn, sheetTold, sheetLeft, partialsNumber, partialsIn, partialsLeft, partialsTold, horizonTold, horizonNumber}
+use Rattle.exports.specs.Answers.{outcomeLeft, countIn, revolutionsTold, revolutionsLeft, listsTold, residualsLeft, countsIn, sheetTold, sheetLeft, partialsIn, partialsLeft, partialsTold, horizonTold, horizonNumber}
 use Rattle.exports.proofs.Stored.{four-set}
 use Rattle.laws.specs.WholeNumbers.{number}
 use Rattle.slices.specs.Calls.{Left, left}

@@ -4,10 +4,12 @@ ghost use mathlib.Core.Bool.{true, false, cond};
 ghost use lib.Dec.{leb};
 ghost use lib.ListN.{length, set};
 ghost use Rattle.laws.specs.Loops.{cleared};
-ghost use Rattle.fields.specs.Calls.{refusalOf};
+ghost use Rattle.slices.specs.Answers.{outcomeNumber, countedNumber};
+ghost use Rattle.fields.specs.Calls.{refusalOf, partialsNumber};
+ghost use Rattle.sheet.specs.Calls.{sheetNumber};
 ghost use Rattle.exports.specs.Four.{fourIn};
 ghost use Rattle.exports.specs.Told.{toldOf};
-ghost use Rattle.exports.specs.Answers.{outcomeNumber, countedNumber, countIn, partialsNumber, partialsIn, horizonNumber, sheetNumber, countsIn};
+ghost use Rattle.exports.specs.Answers.{countIn, partialsIn, horizonNumber, countsIn};
 
 // The rms, or the refusal's number below zero.
 pub fn told(answer: fit::kernel::Fitted) -> f64

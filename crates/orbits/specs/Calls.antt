@@ -1,6 +1,7 @@
 -- The public call `fitted_orbits` (document 01, "Outcomes" and "Bounds"): which refusal, the work, what is left. Assumes nothing.
 use Prim.Native.Nat.{ℕ, zero, suc, _+_, _-_, _*_}
 use mathlib.Core.Bool.{Bool, true, false, _&&_}
+use mathlib.Core.Option.{Option, none, some}
 use mathlib.Core.List.{List, [], _∷_, _++_, map}
 use lib.Dec.{leb, eqb}
 use lib.IntN.{ℤ, pos}
@@ -18,6 +19,18 @@ use Rattle.fit.specs.Fit.{stateFor}
 use Rattle.orbits.specs.declared.FittedOrbits.{FittedOrbits}
 use Rattle.orbits.specs.declared.FittedOrbits.the-variants.{Counted, Refused}
 use Rattle.orbits.specs.Orbits.{Window, orbitsOf, joined, numbersOf}
+
+-- ---- an answer: document 01's number, 0 for acceptance, and the counts of states and of windows
+
+abbrev pub orbitsNumber : FittedOrbits → ℕ
+orbitsNumber (Counted states windows) = 0
+orbitsNumber (Refused n) = n
+
+abbrev pub orbitsValues : FittedOrbits → Option (ℕ × ℕ)
+orbitsValues (Counted states windows) = some (states, windows)
+orbitsValues (Refused n) = none
+
+-- ---- the arguments
 
 -- what the call is lent: the model with the Legendre tables a and b, the states by key, the nodes
 pub record Given : Type 0 where
