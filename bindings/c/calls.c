@@ -28,6 +28,9 @@ int main(void) {
     double a[6], b[6], four[4] = {7, 7, 7, 7}, field[14] = {3.986e14, 6.378e6, 1};
     must(pozsmeteg_legendre_new(2, a, 6, b, 6, scratch, 48) == 0, "tables");
     must(pozsmeteg_partials(2, field, 14, a, 6, b, 6, 6.9e6, 0.3, 1.0, four, 4, scratch, 48) == 0 && four[0] > 5.7e7 && four[1] < 0, "partials");
+    double five[5] = {7, 7, 7, 7, 7};
+    must(pozsmeteg_partials(2, field, 14, a, 6, b, 6, 6.9e6, 0.3, 1.0, five, 5, scratch, 48) == 3 && all(five, 5, 7), "partials into five places");
+    must(pozsmeteg_partials(1, field, 14, a, 6, b, 6, 6.9e6, 0.3, 1.0, five, 3, scratch, 48) == 1 && all(five, 5, 7), "the degree before the length");
     must(pozsmeteg_partials(2, field, 14, a, 6, b, 6, 0.0, 0.3, 1.0, four, 4, scratch, 48) == 10 && all(four, 4, 0), "partials at the centre");
     double nodes[2] = {10000, 15000}, ends[1] = {16804}, kept[3] = {1, 2, 14998};
     int64_t keys[1] = {16804};

@@ -51,8 +51,8 @@ double pozsmeteg_power(double a, uint32_t n, double c);
 uint8_t pozsmeteg_legendre_new(size_t degree, double *a, size_t a_length, double *b, size_t b_length,
                                double *scratch, size_t scratch_length);
 
-/* The potential and its derivatives by radius, latitude and longitude, into the four places of out; an out of another length is
- * left as it is. Lengths: field 2 + 2 L, a and b L, scratch at least 8 L. Refuses 1, 3, 4, 10. */
+/* The potential and its derivatives by radius, latitude and longitude, into the four places of out.
+ * Lengths: field 2 + 2 L, a and b L, out 4, scratch at least 8 L. Refuses 1, 3, 4, 10. */
 uint8_t pozsmeteg_partials(size_t degree, const double *field, size_t field_length, const double *a, size_t a_length,
                            const double *b, size_t b_length, double r, double lat, double lon,
                            double *out, size_t out_length, double *scratch, size_t scratch_length);
@@ -62,7 +62,7 @@ uint8_t pozsmeteg_partials(size_t degree, const double *field, size_t field_leng
 void pozsmeteg_prepare(size_t degree, double *work, size_t work_length);
 
 /* As pozsmeteg_partials, without its tests and without its preparation, from a prepared work list with C and S in front; +0.0
- * four times where a length does not fit. An out whose length is not 4 is left unspecified. */
+ * four times where a length does not fit. An out whose length is not 4 stays as it was. */
 void pozsmeteg_partials_prepared(size_t degree, double gm, double radius, const double *a, size_t a_length,
                                  const double *b, size_t b_length, const double *work, size_t work_length,
                                  double r, double lat, double lon, double *out, size_t out_length);

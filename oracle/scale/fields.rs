@@ -85,9 +85,10 @@ fn partials(tally: &mut Tally, rounds: u64) {
             }
         }
         let room = scratch_length(&mut random, 8 * l);
-        let (mut out, mut scratch) = (Lent::new(&mut random, 4), Lent::new(&mut random, room));
+        let handed = if random.below(20) == 0 { [0, 1, 3, 5][random.below(4)] } else { 4 };
+        let (mut out, mut scratch) = (Lent::new(&mut random, handed), Lent::new(&mut random, room));
         let told = raw::partials(n, &values, &a, &b, place[0], place[1], place[2], &mut out.now, &mut scratch.now);
-        let early = if !(2..=180).contains(&n) { 1 } else if values.len() != 2 + 2 * l || a.len() != l || b.len() != l || room < 8 * l { 3 }
+        let early = if !(2..=180).contains(&n) { 1 } else if values.len() != 2 + 2 * l || a.len() != l || b.len() != l || handed != 4 || room < 8 * l { 3 }
             else if !(finite(&values) && finite(&a) && finite(&b) && finite(&place)) { 4 } else { 0 };
         let four = if early != 0 { [0.0; 4] } else {
             let p = coefficients(n, &values).partials(place[0], place[1], place[2]);
@@ -104,7 +105,7 @@ fn partials(tally: &mut Tally, rounds: u64) {
     tally.end("");
 }
 
-// The kernel gives the same numbers, finite or not.
+// The kernel gives the same numbers, finite or not, and leaves an out of five as it was.
 fn prepared(tally: &mut Tally, case: u64, n: usize, values: &[f64], a: &[f64], b: &[f64], place: [f64; 3], four: [f64; 4]) {
     let l = places(n);
     let mut work = vec![f64::NAN; 8 * l];
@@ -112,7 +113,9 @@ fn prepared(tally: &mut Tally, case: u64, n: usize, values: &[f64], a: &[f64], b
     raw::prepare(n, &mut work);
     let mut out = [7.0; 4];
     raw::partials_prepared(n, values[0], values[1], a, b, &work, place[0], place[1], place[2], &mut out);
-    let equal = out.iter().zip(four).all(|(x, y)| x.to_bits() == y.to_bits() || x.is_nan() && y.is_nan());
+    let mut five = [7.0; 5];
+    raw::partials_prepared(n, values[0], values[1], a, b, &work, place[0], place[1], place[2], &mut five);
+    let equal = out.iter().zip(four).all(|(x, y)| x.to_bits() == y.to_bits() || x.is_nan() && y.is_nan()) && five == [7.0; 5];
     tally.judge(equal, || format!("case {case}, prepared: degree {n}, {place:?}"));
 }
 

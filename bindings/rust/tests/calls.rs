@@ -57,6 +57,9 @@ fn tables_and_partials() {
     let prepared = Prepared::new(&tables, &earth(4)).unwrap();
     assert_eq!(prepared.partials(6.878e6, 0.4, 1.0), p);
     assert!(!prepared.partials(0.0, 0.4, 1.0).v.is_finite());
+    let (mut five, mut scratch) = ([7.0; 5], [7.0; 120]);
+    assert_eq!(raw::partials(4, &earth(4), &[0.0; 15], &[0.0; 15], 6.878e6, 0.4, 1.0, &mut five, &mut scratch), 3);
+    assert!(five == [7.0; 5] && scratch == [7.0; 120]);
 }
 
 #[test]

@@ -17,6 +17,7 @@ use Rattle.detrend.specs.Work.{Detrended, DetrendedAll}
 use lib.Ieee.Scale.{finite}
 use Rattle.laws.specs.Checks.{all, isTime, rising}
 use Rattle.laws.specs.Loops.{head-at}
+use Rattle.slices.specs.Calls.{firstFailed}
 use Rattle.slices.specs.Slices.{copied}
 use Rattle.slices.proofs.Calls.{cond-passes}
 use Rattle.slices.proofs.Laws.{copied-all}
@@ -167,13 +168,13 @@ room-kept ts vs s c1 c2 h room k1 k2 =
 
 pub numbers-refused : (ts vs ss ps : List Float) (r9 r10 r11 r12 r13 r14 : ℕ) (b9 b10 b11 b12 b13 b14 : Bool) →
     b13 ≡ rising ts → b14 ≡ rising ss → b11 ≡ all isTime ss → b12 ≡ all finite ps → b9 ≡ all isTime ts → b10 ≡ all finite vs →
-    r14 ≡ cond b14 0 5 → r13 ≡ cond b13 r14 5 → r12 ≡ cond b12 r13 4 → r11 ≡ cond b11 r12 4 → r10 ≡ cond b10 r11 4 → r9 ≡ cond b9 r10 4 → r9 ≡ detrendNumbers ts vs ss ps
+    r14 ≡ cond b14 0 5 → r13 ≡ cond b13 r14 5 → r12 ≡ cond b12 r13 4 → r11 ≡ cond b11 r12 4 → r10 ≡ cond b10 r11 4 → r9 ≡ cond b9 r10 4 → r9 ≡ firstFailed (detrendNumbers ts vs ss ps)
 unfolding detrendNumbers
 numbers-refused ts vs ss ps r9 r10 r11 r12 r13 r14 b9 b10 b11 b12 b13 b14 h13 h14 h11 h12 h9 h10 e14 e13 e12 e11 e10 e9 =
     simp (e9, e10, e11, e12, e13, e14, h9, h10, h11, h12, h13, h14)
 
 pub detrend-refused : (ts vs : List Float) (fs es : List ℕ) (ss ps : List Float) (room r1 r2 r3 r4 r5 r6 r7 r8 r9 : ℕ) (b3 : Bool) →
-    b3 ≡ rangesFit fs es (length ts) → r9 ≡ detrendNumbers ts vs ss ps →
+    b3 ≡ rangesFit fs es (length ts) → r9 ≡ firstFailed (detrendNumbers ts vs ss ps) →
     r8 ≡ cond (leb (8 * length ts) room) r9 3 → r7 ≡ cond (eqb (length ps) (length fs)) r8 3 → r6 ≡ cond (eqb (length ss) (length fs)) r7 3 → r5 ≡ cond (eqb (length es) (length fs)) r6 3 →
     r4 ≡ cond (eqb (length vs) (length ts)) r5 3 → r3 ≡ cond b3 r4 2 → r2 ≡ cond (leb (length ss) 63) r3 2 → r1 ≡ cond (leb (length ts) 100000) r2 2 → r1 ≡ detrendRefusal ts vs fs es ss ps room
 unfolding detrendRefusal

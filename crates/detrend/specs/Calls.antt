@@ -1,7 +1,7 @@
 -- The public calls on numbers (document 01, "Outcomes" and "Bounds"): which refusal, the work, what is left behind. Assumes nothing.
 use Prim.Native.Nat.{ℕ, zero, suc, _*_, _-_}
 use mathlib.Core.Path.{_≡_}
-use mathlib.Core.Bool.{Bool, false}
+use mathlib.Core.Bool.{Bool}
 use mathlib.Core.List.{List, [], _∷_, _++_, map}
 use lib.Dec.{leb, eqb}
 use lib.Ieee.{Float}
@@ -19,11 +19,10 @@ use Rattle.detrend.specs.Ranges.{rangesFit}
 
 -- ---- `detrend`; room is the length of the scratch
 
--- the first test of numbers that fails
-unfoldable pub detrendNumbers : List Float → List Float → List Float → List Float → ℕ
+-- the tests of numbers
+unfoldable pub detrendNumbers : List Float → List Float → List Float → List Float → List (Bool × ℕ)
 detrendNumbers ts vs ss ps =
-    firstFailed
-    ((all isTime ts, 4) ∷ (all finite vs, 4) ∷ (all isTime ss, 4) ∷ (all finite ps, 4) ∷ (rising ts, 5) ∷ (rising ss, 5) ∷ [])
+    (all isTime ts, 4) ∷ (all finite vs, 4) ∷ (all isTime ss, 4) ∷ (all finite ps, 4) ∷ (rising ts, 5) ∷ (rising ss, 5) ∷ []
 
 unfoldable pub detrendRefusal : List Float → List Float → List ℕ → List ℕ → List Float → List Float → ℕ → ℕ
 detrendRefusal ts vs fs es ss ps room =
@@ -36,8 +35,7 @@ detrendRefusal ts vs fs es ss ps room =
     ∷ (eqb (length ss) (length fs), 3)
     ∷ (eqb (length ps) (length fs), 3)
     ∷ (leb (8 * length ts) room, 3)
-    ∷ (false, detrendNumbers ts vs ss ps)
-    ∷ [])
+    ∷ detrendNumbers ts vs ss ps)
 
 abbrev pub detrendCall : List Float → List Float → List ℕ → List ℕ → List Float → List Float → List Float → Left Outcome
 detrendCall ts vs fs es ss ps s = settled Accepted Refused (detrendRefusal ts vs fs es ss ps (length s)) 0 (detrendedOf fs es ss ps ts vs ∷ []) (vs ∷ []) s

@@ -8,7 +8,7 @@ ghost use mathlib.Core.List.{[], _∷_};
 ghost use Prim.Native.Nat.{_*_, _≤_, _<_, _-_};
 ghost use lib.ListN.{length, replicate};
 ghost use Rattle.laws.specs.Checks.{rising};
-ghost use Rattle.slices.specs.Calls.{left};
+ghost use Rattle.slices.specs.Calls.{firstFailed, left};
 ghost use Rattle.detrend.specs.Revolutions.{detrendedOf};
 ghost use Rattle.detrend.specs.Ranges.{rangeFits, rangesFit};
 ghost use Rattle.detrend.specs.Calls.{detrendNumbers, detrendRefusal, detrendCall, revolutionsRefusal, Listed, listed, revolutionsCall};
@@ -61,7 +61,7 @@ fn detrend_in(
 }
 
 fn detrend_numbers(times: &[f64], values: &[f64], starts: &[f64], periods: &[f64]) -> u8
-    ensures { λ r. ⌜ r ≡ detrendNumbers (now (times .entry)) (now (values .entry)) (now (starts .entry)) (now (periods .entry)) ⌝ }
+    ensures { λ r. ⌜ r ≡ firstFailed (detrendNumbers (now (times .entry)) (now (values .entry)) (now (starts .entry)) (now (periods .entry))) ⌝ }
 {
     let rising = slices::unless(
         slices::rising(times),

@@ -1,32 +1,35 @@
 -- Answers told in numbers, and what the calls leave beside them. Assumes nothing.
 use Prim.Native.Nat.{ℕ, zero, suc, _<_, _≤_}
 use mathlib.Core.Path.{_≡_, refl, ap, sym, _∙_}
-use mathlib.Core.Bool.{cond}
+use mathlib.Core.Bool.{Bool, true, false, cond, _&&_}
 use mathlib.Core.Option.{Option, none, some}
 use mathlib.Core.List.{List, [], _∷_}
 use native.Mathlib.Omega.{arith}
 use borrow.Author.Tests.{le-leb, lt-leb, eq-eqb, ne-eqb}
-use lib.Dec.{leb, eqb}
+use lib.Dec.{leb}
 use lib.ListN.{length, set}
 use lib.Ieee.{Float}
 use Rattle.laws.specs.Floats.{_⊖_, bits, zero64}
 use Rattle.laws.specs.Loops.{cleared}
+use Rattle.slices.specs.Answers.{outcomeNumber, countedNumber}
 use Rattle.slices.specs.declared.Outcome.{Outcome}
 use Rattle.slices.specs.declared.Counted.{Counted}
 use Rattle.slices.specs.declared.Counted.the-variants as counted
 use Rattle.series.specs.declared.Partials.{Partials}
+use Rattle.fields.specs.Calls.{refusalOf, partialsNumber}
 use Rattle.fields.specs.declared.PartialsAnswer.{PartialsAnswer}
 use Rattle.fields.specs.declared.PartialsAnswer.the-variants as partials
 use Rattle.detrend.specs.Calls.{LeftLists, listed}
 use Rattle.residuals.specs.Calls.{Lists, ListsLeft, listsLeft}
+use Rattle.sheet.specs.Calls.{sheetNumber}
 use Rattle.sheet.specs.declared.SheetAnswer.{SheetAnswer}
 use Rattle.sheet.specs.declared.SheetAnswer.the-variants as sheet
 use Rattle.finality.specs.Sheet.{countTo}
 use Rattle.horizon.specs.Horizon.{horizonAnswer, horizonAt}
 use Rattle.horizon.specs.declared.kernel.HorizonNode.{HorizonNode}
 use Rattle.horizon.specs.declared.kernel.HorizonNode.the-variants as node
-use Rattle.exports.specs.Four.{fourOf}
-use Rattle.exports.specs.Answers.{outcomeNumber, outcomeLeft, countedNumber, countIn, revolutionsTold, revolutionsLeft, listsTold, residualsLeft, sheetNumber, countsIn, sheetTold, sheetLeft, partialsNumber, partialsIn, partialsLeft, horizonTold, horizonNumber}
+use Rattle.exports.specs.Four.{fourOf, fourIn}
+use Rattle.exports.specs.Answers.{outcomeLeft, countIn, revolutionsTold, revolutionsLeft, listsTold, residualsLeft, countsIn, sheetTold, sheetLeft, partialsIn, partialsLeft, partialsTold, horizonTold, horizonNumber}
 use Rattle.exports.proofs.Stored.{four-set}
 use Rattle.laws.specs.WholeNumbers.{number}
 use Rattle.slices.specs.Calls.{Left, left}
@@ -91,21 +94,31 @@ sheet-left l answer n cs₀ cs columns scratch h e = (λ i. sheetTold (h .0 i) (
 
 -- ---- partials
 
-pub four-in : (out : List Float) (p : Partials) → length out ≡ 4 → set (set (set (set out 0 (p .v)) 1 (p .dr)) 2 (p .dlat)) 3 (p .dlon) ≡ cond (eqb (length out) 4) (fourOf p) out
-four-in out p h = simp (eq-eqb (length out) 4 h) (four-set out p p refl h)
+pub four-in : (out : List Float) (p : Partials) → length out ≡ 4 → set (set (set (set out 0 (p .v)) 1 (p .dr)) 2 (p .dlat)) 3 (p .dlon) ≡ fourIn p out
+four-in out p h = simp (eq-eqb (length out) 4 h) (four-set out p h)
 
-pub four-out : (out : List Float) (p : Partials) → (length out ≡ 4 → ⊥) → out ≡ cond (eqb (length out) 4) (fourOf p) out
+pub four-out : (out : List Float) (p : Partials) → (length out ≡ 4 → ⊥) → out ≡ fourIn p out
 four-out out p h = simp (ne-eqb (length out) 4 h)
 
-pub partials-stored : (answer : PartialsAnswer) (p : Partials) (out new : List Float) → answer ≡ partials.Value p → new ≡ cond (eqb (length out) 4) (fourOf p) out → (0 ≡ partialsNumber answer) × (new ≡ partialsIn answer out)
-partials-stored answer p out new e h = (sym (ap partialsNumber e), h ∙ sym (ap (λ a. partialsIn a out) e))
+pub four-put : (out new : List Float) (p q : Partials) → new ≡ fourIn p out → p ≡ q → new ≡ fourIn q out
+four-put out new p q h e = h ∙ ap (λ x. fourIn x out) e
+
+pub partials-stored : (answer : PartialsAnswer) (p : Partials) (out new : List Float) → answer ≡ partials.Value p → new ≡ fourIn p out → length out ≡ 4 → (0 ≡ partialsNumber answer) × (new ≡ partialsIn answer out)
+partials-stored answer p out new e h k = (sym (ap partialsNumber e), (h ∙ ap (λ b. cond b (fourOf p) out) (eq-eqb (length out) 4 k)) ∙ sym (ap (λ a. partialsIn a out) e))
 
 pub partials-refused : (answer : PartialsAnswer) (n : ℕ) (out new : List Float) → answer ≡ partials.Refused n → new ≡ cond (leb n 5) out (cleared out) → (n ≡ partialsNumber answer) × (new ≡ partialsIn answer out)
 partials-refused answer n out new e h = (sym (ap partialsNumber e), h ∙ sym (ap (λ a. partialsIn a out) e))
 
-pub partials-left : (l : Left PartialsAnswer) (answer : PartialsAnswer) (n : ℕ) (out new scratch : List Float) →
-    (n ≡ partialsNumber answer) × (new ≡ partialsIn answer out) → left answer [] scratch ≡ l → left n (new ∷ []) scratch ≡ partialsLeft l out
-partials-left l answer n out new scratch h e = (λ i. left (h .0 i) (h .1 i ∷ []) scratch) ∙ ap (λ x. partialsLeft x out) e
+pub partials-left : (N : ℕ) (l : Left PartialsAnswer) (answer : PartialsAnswer) (n : ℕ) (out new scratch₀ scratch : List Float) → length out ≡ 4 →
+    (n ≡ partialsNumber answer) × (new ≡ partialsIn answer out) → left answer [] scratch ≡ l → left n (new ∷ []) scratch ≡ partialsTold N l out scratch₀
+partials-left N l answer n out new scratch₀ scratch k h e =
+    simp (eq-eqb (length out) 4 k) ((λ i. left (h .0 i) (h .1 i ∷ []) scratch) ∙ ap (λ x. partialsLeft x out) e)
+
+pub length-number : (N r : ℕ) (fine : Bool) → fine ≡ leb 2 N && leb N 180 → r ≡ cond fine 3 1 → r ≡ refusalOf N false true
+length-number N r fine h e = e ∙ ap (λ x. cond x 3 1) h
+
+pub length-refused : (N : ℕ) (l : Left PartialsAnswer) (n : ℕ) (out scratch : List Float) → (length out ≡ 4 → ⊥) → n ≡ refusalOf N false true → left n (out ∷ []) scratch ≡ partialsTold N l out scratch
+length-refused N l n out scratch k e = simp (ne-eqb (length out) 4 k) (ap (λ x. left x (out ∷ []) scratch) e)
 
 -- ---- the horizon
 

@@ -1,5 +1,5 @@
 -- Four numbers stored in a list of four. Assumes nothing.
-use mathlib.Core.Path.{_≡_, refl, ap, _∙_}
+use mathlib.Core.Path.{_≡_, refl}
 use mathlib.Core.List.{List, [], _∷_}
 use native.Mathlib.Omega.{arith}
 use lib.ListN.{length, set}
@@ -7,10 +7,10 @@ use lib.Ieee.{Float}
 use Rattle.series.specs.declared.Partials.{Partials}
 use Rattle.exports.specs.Four.{fourOf}
 
-pub four-set : (out : List Float) (p q : Partials) → p ≡ q → length out ≡ 4 → set (set (set (set out 0 (p .v)) 1 (p .dr)) 2 (p .dlat)) 3 (p .dlon) ≡ fourOf q
-four-set [] p q e h = absurd (omega arith)
-four-set (x ∷ []) p q e h = absurd (omega arith)
-four-set (x ∷ y ∷ []) p q e h = absurd (omega arith)
-four-set (x ∷ y ∷ z ∷ []) p q e h = absurd (omega arith)
-four-set (x ∷ y ∷ z ∷ w ∷ []) p q e h = ap fourOf e
-four-set (x ∷ y ∷ z ∷ w ∷ u ∷ out) p q e h = absurd (omega arith)
+pub four-set : (out : List Float) (p : Partials) → length out ≡ 4 → set (set (set (set out 0 (p .v)) 1 (p .dr)) 2 (p .dlat)) 3 (p .dlon) ≡ fourOf p
+four-set [] p h = absurd (omega arith)
+four-set (x ∷ []) p h = absurd (omega arith)
+four-set (x ∷ y ∷ []) p h = absurd (omega arith)
+four-set (x ∷ y ∷ z ∷ []) p h = absurd (omega arith)
+four-set (x ∷ y ∷ z ∷ w ∷ []) p h = refl
+four-set (x ∷ y ∷ z ∷ w ∷ u ∷ out) p h = absurd (omega arith)

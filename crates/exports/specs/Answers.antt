@@ -1,6 +1,6 @@
--- Answers told in numbers, for C: 0 for acceptance or document 01's refusal number, a count in the first place of a lent list. Assumes nothing.
+-- Answers told in numbers, for C: document 01's number of an answer, as its crate defines it, and its values in lent lists. Assumes nothing.
 use Prim.Native.Nat.{ℕ}
-use mathlib.Core.Bool.{cond}
+use mathlib.Core.Bool.{true, false, cond}
 use mathlib.Core.Option.{Option, none, some}
 use mathlib.Core.List.{List, [], _∷_}
 use lib.Dec.{leb, eqb}
@@ -9,14 +9,16 @@ use lib.Ieee.{Float}
 use Rattle.laws.specs.Floats.{bits}
 use Rattle.laws.specs.Loops.{cleared}
 use Rattle.slices.specs.Calls.{Left, left}
+use Rattle.slices.specs.Answers.{outcomeNumber, countedNumber}
 use Rattle.slices.specs.declared.Outcome.{Outcome}
-use Rattle.slices.specs.declared.Outcome.the-variants as outcome
 use Rattle.slices.specs.declared.Counted.{Counted}
 use Rattle.slices.specs.declared.Counted.the-variants as counted
+use Rattle.fields.specs.Calls.{refusalOf, partialsNumber}
 use Rattle.fields.specs.declared.PartialsAnswer.{PartialsAnswer}
 use Rattle.fields.specs.declared.PartialsAnswer.the-variants as partials
 use Rattle.detrend.specs.Calls.{LeftLists}
 use Rattle.residuals.specs.Calls.{Lists, ListsLeft}
+use Rattle.sheet.specs.Calls.{sheetNumber}
 use Rattle.sheet.specs.declared.SheetAnswer.{SheetAnswer}
 use Rattle.sheet.specs.declared.SheetAnswer.the-variants as sheet
 use Rattle.horizon.specs.declared.kernel.HorizonNode.{HorizonNode}
@@ -25,18 +27,10 @@ use Rattle.exports.specs.Four.{fourOf}
 
 -- ---- an outcome
 
-abbrev pub outcomeNumber : Outcome → ℕ
-outcomeNumber outcome.Accepted = 0
-outcomeNumber (outcome.Refused n) = n
-
 abbrev pub outcomeLeft : Left Outcome → Left ℕ
 outcomeLeft l = left (outcomeNumber (l .answer)) (l .outputs) (l .scratch)
 
 -- ---- a count: like every output, unchanged after 1 to 5, 0 after 6 to 10
-
-abbrev pub countedNumber : Counted → ℕ
-countedNumber (counted.Counted k) = 0
-countedNumber (counted.Refused n) = n
 
 abbrev pub countIn : Counted → List ℕ → List ℕ
 countIn (counted.Counted k) cs = set cs 0 k
@@ -72,10 +66,6 @@ residualsLeft l cs = listsTold (countedNumber (l .answer)) (countIn (l .answer) 
 
 -- ---- the whole path: the kept and the final epochs, in the first two places
 
-abbrev pub sheetNumber : SheetAnswer → ℕ
-sheetNumber (sheet.Accepted kept last) = 0
-sheetNumber (sheet.Refused n) = n
-
 abbrev pub countsIn : SheetAnswer → List ℕ → List ℕ
 countsIn (sheet.Accepted kept last) cs = set (set cs 0 kept) 1 last
 countsIn (sheet.Refused n) cs = cond (leb n 5) cs (set (set cs 0 0) 1 0)
@@ -94,16 +84,16 @@ sheetLeft l cs = sheetTold (sheetNumber (l .answer)) (countsIn (l .answer) cs) (
 
 -- ---- the partials, in a list of four
 
-abbrev pub partialsNumber : PartialsAnswer → ℕ
-partialsNumber (partials.Value p) = 0
-partialsNumber (partials.Refused n) = n
-
 abbrev pub partialsIn : PartialsAnswer → List Float → List Float
-partialsIn (partials.Value p) out = cond (eqb (length out) 4) (fourOf p) out
+partialsIn (partials.Value p) out = fourOf p
 partialsIn (partials.Refused n) out = cond (leb n 5) out (cleared out)
 
 abbrev pub partialsLeft : Left PartialsAnswer → List Float → Left ℕ
 partialsLeft l out = left (partialsNumber (l .answer)) (partialsIn (l .answer) out ∷ []) (l .scratch)
+
+-- of degree N: an out of another length is 3, 1 before it, and all stays as it was
+abbrev pub partialsTold : ℕ → Left PartialsAnswer → List Float → List Float → Left ℕ
+partialsTold N l out scratch = cond (eqb (length out) 4) (partialsLeft l out) (left (refusalOf N false true) (out ∷ []) scratch)
 
 -- ---- the horizon's time, -1.0 without one
 

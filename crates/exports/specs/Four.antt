@@ -1,7 +1,14 @@
--- The partials as a list, in the order of the struct. Assumes nothing.
+-- The partials as a list, in the order of the struct, and in a lent list. Assumes nothing.
+use mathlib.Core.Bool.{cond}
 use mathlib.Core.List.{List, [], _∷_}
+use lib.Dec.{eqb}
+use lib.ListN.{length}
 use lib.Ieee.{Float}
 use Rattle.series.specs.declared.Partials.{Partials}
 
 abbrev pub fourOf : Partials → List Float
 fourOf p = p .v ∷ p .dr ∷ p .dlat ∷ p .dlon ∷ []
+
+-- a list of another length than four stays as it was
+abbrev pub fourIn : Partials → List Float → List Float
+fourIn p out = cond (eqb (length out) 4) (fourOf p) out

@@ -1,12 +1,15 @@
 // Answers told in numbers: 0 for acceptance, or the refusal's number; counts in the first place of a lent list.
 ghost use mathlib.Core.Path.{_≡_};
-ghost use mathlib.Core.Bool.{cond};
-ghost use lib.Dec.{leb, eqb};
+ghost use mathlib.Core.Bool.{true, false, cond};
+ghost use lib.Dec.{leb};
 ghost use lib.ListN.{length, set};
 ghost use Rattle.laws.specs.Loops.{cleared};
-ghost use Rattle.exports.specs.Four.{fourOf};
+ghost use Rattle.slices.specs.Answers.{outcomeNumber, countedNumber};
+ghost use Rattle.fields.specs.Calls.{refusalOf, partialsNumber};
+ghost use Rattle.sheet.specs.Calls.{sheetNumber};
+ghost use Rattle.exports.specs.Four.{fourIn};
 ghost use Rattle.exports.specs.Told.{toldOf};
-ghost use Rattle.exports.specs.Answers.{outcomeNumber, countedNumber, countIn, partialsNumber, partialsIn, horizonNumber, sheetNumber, countsIn};
+ghost use Rattle.exports.specs.Answers.{countIn, partialsIn, horizonNumber, countsIn};
 
 // The rms, or the refusal's number below zero.
 pub fn told(answer: fit::kernel::Fitted) -> f64
@@ -92,8 +95,9 @@ pub fn store_counts(answer: sheet::SheetAnswer, counts: &mut [usize]) -> u8
     }
 }
 
-fn put_four(p: series::Partials, out: &mut [f64])
-    ensures { λ _. ⌜ now (out .exit) ≡ cond (eqb (length (now (out .entry))) 4) (fourOf p) (now (out .entry)) ⌝ }
+// An out of another length stays as it was.
+pub fn put_four(p: series::Partials, out: &mut [f64])
+    ensures { λ _. ⌜ now (out .exit) ≡ fourIn p (now (out .entry)) ⌝ }
 {
     if out.len() == 4 {
         out[0] = p.v;
@@ -111,8 +115,16 @@ fn clear_after(out: &mut [f64], n: u8)
     }
 }
 
+// 3, or 1 where the degree is refused before any length.
+pub fn length_refusal(degree: usize) -> u8
+    ensures { λ r. ⌜ r ≡ refusalOf degree false true ⌝ }
+{
+    slices::unless(slices::both(2 <= degree, degree <= 180), 1, 3)
+}
+
 // The four numbers in a list of four.
 pub fn store_partials(answer: fields::PartialsAnswer, out: &mut [f64]) -> u8
+    requires { ⌜ length (now out) ≡ 4 ⌝ }
     ensures number { λ r. ⌜ r ≡ partialsNumber answer ⌝ }
     ensures places { λ _. ⌜ now (out .exit) ≡ partialsIn answer (now (out .entry)) ⌝ }
 {

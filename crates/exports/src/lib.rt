@@ -8,7 +8,7 @@ ghost use lib.Ieee.{binary64};
 ghost use lib.ListN.{length};
 ghost use Rattle.series.specs.Field.{partialsWith};
 ghost use Rattle.series.specs.Prepared.{prepared};
-ghost use Rattle.exports.specs.Four.{fourOf};
+ghost use Rattle.exports.specs.Four.{fourIn};
 ghost use Rattle.slices.specs.Calls.{left};
 ghost use Rattle.fields.specs.Calls.{newCall, partialsCall};
 ghost use Rattle.filter.specs.Calls.{bandPassCall};
@@ -22,7 +22,7 @@ ghost use Rattle.finality.specs.Sheet.{horizonOf, countTo};
 ghost use Rattle.horizon.specs.Horizon.{endsOf, finalEntries};
 ghost use Rattle.fit.specs.Calls.{fitCall};
 ghost use Rattle.exports.specs.Told.{toldLeft};
-ghost use Rattle.exports.specs.Answers.{outcomeLeft, partialsLeft, horizonTold, revolutionsTold, revolutionsLeft, listsTold, residualsLeft, sheetTold, sheetLeft};
+ghost use Rattle.exports.specs.Answers.{outcomeLeft, partialsTold, horizonTold, revolutionsTold, revolutionsLeft, listsTold, residualsLeft, sheetTold, sheetLeft};
 ghost use Rattle.root.specs.Root.{sqrt};
 ghost use Rattle.numbers.specs.Numbers.{sine as Numbers·sine, cosine as Numbers·cosine, arctangent as Numbers·arctangent, arcsine as Numbers·arcsine, power as Numbers·power};
 
@@ -75,7 +75,7 @@ pub extern "C" fn pozsmeteg_prepare(degree: usize, work: &mut [f64])
     fields::kernel::prepare(degree, work);
 }
 
-// The kernel over a prepared work slice; the four numbers go into out.
+// The kernel over a prepared work slice; the four numbers go into an out of four places, another stays as it was.
 #[no_mangle]
 pub extern "C" fn pozsmeteg_partials_prepared(
     degree: usize,
@@ -89,15 +89,10 @@ pub extern "C" fn pozsmeteg_partials_prepared(
     lon: f64,
     out: &mut [f64],
 )
-    ensures { λ _. ⌜ (length (now (out .entry)) ≡ 4 → now (out .exit) ≡ fourOf (partialsWith degree gm radius (now (a .entry)) (now (b .entry)) (now (work .entry)) r lat lon)) ⌝ }
+    ensures { λ _. ⌜ now (out .exit) ≡ fourIn (partialsWith degree gm radius (now (a .entry)) (now (b .entry)) (now (work .entry)) r lat lon) (now (out .entry)) ⌝ }
 {
     let z = fields::kernel::partials(degree, gm, radius, a, b, work, r, lat, lon);
-    if out.len() == 4 {
-        out[0] = z.v;
-        out[1] = z.dr;
-        out[2] = z.dlat;
-        out[3] = z.dlon;
-    }
+    answers::put_four(z, out);
 }
 
 #[no_mangle]
@@ -153,6 +148,7 @@ pub extern "C" fn pozsmeteg_legendre_new(
     answers::number(fields::legendre_new(degree, a, b, scratch))
 }
 
+// The four numbers go into out; an out of another length is refused like any other length.
 #[no_mangle]
 pub extern "C" fn pozsmeteg_partials(
     degree: usize,
@@ -165,8 +161,11 @@ pub extern "C" fn pozsmeteg_partials(
     out: &mut [f64],
     scratch: &mut [f64],
 ) -> u8
-    ensures { λ z. ⌜ left z (now (out .exit) ∷ []) (now (scratch .exit)) ≡ partialsLeft (partialsCall degree (now (field .entry)) (now (a .entry)) (now (b .entry)) r lat lon (now (scratch .entry))) (now (out .entry)) ⌝ }
+    ensures { λ z. ⌜ left z (now (out .exit) ∷ []) (now (scratch .exit)) ≡ partialsTold degree (partialsCall degree (now (field .entry)) (now (a .entry)) (now (b .entry)) r lat lon (now (scratch .entry))) (now (out .entry)) (now (scratch .entry)) ⌝ }
 {
+    if out.len() != 4 {
+        return answers::length_refusal(degree);
+    }
     let answer = fields::partials(degree, field, a, b, r, lat, lon, scratch);
     answers::store_partials(answer, out)
 }

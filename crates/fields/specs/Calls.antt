@@ -1,6 +1,7 @@
 -- The public calls of module 1: which refusal, the work, what is left behind (document 01, "Outcomes"). Assumes nothing.
 use Prim.Native.Nat.{ℕ, _+_, _*_}
 use mathlib.Core.Bool.{Bool, true, false, cond, _&&_}
+use mathlib.Core.Option.{Option, none, some}
 use mathlib.Core.List.{List, [], _∷_}
 use lib.Dec.{eqb, leb}
 use lib.ListN.{length, take, drop, getD}
@@ -26,6 +27,35 @@ use Rattle.fields.specs.declared.PartialsAnswer.{PartialsAnswer}
 use Rattle.fields.specs.declared.PartialsAnswer.the-variants as partials
 use Rattle.fields.specs.declared.AccelerationAnswer.{AccelerationAnswer}
 use Rattle.fields.specs.declared.AccelerationAnswer.the-variants as acceleration
+
+-- ---- answers: document 01's number, 0 for acceptance, and the value handed out
+
+-- a place
+abbrev pub indexNumber : Index → ℕ
+indexNumber (index.At k) = 0
+indexNumber (index.Refused n) = n
+
+abbrev pub indexValue : Index → Option ℕ
+indexValue (index.At k) = some k
+indexValue (index.Refused n) = none
+
+-- the potential and its derivatives
+abbrev pub partialsNumber : PartialsAnswer → ℕ
+partialsNumber (partials.Value p) = 0
+partialsNumber (partials.Refused n) = n
+
+abbrev pub partialsValue : PartialsAnswer → Option Partials
+partialsValue (partials.Value p) = some p
+partialsValue (partials.Refused n) = none
+
+-- north, east and up
+abbrev pub accelerationNumber : AccelerationAnswer → ℕ
+accelerationNumber (acceleration.Value a) = 0
+accelerationNumber (acceleration.Refused n) = n
+
+abbrev pub accelerationValue : AccelerationAnswer → Option NorthEastUp
+accelerationValue (acceleration.Value a) = some a
+accelerationValue (acceleration.Refused n) = none
 
 -- ---- calls without slices
 

@@ -1,6 +1,7 @@
 -- What the public calls answer. Assumes nothing: definitions only.
 use Prim.Native.Nat.{ℕ, _+_, _*_}
 use mathlib.Core.Bool.{Bool, true, cond, _&&_}
+use mathlib.Core.Option.{Option, none, some}
 use mathlib.Core.List.{List, [], _∷_}
 use lib.Dec.{leb, eqb}
 use lib.ListN.{length, take, drop, getD, replicate}
@@ -25,6 +26,26 @@ use Rattle.forces.specs.declared.Places.the-variants as of-sky
 
 unfoldable pub finiteVector : Vector → Bool
 finiteVector v = finite (v .x) && (finite (v .y) && finite (v .z))
+
+-- ---- answers: document 01's number, 0 for acceptance, and the value handed out; a tide's number is that of its outcome
+
+-- an acceleration
+abbrev pub answerNumber : Answer → ℕ
+answerNumber (of-force.Value v) = 0
+answerNumber (of-force.Refused n) = n
+
+abbrev pub answerValue : Answer → Option Vector
+answerValue (of-force.Value v) = some v
+answerValue (of-force.Refused n) = none
+
+-- where the Sun and the Moon stand
+abbrev pub placesNumber : Places → ℕ
+placesNumber (of-sky.Found p) = 0
+placesNumber (of-sky.Refused n) = n
+
+abbrev pub placesValue : Places → Option SunMoon
+placesValue (of-sky.Found p) = some p
+placesValue (of-sky.Refused n) = none
 
 -- ---- refusals 4 and 10: by whether the arguments are fine, and whether the value is finite
 

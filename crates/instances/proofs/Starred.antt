@@ -2,12 +2,12 @@
 use mathlib.Core.List.{List, [], _∷_, _++_}
 use lib.Ieee.{add, sub, mul, div, neg, lt, le, eq, ofBits, ofInt, isNan, toBits, size, units, ofFields, round, sum}
 use Rattle.laws.specs.WholeNumbers.{number}
-use Rattle.laws.specs.Tables.{tri}
 use Rattle.laws.specs.Times.{end}
 use Rattle.root.specs.Root.{sqrt, rootOfUnits, isqrt, digits}
 use Rattle.numbers.specs.Numbers.{magnitude, power, powerIn, horner, hornerFrom, alternating, factorial, sines, cosines, odds, near, rounded, quarter, sineNear, cosineNear, rest, sineAt, cosineAt, sine, cosine, angleNear, angle, eighth, left, below, arctangent}
 use Rattle.model.specs.Model.{bracket, weight}
 use Rattle.finality.specs.Brackets.{covers}
+use Rattle.fields.proofs.Instances.{index-2-1, index-180-180}
 use Rattle.filter.proofs.Instances.{three-joins, above-splits, sixty-four, sixty-five}
 use Rattle.least_squares.proofs.Instances.{fits, refused}
 use Rattle.finality.proofs.Instances.{all-16804, all-16803}
@@ -26,8 +26,8 @@ unfolding near horner hornerFrom alternating factorial sines cosines odds magnit
 angles-hold = (tt, (tt, (tt, (tt, tt))))
 
 powers-hold : Every powers
-unfolding power powerIn tri number mul ofBits ofInt toBits
-powers-hold = (tt, (tt, (tt, tt)))
+unfolding power powerIn number mul ofBits ofInt toBits
+powers-hold = (tt, (index-2-1, (index-180-180, tt)))
 
 brackets-hold : Every brackets
 unfolding covers end bracket weight number add sub mul div neg lt le ofBits ofInt ofFields toBits round sum

@@ -1,5 +1,5 @@
 -- Document 01, "Checked instances": the rows with a star, as one list. A module's rows join it as the module does. Assumes nothing.
-use Prim.Native.Nat.{ℕ, _+_}
+use Prim.Native.Nat.{ℕ}
 use mathlib.Core.Path.{_≡_}
 use mathlib.Core.Bool.{Bool, true, not}
 use mathlib.Core.Option.{some}
@@ -10,12 +10,13 @@ use lib.Ieee.{Float, binary64, neg, toBits}
 use lib.ListN.{length, replicate}
 use Rattle.laws.specs.Floats.{bits, zero64, one64, two64}
 use Rattle.laws.specs.WholeNumbers.{number}
-use Rattle.laws.specs.Tables.{tri}
 use Rattle.laws.specs.Runs.{runsOf}
 use Rattle.root.specs.Root.{sqrt}
 use Rattle.numbers.specs.Numbers.{sine, cosine, arctangent, power}
 use Rattle.slices.specs.Calls.{left}
 use Rattle.slices.specs.declared.Outcome.the-variants.{Accepted, Refused}
+use Rattle.fields.specs.Calls.{indexOf}
+use Rattle.fields.specs.declared.Index.the-variants.{At}
 use Rattle.model.specs.Model.{bracket, weight}
 use Rattle.filter.specs.Filter.{pass}
 use Rattle.least_squares.specs.Calls.{leastSquaresCall}
@@ -62,8 +63,8 @@ angles =
 abbrev pub powers : List Instance
 powers =
     gives (power (number 2) 10 one64) 0x4090_0000_0000_0000
-    ∷ counts (tri 2 + 1) 4
-    ∷ counts (tri 180 + 180) 16470
+    ∷ states (indexOf 2 1 ≡ At 4)
+    ∷ states (indexOf 180 180 ≡ At 16470)
     ∷ []
 
 abbrev pub fieldTimes : List Float

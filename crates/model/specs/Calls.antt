@@ -2,6 +2,7 @@
 use Prim.Native.Nat.{ℕ, zero, suc, _+_, _*_, _/_, _≤_}
 use mathlib.Core.Bool.{Bool, true, false, cond, _&&_}
 use mathlib.Core.Path.{_≡_}
+use mathlib.Core.Option.{Option, none, some}
 use mathlib.Core.List.{List, [], _∷_, _++_}
 use lib.Dec.{T, leb, eqb}
 use lib.ListN.{length, drop}
@@ -19,6 +20,18 @@ use Rattle.model.specs.Field.{cosines, sines, size}
 use Rattle.model.specs.Model.{bracket, weight, kindAt, fieldAt}
 use Rattle.model.specs.declared.Cover.{Cover}
 use Rattle.model.specs.declared.Cover.the-variants.{Covered, Uncovered, Refused as NotTold}
+
+-- ---- whether a time is covered: document 01's number, 0 where the call tells, and what it tells
+
+abbrev pub coverNumber : Cover → ℕ
+coverNumber Covered = 0
+coverNumber Uncovered = 0
+coverNumber (NotTold n) = n
+
+abbrev pub coverValue : Cover → Option Bool
+coverValue Covered = some true
+coverValue Uncovered = some false
+coverValue (NotTold n) = none
 
 -- ---- the kernel `weight`: at every covered t the weight of its bracket lies between 0 and 1, both included
 

@@ -11,7 +11,7 @@ use lib.ListN.{length, getD, replicate}
 use borrow.Author.Tests.{leb-true, eqb-true}
 use Rattle.laws.specs.Floats.{zero64}
 use Rattle.laws.specs.Checks.{all, isTime, rising, risingSeconds}
-use Rattle.lent.specs.Lent.{degreeFine, countsFine, modelFits, leastScratch, wholeScratchFits, modelFine, keyedFine}
+use Rattle.lent.specs.Lent.{degreeFine, fieldsFine, few, modelFits, leastScratch, wholeScratchFits, modelFine, keyedFine}
 use Rattle.lent.proofs.Passed.{both-pass, all-pass, degree-passes}
 use Rattle.finality.specs.Brackets.{covers}
 use Rattle.integrate.specs.Force.{frontSize, fullForce}
@@ -36,7 +36,7 @@ record Passed (g : Given) (fit : Bool) : Type 0 where
 passes : (g : Given) (fit : Bool) → refusal g fit ≡ 0 → Passed g fit
 unfolding refusal
 passes g fit h =
-    let a = all-pass (degreeFine (g .model .degree)) (countsFine (length (g .model .times)) (length (g .keys)) 0 0 0 && leb (length (g .nodes)) 64) fit
+    let a = all-pass (degreeFine (g .model .degree)) ((fieldsFine (length (g .model .times)) && few (length (g .keys))) && leb (length (g .nodes)) 64) fit
     (modelFine (g .model .field) (g .a) (g .b) (g .model .times) (g .model .added) && (keyedFine (g .keys) (g .states) && all isTime (g .nodes))) (rising (g .model .times) && (risingSeconds (g .keys) && rising (g .nodes))) h in
     let values = both-pass (modelFine (g .model .field) (g .a) (g .b) (g .model .times) (g .model .added)) (keyedFine (g .keys) (g .states) && all isTime (g .nodes)) (a .values) .1 in
     let order = both-pass (rising (g .model .times)) (risingSeconds (g .keys) && rising (g .nodes)) (a .order) .1 in

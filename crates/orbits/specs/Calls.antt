@@ -1,6 +1,7 @@
 -- The public call `fitted_orbits` (document 01, "Outcomes" and "Bounds"): which refusal, the work, what is left. Assumes nothing.
 use Prim.Native.Nat.{ℕ, zero, suc, _+_, _-_, _*_}
 use mathlib.Core.Bool.{Bool, true, false, _&&_}
+use mathlib.Core.Option.{Option, none, some}
 use mathlib.Core.List.{List, [], _∷_, _++_, map}
 use lib.Dec.{leb, eqb}
 use lib.IntN.{ℤ, pos}
@@ -10,7 +11,7 @@ use lib.ListN.{length, replicate}
 use Rattle.laws.specs.Floats.{zero64}
 use Rattle.laws.specs.Checks.{all, isTime, rising, risingSeconds}
 use Rattle.laws.specs.Loops.{cleared}
-use Rattle.lent.specs.Lent.{firstOf, degreeFine, countsFine, modelFits, wholeScratchFits, modelFine, keyedFine}
+use Rattle.lent.specs.Lent.{firstOf, degreeFine, fieldsFine, few, modelFits, wholeScratchFits, modelFine, keyedFine}
 use Rattle.finality.specs.Tables.{keyOf}
 use Rattle.finality.specs.Brackets.{covers}
 use Rattle.integrate.specs.Force.{Model, fullForce}
@@ -18,6 +19,18 @@ use Rattle.fit.specs.Fit.{stateFor}
 use Rattle.orbits.specs.declared.FittedOrbits.{FittedOrbits}
 use Rattle.orbits.specs.declared.FittedOrbits.the-variants.{Counted, Refused}
 use Rattle.orbits.specs.Orbits.{Window, orbitsOf, joined, numbersOf}
+
+-- ---- an answer: document 01's number, 0 for acceptance, and the counts of states and of windows
+
+abbrev pub orbitsNumber : FittedOrbits → ℕ
+orbitsNumber (Counted states windows) = 0
+orbitsNumber (Refused n) = n
+
+abbrev pub orbitsValues : FittedOrbits → Option (ℕ × ℕ)
+orbitsValues (Counted states windows) = some (states, windows)
+orbitsValues (Refused n) = none
+
+-- ---- the arguments
 
 -- what the call is lent: the model with the Legendre tables a and b, the states by key, the nodes
 pub record Given : Type 0 where
@@ -53,11 +66,11 @@ lengthsFit g o scratch =
     && (placesFit (length (g .nodes)) (length (o .keys)) (length (o .states)) (length (o .rms))
     && wholeScratchFits (g .model .degree) (length (g .model .times)) (length (g .nodes)) 0 scratch)
 
--- fit: whether all lengths do; of the other lists that `countsFine` tests the call has none
+-- fit: whether all lengths do
 unfoldable pub refusal : Given → Bool → ℕ
 refusal g fit =
     firstOf (degreeFine (g .model .degree))
-    (countsFine (length (g .model .times)) (length (g .keys)) 0 0 0 && leb (length (g .nodes)) 64)
+    ((fieldsFine (length (g .model .times)) && few (length (g .keys))) && leb (length (g .nodes)) 64)
     fit
     (modelFine (g .model .field) (g .a) (g .b) (g .model .times) (g .model .added) && (keyedFine (g .keys) (g .states) && all isTime (g .nodes)))
     (rising (g .model .times) && (risingSeconds (g .keys) && rising (g .nodes)))

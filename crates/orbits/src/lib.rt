@@ -75,10 +75,8 @@ fn refusal(
 ) -> u8
     ensures { λ r. ⌜ r ≡ refusalOf (given (model degree (now (field .entry)) (now (times .entry)) (now (added .entry))) (now (a .entry)) (now (b .entry)) (now (keys .entry)) (now (states .entry)) (now (nodes .entry))) fit ⌝ }
 {
-    let counts = slices::both(
-        lent::counts_fine(times.len(), keys.len(), 0, 0, 0),
-        nodes.len() <= 64,
-    );
+    let few = slices::both(lent::fields_fine(times.len()), keys.len() <= 200000);
+    let counts = slices::both(few, nodes.len() <= 64);
     let values = slices::both(
         lent::model_fine(field, a, b, times, added),
         slices::both(lent::keyed_fine(keys, states), slices::all_times(nodes)),

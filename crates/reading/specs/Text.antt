@@ -189,6 +189,6 @@ pub record Fed (t : Taken) (filled : ℕ) (before : List Float) (r : Reading) (a
   pub reading : r ≡ t .reading
   pub numbers : take (r .filled) after ≡ take filled before ++ t .numbers
 
--- the bytes of the next line, 0 for a header
+-- the bytes of the next line, 0 for a header; 1 after the last section, where a byte that is still there makes the text malformed
 unfoldable pub lineLength : Reading → ℕ
 lineLength r = cond (ltb 8 (r .section)) 1 (cond (eqb (r .left) 0) 0 (17 * wordsIn (r .section) (r .degree)))

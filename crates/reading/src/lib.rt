@@ -417,7 +417,8 @@ pub fn feed(line: &[u8], reading: Reading, numbers: &mut [f64]) -> Reading
     take_row(line, reading, numbers)
 }
 
-// How many bytes the next line has if it is in the format; 0 for a header, which ends with its line feed.
+// How many bytes the next line has if it is in the format; 0 for a header, which ends with its line feed; 1 after the last
+// section, so that the caller tries for one more byte and sees whether the text has ended.
 pub fn line_length(reading: Reading) -> usize
     ensures { λ r. ⌜ (r ≡ lineLength reading) × (r ≤ 3145) ⌝ }
 {

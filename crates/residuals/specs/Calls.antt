@@ -16,12 +16,25 @@ use Rattle.slices.specs.declared.Counted.the-variants.{Counted as Filled, Refus
 use Rattle.finality.specs.Sheet.{Observation}
 use Rattle.lent.specs.Lent.{firstOf, degreeFine, countsFine, modelFits, tablesFit, scratchFits, modelFine, keyedFine, rise}
 use Rattle.epochs.specs.declared.Epoch.{Epoch}
+use Rattle.residuals.specs.declared.Verdict.{Verdict}
 use Rattle.residuals.specs.declared.Verdict.the-variants.{Kept, NotKept, Refused}
 use Rattle.residuals.specs.declared.EpochAnswer.{EpochAnswer}
 use Rattle.residuals.specs.Inputs.{Inputs, epochOf}
 use Rattle.sighting.specs.declared.Made.{Made}
 use Rattle.sighting.specs.Kept.{Keyed, observations, keptOf, padded}
 use Rattle.sighting.specs.Work.{noEpoch}
+
+-- ---- a verdict: document 01's number, 0 where nothing is refused, and whether the epoch is kept; its record stands beside it
+
+abbrev pub verdictNumber : Verdict → ℕ
+verdictNumber Kept = 0
+verdictNumber NotKept = 0
+verdictNumber (Refused n) = n
+
+abbrev pub verdictValue : Verdict → Option Bool
+verdictValue Kept = some true
+verdictValue NotKept = some false
+verdictValue (Refused n) = none
 
 -- ---- refusals 1 to 5
 

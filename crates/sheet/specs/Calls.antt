@@ -2,6 +2,7 @@
 use mathlib.Core.Path.{_≡_}
 use Prim.Native.Nat.{ℕ}
 use mathlib.Core.Bool.{Bool, _&&_}
+use mathlib.Core.Option.{Option, none, some}
 use mathlib.Core.List.{List, [], _∷_}
 use lib.Dec.{leb, eqb}
 use lib.IntN.{ℤ}
@@ -18,6 +19,16 @@ use Rattle.sheet.specs.Stages.{kernels}
 use Rattle.sheet.specs.Submission.{Lists, submissionOf}
 use Rattle.sheet.specs.declared.SheetAnswer.{SheetAnswer}
 use Rattle.sheet.specs.declared.SheetAnswer.the-variants.{Accepted, Refused}
+
+-- ---- an answer: document 01's number, 0 for acceptance, and the counts of kept and of final epochs
+
+abbrev pub sheetNumber : SheetAnswer → ℕ
+sheetNumber (Accepted k f) = 0
+sheetNumber (Refused n) = n
+
+abbrev pub sheetValues : SheetAnswer → Option (ℕ × ℕ)
+sheetValues (Accepted k f) = some (k, f)
+sheetValues (Refused n) = none
 
 -- ---- which refusal: 2, 3, 4 and 5 of all lists
 

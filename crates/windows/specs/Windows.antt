@@ -72,7 +72,7 @@ pub record Windowed (table : Table State) (s s' : List Float) (base at : ℕ) : 
   pub few : length table ≤ 3500
   pub apart : Apart base at 24600 s s'
 
--- two times, the first not after the second
+-- two times, the first before the second
 pub record Ends (a b : Float) : Type 0 where
   pub from : Time a
   pub to : Time b

@@ -4,7 +4,7 @@ use Rattle.exports.proofs.answers.store_partials.Statement.{statement}
 use Rattle.exports.proofs.answers.store_partials.Tie as tie
 
 returns : tie.Need-returns
-returns c = partials-stored (c .before .before .before .before .before .before .before .before .args .answer) _ _ _ (c .before .before .before .before .before .answer .given .1) (c .before .before .put-four .ensures)
+returns c = partials-stored (c .before .before .before .before .before .before .before .before .args .answer) _ _ _ (c .before .before .before .before .before .answer .given .1) (c .before .before .put-four .ensures) (c .before .before .before .before .before .before .before .before .pre)
 
 returns-2 : tie.Need-returns-2
 returns-2 c = partials-refused (c .before .before .before .before .before .before .before .before .args .answer) _ _ _ (c .before .before .before .before .before .answer2 .given .1) (c .before .before .clear-after .ensures)
