@@ -1,5 +1,6 @@
 // The lines from which the first guess of a root starts: at v from 1 up and below 4, 1 / (2 * sqrt(v)) is about start(i) + slope(i) * v,
 // to 5 parts in 10^5. The first 32 are for v below 2, the last 32 from 2 up, each over equal steps.
+// They are matches, which become tables in memory: an array that is a constant would be copied at each call.
 
 pub fn start(i: u64) -> f64 {
     match i {
