@@ -45,11 +45,17 @@ power-more a (suc n) c f =
 pub power-stop : (a : Float) (n : ℕ) (c : Float) → n ≡ 0 → c ≡ power a n c
 power-stop a n c e = rw e (sym (power-none a c))
 
-pub power-odd : (a : Float) (n : ℕ) (c : Float) → (n ≡ 0 → ⊥) → n % 2 ≡ 1 → power (a ⊗ a) (n / 2) (c ⊗ a) ≡ power a n c
-power-odd a n c f e = sym (power-more a n c f ∙ rw e refl)
+pub power-even : (a : Float) (n : ℕ) (c : Float) → (n ≡ 0 → ⊥) → n % 2 ≡ 0 → power (a ⊗ a) (n / 2) c ≡ power a n c
+power-even a n c f e = sym (power-more a n c f ∙ rw e refl)
 
-pub power-even : (a : Float) (n : ℕ) (c : Float) → (n ≡ 0 → ⊥) → (n % 2 ≡ 1 → ⊥) → power (a ⊗ a) (n / 2) c ≡ power a n c
-power-even a n c f e = sym (power-more a n c f ∙ rw (ne-eqb (n % 2) 1 e) refl)
+pub power-odd : (a : Float) (n : ℕ) (c : Float) → (n % 2 ≡ 0 → ⊥) → power (a ⊗ a) (n / 2) (c ⊗ a) ≡ power a n c
+power-odd a n c f =
+    let e : n % 2 ≡ 1 = omega arith in
+    sym (power-more a n c (λ z. f (rw z refl)) ∙ rw e refl)
+
+pub power-one : (a : Float) (n : ℕ) (c : Float) → n ≡ 1 → c ⊗ a ≡ power a n c
+unfolding power powerIn
+power-one a n c e = rw e refl
 
 -- ---- Horner
 

@@ -298,16 +298,16 @@ pub fn arcsine(v: f64) -> f64
     arctangent(v, root::root((1.0 - v) * (1.0 + v)))
 }
 
-// a to the n, times c: the exponent falls by halving.
+// a to the n, times c: the exponent falls by halving, and at 1 the last square is left out.
 pub fn power(a: f64, n: u32, c: f64) -> f64
     ensures { λ r. ⌜ r ≡ power a n c ⌝ }
 {
-    if n == 0 {
-        c
-    } else if n % 2 == 1 {
-        power(a * a, n / 2, c * a)
+    if n % 2 == 0 {
+        if n == 0 { c } else { power(a * a, n / 2, c) }
+    } else if n == 1 {
+        c * a
     } else {
-        power(a * a, n / 2, c)
+        power(a * a, n / 2, c * a)
     }
 }
 
