@@ -1,20 +1,21 @@
 -- What the definitions satisfy, in the form that the code has them. Assumes nothing.
-use mathlib.Core.Path.{_≡_, refl, sym, ap, _∙_}
+use mathlib.Core.Path.{_≡_, refl, sym, ap, subst, _∙_}
 use mathlib.Core.Bool.{Bool, true, false, cond, not, _&&_, Bool·beq}
 use mathlib.Core.List.{List}
 use Prim.Native.Nat.{ℕ, zero, suc, _+_, _-_, _*_, _^_, _/_, _%_, _≤_, _<_, compare}
 use native.Mathlib.Nat.{not-suc-le-zero, div-eq-of-lt, div-eq-sub-div}
 use native.Mathlib.Numerals.{add-one}
 use native.Mathlib.Omega.{arith}
-use lib.Dec.{eqb, ltb, eqb·suc-zero}
+use lib.Dec.{T, eqb, ltb, eqb·suc-zero}
 use lib.ListN.{getD}
 use borrow.Author.Tests.{ne-eqb, eq-eqb}
 use lib.IntN.{ℤ}
 use lib.Ieee.Scale.{finite}
-use lib.Ieee.{Float, Format, prec, low, emax, nan, inf, fin, add, sub, sum, round, size, nearest, odd, units, binary64, ne, eq, isNan, div, ofBits, neg, up, down}
+use lib.Ieee.{Float, Format, prec, low, emax, nan, inf, fin, add, sub, sum, round, size, nearest, odd, units, binary64, ne, eq, lt, le, isNan, div, ofBits, neg, up, down}
 use Rattle.numbers.specs.declared.SineCosine.{SineCosine}
-use Rattle.laws.specs.Floats.{zero64, _⊗_, _⊖_, _⊕_, _⊘_}
-use Rattle.numbers.specs.Numbers.{choose, sineCosineAt, sineNear, cosineNear, sineAt, cosineAt, rest, quarter, magnitude, below, left, eighth, arctangent, power, powerIn, hornerFrom, alternating, downward}
+use Rattle.laws.specs.Order.{lt-irr, le-lt-tr}
+use Rattle.laws.specs.Floats.{zero64, one64, _⊗_, _⊖_, _⊕_, _⊘_}
+use Rattle.numbers.specs.Numbers.{choose, sineCosineAt, sineNear, cosineNear, sineAt, cosineAt, rest, quarter, magnitude, halfPi, π/4, bend, angleNear, angle, below, left, eighth, arctangent, power, powerIn, hornerFrom, alternating, downward}
 
 -- ---- power
 
@@ -107,6 +108,72 @@ pub arctangent-open : (y x : Float) → ne y y ≡ false → ne x x ≡ false �
     → below y (left x (eighth (magnitude y) (magnitude x))) ≡ arctangent y x
 unfolding arctangent
 arctangent-open y x g h a = rw (sym (ne-isNan y) ∙ g, sym (ne-isNan x) ∙ h, a)
+
+-- ---- arcsine
+
+not-true : (b : Bool) → not b ≡ true → b ≡ false
+not-true true h = sym h
+not-true false h = refl
+
+not-held : (b : Bool) → (T b → ⊥) → b ≡ false
+not-held true f = absurd (f tt)
+not-held false f = refl
+
+not-lt : (x y : Float) → le x y ≡ true → lt y x ≡ false
+not-lt x y h = not-held (lt y x) (λ l. lt-irr x (le-lt-tr x y x (subst T (sym h) tt) l))
+
+lt-nan : (c : Float) → lt c nan ≡ false
+unfolding lt
+lt-nan nan = refl
+lt-nan (inf s) = refl
+lt-nan (fin s m e) = refl
+
+real-from-lt : (c v : Float) → lt c (magnitude v) ≡ true → isNan v ≡ false
+unfolding magnitude lt isNan
+real-from-lt c nan h = sym h ∙ lt-nan c
+real-from-lt c (inf s) h = refl
+real-from-lt c (fin s m e) h = refl
+
+real-from-le : (v x : Float) → le (magnitude v) x ≡ true → isNan v ≡ false
+unfolding magnitude lt eq le isNan
+real-from-le nan x h = sym h
+real-from-le (inf s) x h = refl
+real-from-le (fin s m e) x h = refl
+
+real-root : (x : Float) → le zero64 x ≡ true → isNan x ≡ false
+unfolding lt eq le isNan ofBits
+real-root nan h = sym h
+real-root (inf s) h = refl
+real-root (fin s m e) h = refl
+
+-- no mirroring to the left
+direct : (v x : Float) → isNan v ≡ false → ne v zero64 ≡ true → le zero64 x ≡ true → below v (eighth (magnitude v) x) ≡ arctangent v x
+unfolding arctangent left magnitude ne
+direct v x n z p = rw (n, real-root x p, not-true (eq v zero64) z, not-lt zero64 x p)
+
+module _ (v x m a r : Float) (z : ne v zero64 ≡ true) (p : le zero64 x ≡ true) (e : m ≡ magnitude v) where
+  steep : (c : Float) → lt c m ≡ true → r ≡ below v (eighth m x) → r ≡ arctangent v x
+  steep c h k = k ∙ ap (λ n. below v (eighth n x)) e ∙ direct v x (real-from-lt c v (sym (ap (lt c) e) ∙ h)) z p
+
+  gentle : le m x ≡ true → r ≡ below v (eighth m x) → r ≡ arctangent v x
+  gentle h k = k ∙ ap (λ n. below v (eighth n x)) e ∙ direct v x (real-from-le v x (sym (ap (λ n. le n x) e) ∙ h)) z p
+
+  pub steep-flat : (c : Float) → lt c m ≡ true → lt x m ≡ true → le (x ⊘ m) bend ≡ true → a ≡ angleNear (x ⊘ m) → r ≡ below v (halfPi ⊖ (zero64 ⊕ a)) → r ≡ arctangent v x
+  unfolding eighth angle
+  steep-flat c h i j f k = steep c h (k ∙ rw (f, i, not-lt (x ⊘ m) bend j))
+
+  pub steep-bent : (c : Float) → lt c m ≡ true → lt x m ≡ true → lt bend (x ⊘ m) ≡ true → a ≡ angleNear ((x ⊘ m ⊖ one64) ⊘ (x ⊘ m ⊕ one64))
+      → r ≡ below v (halfPi ⊖ (π/4 ⊕ a)) → r ≡ arctangent v x
+  unfolding eighth angle
+  steep-bent c h i j f k = steep c h (k ∙ rw (f, i, j))
+
+  pub gentle-bent : le m x ≡ true → lt bend (m ⊘ x) ≡ true → a ≡ angleNear ((m ⊘ x ⊖ one64) ⊘ (m ⊘ x ⊕ one64)) → r ≡ below v (π/4 ⊕ a) → r ≡ arctangent v x
+  unfolding eighth angle
+  gentle-bent i j f k = gentle i (k ∙ rw (f, not-lt m x i, j))
+
+  pub gentle-flat : le m x ≡ true → le (m ⊘ x) bend ≡ true → a ≡ angleNear (m ⊘ x) → r ≡ below v (zero64 ⊕ a) → r ≡ arctangent v x
+  unfolding eighth angle
+  gentle-flat i j f k = gentle i (k ∙ rw (f, not-lt m x i, not-lt (m ⊘ x) bend j))
 
 -- ---- sine and cosine
 

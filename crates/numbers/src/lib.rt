@@ -64,6 +64,8 @@ const PI: f64 = 3.141592653589793;
 
 const FOURTH_PI: f64 = 0.7853981633974483;
 
+const BEND: f64 = 0.4142135623730951;
+
 // p starts at sign / table[first], then p * z + the next coefficient, step places down, the sign turned.
 fn horner(z: f64, table: &[f64], first: usize, step: usize, sign: f64) -> f64
     requires { ⌜ (0 < step) × (first < length (now table)) ⌝ }
@@ -289,13 +291,45 @@ pub fn arctangent(y: f64, x: f64) -> f64
     below(y, left(x, eighth(magnitude(y), magnitude(x))))
 }
 
+// arctangent(v, x) for the x that arcsine has. The magnitude of v alone says, but for a few roundings, which way the tests of `eighth` and
+// `angle` go, and says it long before x is there; those tests then only confirm, and arctangent does what they do not confirm.
+fn risen(v: f64, x: f64) -> f64
+    ensures { λ r. ⌜ r ≡ arctangent v x ⌝ }
+{
+    if v != 0.0 && x >= 0.0 {
+        let m = magnitude(v);
+        if m > 0.7071067811865476 {
+            if m > x {
+                let q = x / m;
+                if m > 0.9238795325112867 {
+                    if q <= BEND {
+                        return below(v, HALF_PI - (0.0 + angle_near(q)));
+                    }
+                } else if q > BEND {
+                    return below(v, HALF_PI - (FOURTH_PI + angle_near((q - 1.0) / (q + 1.0))));
+                }
+            }
+        } else if m <= x {
+            let q = m / x;
+            if m > 0.3826834323650898 {
+                if q > BEND {
+                    return below(v, FOURTH_PI + angle_near((q - 1.0) / (q + 1.0)));
+                }
+            } else if q <= BEND {
+                return below(v, 0.0 + angle_near(q));
+            }
+        }
+    }
+    arctangent(v, x)
+}
+
 pub fn arcsine(v: f64) -> f64
     ensures { λ r. ⌜ r ≡ arcsine v ⌝ }
 {
     if v < -1.0 || v > 1.0 {
         return 0.0 / 0.0;
     }
-    arctangent(v, root::root((1.0 - v) * (1.0 + v)))
+    risen(v, root::root((1.0 - v) * (1.0 + v)))
 }
 
 // a to the n, times c: the exponent falls by halving, and at 1 the last square is left out.
