@@ -1,20 +1,22 @@
 -- What the definitions satisfy, in the form that the code has them. Assumes nothing.
-use mathlib.Core.Path.{_≡_, refl, sym, ap, _∙_}
+use mathlib.Core.Path.{_≡_, refl, sym, ap, subst, _∙_}
 use mathlib.Core.Bool.{Bool, true, false, cond, not, _&&_, Bool·beq}
 use mathlib.Core.List.{List}
 use Prim.Native.Nat.{ℕ, zero, suc, _+_, _-_, _*_, _^_, _/_, _%_, _≤_, _<_, compare}
 use native.Mathlib.Nat.{not-suc-le-zero, div-eq-of-lt, div-eq-sub-div}
 use native.Mathlib.Numerals.{add-one}
 use native.Mathlib.Omega.{arith}
-use lib.Dec.{eqb, ltb, eqb·suc-zero}
+use lib.Dec.{T, eqb, ltb, eqb·suc-zero, eqb→eq, ltb→lt}
+use lib.Ieee.Fits.{and-l, and-r}
 use lib.ListN.{getD}
 use borrow.Author.Tests.{ne-eqb, eq-eqb}
 use lib.IntN.{ℤ}
 use lib.Ieee.Scale.{finite}
-use lib.Ieee.{Float, Format, prec, low, emax, nan, inf, fin, add, sub, sum, round, size, nearest, odd, units, binary64, ne, eq, isNan, div, ofBits, neg, up, down}
+use lib.Ieee.{Float, Format, prec, low, emax, nan, inf, fin, add, sub, sum, round, size, nearest, odd, units, binary64, ne, eq, lt, le, level, below as Ieee·below, isNan, div, ofBits, neg, up, down}
 use Rattle.numbers.specs.declared.SineCosine.{SineCosine}
-use Rattle.laws.specs.Floats.{zero64, _⊗_, _⊖_, _⊕_, _⊘_}
-use Rattle.numbers.specs.Numbers.{choose, sineCosineAt, sineNear, cosineNear, sineAt, cosineAt, rest, quarter, magnitude, below, left, eighth, arctangent, power, powerIn, hornerFrom, alternating, downward}
+use Rattle.laws.specs.Order.{lt-irr, lt-tr, le-lt-tr, lt→nle, eq→le}
+use Rattle.laws.specs.Floats.{zero64, one64, _⊗_, _⊖_, _⊕_, _⊘_}
+use Rattle.numbers.specs.Numbers.{choose, sineCosineAt, sineNear, cosineNear, sineAt, cosineAt, rest, quarter, magnitude, halfPi, π/4, bend, angleNear, angle, below, left, eighth, arctangent, power, powerIn, hornerFrom, alternating, downward}
 
 -- ---- power
 
@@ -107,6 +109,101 @@ pub arctangent-open : (y x : Float) → ne y y ≡ false → ne x x ≡ false �
     → below y (left x (eighth (magnitude y) (magnitude x))) ≡ arctangent y x
 unfolding arctangent
 arctangent-open y x g h a = rw (sym (ne-isNan y) ∙ g, sym (ne-isNan x) ∙ h, a)
+
+-- ---- arcsine
+
+not-held : (b : Bool) → (T b → ⊥) → b ≡ false
+not-held true f = absurd (f tt)
+not-held false f = refl
+
+not-lt : (x y : Float) → le x y ≡ true → lt y x ≡ false
+not-lt x y h = not-held (lt y x) (λ l. lt-irr x (le-lt-tr x y x (subst T (sym h) tt) l))
+
+-- `eighth` where it is known how its tests go
+module _ (m x a : Float) where
+  pub steep-flat : lt x m ≡ true → le (x ⊘ m) bend ≡ true → a ≡ angleNear (x ⊘ m) → halfPi ⊖ (zero64 ⊕ a) ≡ eighth m x
+  unfolding eighth angle
+  steep-flat i j f = rw (f, i, not-lt (x ⊘ m) bend j)
+
+  pub steep-bent : lt x m ≡ true → lt bend (x ⊘ m) ≡ true → a ≡ angleNear ((x ⊘ m ⊖ one64) ⊘ (x ⊘ m ⊕ one64)) → halfPi ⊖ (π/4 ⊕ a) ≡ eighth m x
+  unfolding eighth angle
+  steep-bent i j f = rw (f, i, j)
+
+  pub gentle-bent : le m x ≡ true → lt bend (m ⊘ x) ≡ true → a ≡ angleNear ((m ⊘ x ⊖ one64) ⊘ (m ⊘ x ⊕ one64)) → π/4 ⊕ a ≡ eighth m x
+  unfolding eighth angle
+  gentle-bent i j f = rw (f, not-lt m x i, j)
+
+  pub gentle-flat : le m x ≡ true → le (m ⊘ x) bend ≡ true → a ≡ angleNear (m ⊘ x) → zero64 ⊕ a ≡ eighth m x
+  unfolding eighth angle
+  gentle-flat i j f = rw (f, not-lt m x i, not-lt (m ⊘ x) bend j)
+
+real-below : (x y : Float) → lt x y ≡ true → isNan x ≡ false
+unfolding lt isNan
+real-below nan y h = sym h
+real-below (inf s) y h = refl
+real-below (fin s m e) y h = refl
+
+real-above : (c x : Float) → lt c x ≡ true → isNan x ≡ false
+unfolding lt isNan
+real-above nan nan h = sym h
+real-above (inf s) nan h = sym h
+real-above (fin s m e) nan h = sym h
+real-above c (inf s) h = refl
+real-above c (fin s m e) h = refl
+
+real-from : (x : Float) → le zero64 x ≡ true → isNan x ≡ false
+unfolding lt eq le isNan ofBits
+real-from nan h = sym h
+real-from (inf s) h = refl
+real-from (fin s m e) h = refl
+
+apart : (s : Bool) (a : ℕ) (t : Bool) (b : ℕ) → T (level s a t b) → T (Ieee·below s a t b) → ⊥
+apart false a false b h k =
+    let e = eqb→eq a b (and-l (eqb a b) _ h) in
+    let l = ltb→lt a b k in
+    omega (arith, e, l)
+apart false a true b h k = k
+apart true a false b h k =
+    let e = eqb→eq a b (and-l (eqb a b) _ h) in
+    let o = eqb→eq a 0 (and-r (eqb a b) (eqb a 0) h) in
+    let l = ltb→lt 0 (a + b) k in
+    omega (arith, e, o, l)
+apart true a true b h k =
+    let e = eqb→eq a b (and-l (eqb a b) _ h) in
+    let l = ltb→lt b a k in
+    omega (arith, e, l)
+
+eq-not-lt : (x y : Float) → T (eq x y) → T (lt x y) → ⊥
+unfolding eq lt
+eq-not-lt nan y h k = h
+eq-not-lt (inf s) nan h k = h
+eq-not-lt (inf true) (inf true) h k = k
+eq-not-lt (inf true) (inf false) h k = h
+eq-not-lt (inf false) (inf t) h k = k
+eq-not-lt (inf s) (fin t n d) h k = h
+eq-not-lt (fin s m e) nan h k = h
+eq-not-lt (fin s m e) (inf t) h k = h
+eq-not-lt (fin s m e) (fin t n d) h k = apart s (m * up e * down d) t (n * up d * down e) h k
+
+apart-below : (x y : Float) → lt x y ≡ true → eq x y ≡ false
+apart-below x y h = not-held (eq x y) (λ l. eq-not-lt x y l (subst T (sym h) tt))
+
+apart-above : (x y : Float) → lt y x ≡ true → eq x y ≡ false
+apart-above x y h = not-held (eq x y) (λ l. lt→nle y x (subst T (sym h) tt) (eq→le x y l))
+
+lt-asym : (x y : Float) → lt x y ≡ true → lt y x ≡ false
+lt-asym x y h = not-held (lt y x) (λ l. lt-irr x (lt-tr x y x (subst T (sym h) tt) l))
+
+-- the point is not left of the axis
+pub upward : (v x r : Float) → lt zero64 v ≡ true → le zero64 x ≡ true → r ≡ eighth v x → r ≡ arctangent v x
+unfolding arctangent left magnitude below
+upward v x r h p k =
+    k ∙ rw (real-above zero64 v h, real-from x p, apart-above v zero64 h, not-lt zero64 x p, lt-asym zero64 v h)
+
+pub mirrored : (v x r : Float) → lt v zero64 ≡ true → le zero64 x ≡ true → r ≡ eighth (neg v) x → neg r ≡ arctangent v x
+unfolding arctangent left magnitude below
+mirrored v x r h p k =
+    ap neg k ∙ rw (real-below v zero64 h, real-from x p, apart-below v zero64 h, not-lt zero64 x p, h)
 
 -- ---- sine and cosine
 

@@ -64,6 +64,8 @@ const PI: f64 = 3.141592653589793;
 
 const FOURTH_PI: f64 = 0.7853981633974483;
 
+const BEND: f64 = 0.4142135623730951;
+
 // p starts at sign / table[first], then p * z + the next coefficient, step places down, the sign turned.
 fn horner(z: f64, table: &[f64], first: usize, step: usize, sign: f64) -> f64
     requires { ⌜ (0 < step) × (first < length (now table)) ⌝ }
@@ -289,13 +291,57 @@ pub fn arctangent(y: f64, x: f64) -> f64
     below(y, left(x, eighth(magnitude(y), magnitude(x))))
 }
 
+// As `eighth`, for the m and x of an arcsine. There m alone says, but for a few roundings, which way the tests of `eighth` and `angle` go,
+// and says it long before x is known; those tests then only confirm, and `eighth` does what they do not confirm.
+fn risen(m: f64, x: f64) -> f64
+    ensures { λ r. ⌜ r ≡ eighth m x ⌝ }
+{
+    if m > 0.7071067811865476 {
+        if m > x {
+            let q = x / m;
+            if m > 0.9238795325112867 {
+                if q <= BEND {
+                    return HALF_PI - (0.0 + angle_near(q));
+                }
+            } else if q > BEND {
+                return HALF_PI - (FOURTH_PI + angle_near((q - 1.0) / (q + 1.0)));
+            }
+        }
+    } else if m <= x {
+        let q = m / x;
+        if m > 0.3826834323650898 {
+            if q > BEND {
+                return FOURTH_PI + angle_near((q - 1.0) / (q + 1.0));
+            }
+        } else if q <= BEND {
+            return 0.0 + angle_near(q);
+        }
+    }
+    eighth(m, x)
+}
+
+// arctangent(v, x), where x is hardly ever below zero and v is hardly ever zero.
+fn rightward(v: f64, x: f64) -> f64
+    ensures { λ r. ⌜ r ≡ arctangent v x ⌝ }
+{
+    if x >= 0.0 {
+        if v > 0.0 {
+            return risen(v, x);
+        }
+        if v < 0.0 {
+            return -risen(-v, x);
+        }
+    }
+    arctangent(v, x)
+}
+
 pub fn arcsine(v: f64) -> f64
     ensures { λ r. ⌜ r ≡ arcsine v ⌝ }
 {
     if v < -1.0 || v > 1.0 {
         return 0.0 / 0.0;
     }
-    arctangent(v, root::root((1.0 - v) * (1.0 + v)))
+    rightward(v, root::root((1.0 - v) * (1.0 + v)))
 }
 
 // a to the n, times c: the exponent falls by halving, and at 1 the last square is left out.
