@@ -61,8 +61,9 @@ uint8_t pozsmeteg_partials(size_t degree, const double *field, size_t field_leng
  * Nothing is done where the degree is above 180 or the list is shorter. */
 void pozsmeteg_prepare(size_t degree, double *work, size_t work_length);
 
-/* As pozsmeteg_partials, without its tests and without its preparation, from a prepared work list with C and S in front; +0.0
- * four times where a length does not fit. An out whose length is not 4 stays as it was. */
+/* As pozsmeteg_partials, without its tests and without its preparation, from a prepared work list with C and S in front: what is
+ * not finite is handed out. Lengths: a and b L, work at least 8 L; +0.0 four times where one does not fit or the degree is above
+ * 180. An out whose length is not 4 stays as it was. */
 void pozsmeteg_partials_prepared(size_t degree, double gm, double radius, const double *a, size_t a_length,
                                  const double *b, size_t b_length, const double *work, size_t work_length,
                                  double r, double lat, double lon, double *out, size_t out_length);
@@ -127,7 +128,7 @@ uint8_t pozsmeteg_sheet(size_t degree, const double *field, size_t field_length,
 /* ---- detrending and the band-pass */
 
 /* The revolutions between neighbouring nodes that have 50 epochs or more: the places of each one's epochs in `times`, the end
- * excluded, its first node and its period. The count goes into counts[0].
+ * excluded, its first node and its period. The count goes into counts[0] (a list without a place is left as it is).
  * Lengths: at most 100,000 times and 64 nodes; the four outputs one shorter than nodes (0 for no node). Refuses 2 to 5. Left
  * behind: 0 and +0.0 after the last revolution. No scratch. */
 uint8_t pozsmeteg_revolutions(const double *times, size_t times_length, const double *nodes, size_t nodes_length,
@@ -136,8 +137,9 @@ uint8_t pozsmeteg_revolutions(const double *times, size_t times_length, const do
                               size_t *counts, size_t counts_length);
 
 /* Each range's values less a bias, a trend and the waves of one and two turns, in place. Ranges of zeros, singular and empty ones
- * are passed over. Lengths: values as times (at most 100,000); ends, starts and periods as firsts (at most 63), each range within
- * the times; scratch at least 8 numbers a time. Refuses 2 to 5 and 10. */
+ * are passed over. Lengths: values as times (at most 100,000); ends, starts and periods as firsts (at most 63), each range with
+ * first <= end and within the times, else 2; starts are rising times, periods finite; scratch at least 8 numbers a time. Refuses 2
+ * to 5 and 10. */
 uint8_t pozsmeteg_detrend(const double *times, size_t times_length, double *values, size_t values_length,
                           const size_t *firsts, size_t firsts_length, const size_t *ends, size_t ends_length,
                           const double *starts, size_t starts_length, const double *periods, size_t periods_length,

@@ -116,7 +116,14 @@ fn prepared(tally: &mut Tally, case: u64, n: usize, values: &[f64], a: &[f64], b
     let mut five = [7.0; 5];
     raw::partials_prepared(n, values[0], values[1], a, b, &work, place[0], place[1], place[2], &mut five);
     let equal = out.iter().zip(four).all(|(x, y)| x.to_bits() == y.to_bits() || x.is_nan() && y.is_nan()) && five == [7.0; 5];
-    tally.judge(equal, || format!("case {case}, prepared: degree {n}, {place:?}"));
+    // a length that does not fit, or a degree beyond 180: four times +0.0
+    let (degree, a, b, work) = match case % 4 { 0 => (n, &a[1..], b, &work[..]), 1 => (n, a, &b[1..], &work[..]), 2 => (n, a, b, &work[1..]), _ => (181, a, b, &work[..]) };
+    raw::partials_prepared(degree, values[0], values[1], a, b, work, place[0], place[1], place[2], &mut out);
+    let mut short = vec![7.0; 8 * l - 1];
+    raw::prepare(n, &mut short);
+    raw::prepare(181, &mut short);
+    let refused = out.iter().all(|v| v.to_bits() == 0) && short.iter().all(|v| *v == 7.0);
+    tally.judge(equal && refused, || format!("case {case}, prepared: degree {n}, {place:?}"));
 }
 
 pub fn compare(tally: &mut Tally, rounds: u64) {
