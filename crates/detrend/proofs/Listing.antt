@@ -1,7 +1,7 @@
 -- Laws of the listing of revolutions in lent lists. Assumes nothing.
 use mathlib.Core.Path.{_≡_, refl, sym, ap, _∙_, subst}
 use mathlib.Core.List.{List, [], _∷_, _++_, map, append-assoc, append-nil}
-use mathlib.Core.Bool.{Bool, true, false, cond, _&&_}
+use mathlib.Core.Bool.{Bool, true, false, cond}
 use Prim.Native.Nat.{ℕ, zero, suc, _+_, _-_, _/_, _<_, _≤_}
 use native.Mathlib.Numerals.{add-one}
 use native.Mathlib.Omega.{arith}
@@ -15,20 +15,13 @@ use Rattle.laws.specs.Checks.{all, isTime, rising}
 use Rattle.laws.specs.Floats.{_⊖_, zero64}
 use Rattle.laws.specs.Loops.{head-at, take-set, fill-turn, fill-done}
 use Rattle.laws.specs.Order.{lt-tr}
+use Rattle.laws.specs.Bools.{left-true, right-true}
 use Rattle.slices.proofs.Calls.{cond-passes}
 use Rattle.slices.specs.declared.Counted.the-variants.{Counted as Found, Refused as NotCounted}
 use Rattle.detrend.specs.Revolutions.{countBefore, Revolution, revolutionsOf}
 use Rattle.detrend.specs.Calls.{revolutionsRefusal, LeftLists, listed, inPlaces, firstsIn, endsIn, startsIn, periodsIn, Listed, listedUnless}
 
 -- ---- counting the times before b of a rising list, by halving
-
-and-left : (a b : Bool) → a && b ≡ true → a ≡ true
-and-left true b h = refl
-and-left false b h = h
-
-and-right : (a b : Bool) → a && b ≡ true → b ≡ true
-and-right true b h = h
-and-right false b h = absurd (let z : _≡_ {A = ℕ} 0 1 = cc in omega arith)
 
 head-before : (b t : Float) (ts : List Float) (m : ℕ) → m < countBefore b (t ∷ ts) → T (lt t b)
 unfolding countBefore
@@ -48,8 +41,8 @@ count-past b [] m h r e = absurd (omega arith)
 count-past b (t ∷ ts) zero h r e = omega (arith, count-more b t ts (subst T (sym e) tt))
 count-past b (t ∷ []) (suc m) h r e = absurd (omega arith)
 count-past b (t ∷ u ∷ ts) (suc m) h r e =
-    let later : m < countBefore b (u ∷ ts) = count-past b (u ∷ ts) m (omega arith) (and-right (lt t u) (rising (u ∷ ts)) r) e in
-    let tu : T (lt t u) = subst T (sym (and-left (lt t u) (rising (u ∷ ts)) r)) tt in
+    let later : m < countBefore b (u ∷ ts) = count-past b (u ∷ ts) m (omega arith) (right-true (lt t u) (rising (u ∷ ts)) r) e in
+    let tu : T (lt t u) = subst T (sym (left-true (lt t u) (rising (u ∷ ts)) r)) tt in
     omega (arith, later, count-more b t (u ∷ ts) (lt-tr t u b tu (head-before b u ts m later)))
 
 -- a time from b on ends the count

@@ -19,11 +19,12 @@ use Rattle.fit.specs.Fit.{Observed, nth, seen, observedTo, observed}
 use Rattle.fit.specs.Room.{Observes}
 use Rattle.fit.specs.Contracts.{Stored, Noted, Observing}
 use Rattle.fit.proofs.Rows.{set-only}
-use Rattle.integrate.proofs.Places.{by, only-same, only-then, stays3}
+use Rattle.integrate.proofs.Places.{only-same, only-then, stays3}
 use Rattle.integrate.specs.Room.{Holds3, Only}
 use Rattle.integrate.specs.Steps.{timeOf}
 use Rattle.integrate.specs.Work.{Placed}
 use Rattle.laws.specs.WholeNumbers.{number}
+use Rattle.laws.specs.Bools.{by}
 
 pub stored : (s s' : List Float) (at k : ℕ) (v : Vector) (x : Float) → at + 4 ≤ length s → x ≡ number k → Placed (set s at x) s' (at + 1) v → Stored s s' at k v
 stored s s' at k v x h e p = record {

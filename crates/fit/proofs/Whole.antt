@@ -23,11 +23,12 @@ use Rattle.fit.specs.Contracts.{Measured, Apart, Within, Rounded, Finish
 use Rattle.fit.proofs.Columns.{run-reads, step-past, place-past, apart-then}
 use Rattle.fit.proofs.Rounds.{misfit-list, full-is}
 use Rattle.fit.proofs.Steps.{within}
-use Rattle.integrate.proofs.Places.{by, only-same, only-then, stays3}
+use Rattle.integrate.proofs.Places.{only-same, only-then, stays3}
 use Rattle.integrate.specs.Force.{Model, attractionOf, fullForce, runOf}
 use Rattle.integrate.specs.Room.{Only, Orbit, Run}
 use Rattle.integrate.specs.Steps.{timeOf}
 use Rattle.laws.specs.Floats.{_⊖_}
+use Rattle.laws.specs.Bools.{by}
 
 pub orbit-stays : (a e b m : ℕ) (s s' : List Float) (run : Run) → Only a e s s' → b + 6 * m ≤ a → Orbit s b run m → Orbit s' b run m
 orbit-stays a e b m s s' run o h w = record {

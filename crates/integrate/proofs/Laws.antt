@@ -1,6 +1,6 @@
 -- Laws of the force and of one step. Assumes nothing.
 use mathlib.Core.Path.{_≡_, refl, sym, ap, _∙_, subst}
-use mathlib.Core.Bool.{Bool, true, false}
+use mathlib.Core.Bool.{Bool, true, false, false≢true}
 use mathlib.Core.List.{List}
 use Prim.Native.Nat.{ℕ, _+_, _*_, _-_, _≤_, _<_}
 use native.Mathlib.Decide.{decLe}
@@ -34,7 +34,7 @@ use Rattle.integrate.specs.Force.{Model, model, frontSize, frontAt, full
 use Rattle.integrate.specs.Room.{stateIn, Run, Only, Holds3, Orbit}
 use Rattle.integrate.specs.Work.{Ready, ReadyFor, Refreshed, Pulled, Pushed, Moved, Stored, Advanced, Begun, Flown, Fitting, Ran}
 use Rattle.integrate.proofs.Places.{only-same, only-then, orbit-first}
-use Rattle.integrate.proofs.Front.{never, at-length, at-again, prepared-length, front-length, put-front, put-only, take-only}
+use Rattle.integrate.proofs.Front.{at-length, at-again, prepared-length, front-length, put-front, put-only, take-only}
 
 -- ---- the instant
 
@@ -245,11 +245,11 @@ flown-more force M w w' base k known a t0 start s r es o g h =
 
 pub fits-degree : (N steps room : ℕ) → 180 < N → Fitting N steps room false
 unfolding runFits
-fits-degree N steps room h = record { says = simp (lt-leb N 180 h); degree = λ e. absurd (never e); few = λ e. absurd (never e); enough = λ e. absurd (never e) }
+fits-degree N steps room h = record { says = simp (lt-leb N 180 h); degree = λ e. absurd (false≢true e); few = λ e. absurd (false≢true e); enough = λ e. absurd (false≢true e) }
 
 pub fits-steps : (N steps room : ℕ) → N ≤ 180 → 5302 < steps → Fitting N steps room false
 unfolding runFits
-fits-steps N steps room g h = record { says = simp (le-leb N 180 g, lt-leb steps 5302 h); degree = λ e. absurd (never e); few = λ e. absurd (never e); enough = λ e. absurd (never e) }
+fits-steps N steps room g h = record { says = simp (le-leb N 180 g, lt-leb steps 5302 h); degree = λ e. absurd (false≢true e); few = λ e. absurd (false≢true e); enough = λ e. absurd (false≢true e) }
 
 pub fits-room : (N steps room base : ℕ) → N ≤ 180 → steps ≤ 5302 → base ≡ frontSize N → Fitting N steps room (leb (base + 31818) room)
 unfolding runFits
@@ -269,8 +269,8 @@ module _ (force : Force) (N : ℕ) (field ts fs a b p w w' : List Float) (arc : 
     flown = λ _. subst (λ (x : List Float). Flown w w' (frontSize N) (arc .steps) (stateAt (accelerationOf (attractionOf force (model N field ts fs) a b) arc x) (arc .t0) (stateIn p 0))) ee
         (subst (λ (x : State). Flown w w' (frontSize N) (arc .steps) (stateAt (accelerationOf (attractionOf force (model N field ts fs) a b) arc e) (arc .t0) x)) es
         (subst (λ (n : ℕ). Flown w w' n (arc .steps) (stateAt (accelerationOf (attractionOf force (model N field ts fs) a b) arc e) (arc .t0) s)) eb f));
-    kept = λ q. absurd (never (sym q ∙ sym (g .says) ∙ h));
+    kept = λ q. absurd (false≢true (sym q ∙ sym (g .says) ∙ h));
   }
 
   pub not-ran : t ≡ false → Ran (runFits N (arc .steps) (length w)) w w (frontSize N) (arc .steps) (runOf (attractionOf force (model N field ts fs) a b) arc p)
-  not-ran h = record { flown = λ q. absurd (never (sym h ∙ g .says ∙ q)); kept = λ _. refl }
+  not-ran h = record { flown = λ q. absurd (false≢true (sym h ∙ g .says ∙ q)); kept = λ _. refl }

@@ -17,6 +17,9 @@ use Rattle.laws.specs.Checks.{all, ascending}
 abbrev pub cleared : List Float → List Float
 cleared x = replicate (length x) zero64
 
+pub same-cleared : (x y : List Float) → length x ≡ length y → cleared x ≡ cleared y
+same-cleared x y e = ap (λ (n : ℕ). replicate n zero64) e
+
 -- ---- a loop that goes up
 
 pub head-at {ℓ} : {A : Type ℓ} (x : List A) (i : ℕ) (d : A) → i < length x → drop i x ≡ getD x i d ∷ drop (i + 1) x

@@ -1,8 +1,8 @@
 -- Triangular tables as lists: the value at degree n and order m ≤ n stands at n(n + 1)/2 + m. Assumes nothing.
 use mathlib.Core.Path.{_≡_, refl, sym, ap, ap₂, _∙_}
-use mathlib.Core.List.{List, [], _∷_, _++_, append-assoc}
+use mathlib.Core.List.{List, [], _∷_, _++_, append-assoc, append-nil}
 use Prim.Native.Nat.{ℕ, zero, suc, _+_, _-_, _*_, _/_, _<_, _≤_}
-use native.Mathlib.Nat.{mul-add, mul-comm, mul-le-mul, add-assoc}
+use native.Mathlib.Nat.{add-zero, mul-add, mul-comm, mul-le-mul, add-assoc}
 use native.Mathlib.Numerals.{add-one}
 use native.Mathlib.Decide.{decLe}
 use native.Mathlib.Omega.{arith}
@@ -90,6 +90,11 @@ row-same f g zero h = refl
 row-same f g (suc k) h = ap₂ (λ (l : List Float) (x : Float). l ++ (x ∷ [])) (row-same f g k (λ m l. h m (omega arith))) (h k (omega arith))
 
 -- ---- a loop that fills a list from the front
+
+-- a row that begins at k has no value yet
+pub row-none : (g : ℕ → Float) (out : List Float) (k : ℕ) → take (k + 0) out ≡ take k out ++ row g 0
+unfolding row
+row-none g out k = ap (λ (i : ℕ). take i out) (add-zero k) ∙ sym (append-nil (take k out))
 
 -- a value more in a row that begins at k
 pub row-turn : (g : ℕ → Float) (p out : List Float) (k m : ℕ) (v : Float) → take (k + m) out ≡ p ++ row g m → k + m < length out → v ≡ g m →

@@ -1,9 +1,9 @@
 -- Laws of the rows that the blend writes. Assumes nothing.
 use mathlib.Core.Path.{_≡_, refl, sym, ap, ap₂, _∙_, subst}
-use mathlib.Core.List.{List, _++_, append-nil, append-assoc}
+use mathlib.Core.List.{List, _++_, append-assoc}
 use mathlib.Core.Bool.{Bool, true, false, cond}
 use Prim.Native.Nat.{ℕ, _+_, _-_, _*_, _/_, _<_, _≤_}
-use native.Mathlib.Nat.{add-zero, add-mul, mul-le-mul-right, div-mul-le-self, le-trans}
+use native.Mathlib.Nat.{add-mul, mul-le-mul-right, div-mul-le-self, le-trans}
 use native.Mathlib.Omega.{arith}
 use borrow.Author.Tests.{lt-ltb, le-ltb, lt-leb, le-leb, eq-eqb, ne-eqb, leb-true}
 use lib.Dec.{ltb, leb, eqb}
@@ -13,6 +13,7 @@ use borrow.Rule.Slice.PartMut.{putMid, postOf}
 use lib.Ieee.{Float, nan}
 use Rattle.laws.specs.Floats.{_⊕_, _⊖_, _⊗_, one64}
 use Rattle.laws.specs.Tables.{tri, row, rows, row-turn, row-same, rows-length, rows-at}
+use Rattle.laws.specs.Bools.{no}
 use Rattle.fields.specs.Rescaled.{factorOf, factorWith, rescaledAt}
 use Rattle.model.specs.Field.{gm, radius, cosines, sines, size}
 use Rattle.model.specs.Calls.{atFits, atLeft, AtRoom}
@@ -27,10 +28,6 @@ highAt start k w field a b fa fb m =
     (one64 ⊖ w) ⊗ (getD field (start + (k + m)) nan ⊕ getD a (start + (k + m)) nan ⊗ fa) ⊕ w ⊗ (getD field (start + (k + m)) nan ⊕ getD b (start + (k + m)) nan ⊗ fb)
 
 -- a row at its first place
-pub row-none : (g : ℕ → Float) (out : List Float) (k : ℕ) → take (k + 0) out ≡ take k out ++ row g 0
-unfolding row
-row-none g out k = ap (λ (i : ℕ). take i out) (add-zero k) ∙ sym (append-nil (take k out))
-
 -- the turns of the two loops
 pub low-turn : (start k : ℕ) (w : Float) (field p out : List Float) (m : ℕ) → take (k + m) out ≡ p ++ row (lowAt start k w field) m → k + m < length out →
     take (k + (m + 1)) (set out (k + m) ((one64 ⊖ w) ⊗ getD field (start + (k + m)) nan ⊕ w ⊗ getD field (start + (k + m)) nan)) ≡ p ++ row (lowAt start k w field) (m + 1)
@@ -95,9 +92,6 @@ kind-is N start j r w field added out e h =
     after j z = omega (arith, add-mul j 1 z)
 
 -- ---- the guard of `at`
-
-no : {X : Type 0} → false ≡ true → X
-no e = absurd (let z : _≡_ {A = ℕ} 0 1 = cc in omega arith)
 
 refuses : (N f n a o : ℕ) → false ≡ atFits N f n a o → AtRoom N f n a o false
 refuses N f n a o e = record { says = e; degree = λ h. no h; static = λ h. no h; count = λ h. no h; fields = λ h. no h; room = λ h. no h }

@@ -14,6 +14,7 @@ use lib.Ieee.Scale.{finite}
 use lib.Ieee.{Float, Format, prec, low, emax, nan, inf, fin, add, sub, sum, round, size, nearest, odd, units, binary64, ne, eq, isNan, div, ofBits, neg, up, down}
 use Rattle.numbers.specs.declared.SineCosine.{SineCosine}
 use Rattle.laws.specs.Floats.{zero64, _⊗_, _⊖_, _⊕_, _⊘_}
+use Rattle.laws.specs.SameBits.{ne-isNan, same-sign}
 use Rattle.numbers.specs.Numbers.{choose, sineCosineAt, sineNear, cosineNear, sineAt, cosineAt, rest, quarter, magnitude, below, left, eighth, arctangent, power, powerIn, hornerFrom, alternating, downward}
 
 -- ---- power
@@ -69,19 +70,9 @@ horner-done z p s table step i goal h inv = let e : i / step ≡ 0 = div-eq-of-l
 
 -- ---- tests
 
-same-sign : (s : Bool) → Bool·beq s s ≡ true
-same-sign true = refl
-same-sign false = refl
-
 pub nan-made : zero64 ⊘ zero64 ≡ nan
 unfolding div ofBits
 nan-made = refl
-
-pub ne-isNan : (x : Float) → ne x x ≡ isNan x
-unfolding ne eq isNan
-ne-isNan nan = refl
-ne-isNan (inf s) = rw (same-sign s)
-ne-isNan (fin s m e) = rw (eq-eqb (m * up e * down e) (m * up e * down e) refl, same-sign s)
 
 -- ---- arctangent
 

@@ -13,6 +13,7 @@ use Rattle.laws.specs.Floats.{zero64}
 use Rattle.laws.specs.Lists.{map-append}
 use Rattle.laws.specs.Loops.{fill-turn, fill-done}
 use Rattle.laws.specs.Times.{Time}
+use Rattle.laws.specs.Bools.{by}
 use Rattle.numbers.specs.Seconds.{wholeSecond}
 use Rattle.finality.specs.Tables.{Table, keyOf}
 use Rattle.finality.specs.Arcs.{inside}
@@ -20,7 +21,6 @@ use Rattle.finality.specs.Fitting.{tab}
 use Rattle.integrate.specs.Room.{Run, Orbit, six, stateIn}
 use Rattle.integrate.specs.Steps.{timeOf}
 use Rattle.integrate.specs.declared.kernel.State.{State}
-use Rattle.integrate.proofs.Places.{by}
 use Rattle.windows.specs.Slots.{within, keptIf}
 use Rattle.windows.proofs.Shelves.{keptTo, keptCount, kept-inside, state-read, few}
 use Rattle.orbits.specs.Orbits.{numbersOf}

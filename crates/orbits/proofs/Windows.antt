@@ -1,6 +1,6 @@
 -- Laws of the windows that are added, one after the other. Assumes nothing.
 use mathlib.Core.Path.{_≡_, refl, sym, ap, _∙_, subst}
-use mathlib.Core.Bool.{Bool, true, false}
+use mathlib.Core.Bool.{Bool, false}
 use mathlib.Core.List.{List, [], _∷_, _++_, map, append-assoc, append-nil}
 use Prim.Native.Nat.{ℕ, zero, suc, _+_, _-_, _*_, _≤_, _<_}
 use native.Mathlib.Numerals.{add-one}
@@ -10,6 +10,7 @@ use lib.IntN.{ℤ, pos}
 use lib.Ieee.{Float, nan, lt}
 use lib.ListN.{length, take, getD, set, replicate, length-append, length-map, length-set}
 use lib.Seq.{take-all}
+use lib.Ieee.Bits.{is-true}
 use Rattle.laws.specs.Floats.{zero64, _⊖_}
 use Rattle.laws.specs.Lists.{map-append}
 use Rattle.laws.specs.Order.{lt→le}
@@ -114,10 +115,6 @@ module _ (covered : Float → Bool) (full : Float → Vector → Vector) (look :
   abbrev table : Table State
   table = inside (start a) a b 0 (tab (orbitOf full look arc) (suc (steps a b)))
 
-  yes : (c : Bool) → T c → c ≡ true
-  yes true t = refl
-  yes false t = absurd t
-
   -- a long window is skipped
   pub long-adds : (done : Done) (o : Outputs) → lt (b ⊖ a) longest ≡ false → Adds (windowFit covered full look a b) 1 done done o o
   unfolding windowFit
@@ -128,7 +125,7 @@ module _ (covered : Float → Bool) (full : Float → Vector → Vector) (look :
 
   short-window : T (lt (b ⊖ a) longest) → (answer : Fitted) → answer ≡ fitOf covered full look arc → windowFit covered full look a b ≡ unlessRefused answer table
   unfolding windowFit
-  short-window short answer e = rw (yes (lt (b ⊖ a) longest) short) (ap (λ (x : Fitted). unlessRefused x table) (sym e))
+  short-window short answer e = rw (is-true (lt (b ⊖ a) longest) short) (ap (λ (x : Fitted). unlessRefused x table) (sym e))
 
   module _ (sh : Short a b) where
     pub steps-few : steps a b ≤ 5302

@@ -10,10 +10,11 @@ use lib.Ieee.Scale.{finite}
 use lib.ListN.{length, replicate}
 use Rattle.laws.specs.Floats.{zero64}
 use Rattle.laws.specs.Checks.{isTime}
+use Rattle.laws.specs.Bools.{both-true}
 use Rattle.slices.specs.Calls.{left}
 use Rattle.integrate.specs.Force.{frontSize}
 use Rattle.lent.specs.Lent.{frontSize as frontRoom, degreeFine, scratchFits}
-use Rattle.lent.proofs.Passed.{both-pass, AllPass, all-pass, degree-passes, counts-pass, rise-passes, scratch-passes, front-is}
+use Rattle.lent.proofs.Passed.{AllPass, all-pass, degree-passes, counts-pass, rise-passes, scratch-passes, front-is}
 use Rattle.finality.specs.Sheet.{Observation}
 use Rattle.epochs.specs.declared.Epoch.{Epoch}
 use Rattle.residuals.specs.declared.EpochAnswer.{EpochAnswer}
@@ -30,7 +31,7 @@ pub ready : (inp : Inputs) (count scratch : ℕ) (values : Bool) → AllPass (de
 ready inp count scratch values p =
     let f = counts-pass _ _ _ _ _ (p .counts) in
     let r = rise-passes _ _ _ _ _ (p .order) in
-    let s = scratch-passes (inp .model .degree) (length (inp .model .times)) count scratch (both-pass (inputsFit inp) _ (p .lengths) .1) in
+    let s = scratch-passes (inp .model .degree) (length (inp .model .times)) count scratch (both-true (inputsFit inp) _ (p .lengths) .1) in
     record {
       degree = degree-passes (inp .model .degree) (p .degree);
       statesC = record { rises = r .statesC; few = f .statesC };

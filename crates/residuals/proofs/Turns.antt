@@ -1,6 +1,6 @@
 -- One turn of the loop over the observations. Assumes nothing.
 use mathlib.Core.Path.{_≡_, refl, sym, ap, _∙_, subst}
-use mathlib.Core.Bool.{Bool, true, false, _&&_}
+use mathlib.Core.Bool.{Bool, true, false, _&&_, and-true}
 use mathlib.Core.Option.{Option, none, some}
 use mathlib.Core.List.{List, [], _∷_, _++_, append-nil}
 use Prim.Native.Nat.{ℕ, _+_, _-_, _≤_, _<_}
@@ -9,6 +9,7 @@ use lib.Ieee.{Float, nan}
 use lib.ListN.{length, getD, replicate, length-append}
 use Rattle.laws.specs.Floats.{zero64}
 use Rattle.laws.specs.Checks.{all}
+use Rattle.laws.specs.Bools.{clash}
 use Rattle.finality.specs.Sheet.{Observation}
 use Rattle.epochs.specs.declared.Epoch.{Epoch}
 use Rattle.sighting.specs.declared.Made.{Made}
@@ -60,10 +61,6 @@ lists-long m es h = record {
 
 all-snoc : {A : Type 0} (p : A → Bool) (xs : List A) (x : A) → all p (xs ++ (x ∷ [])) ≡ (all p xs && p x)
 all-snoc p [] x = and-true (p x)
-  where
-    and-true : (b : Bool) → (b && true) ≡ b
-    and-true true = refl
-    and-true false = refl
 all-snoc p (y ∷ xs) x = ap (λ (b : Bool). p y && b) (all-snoc p xs x) ∙ and-assoc (p y) (all p xs) (p x)
   where
     and-assoc : (a b d : Bool) → (a && (b && d)) ≡ ((a && b) && d)
@@ -127,10 +124,6 @@ module _ (inp : Inputs) (obs : Sightings) (base i : ℕ) (f : Filled) (l : Lists
       )
 
 -- ---- what was made is stored
-
-clash : {X : Type 0} (b : Bool) → b ≡ true → b ≡ false → X
-clash true h e = absurd (let z : _≡_ {A = ℕ} 0 1 = cc in omega arith)
-clash false h e = absurd (let z : _≡_ {A = ℕ} 0 1 = cc in omega arith)
 
 pub added-kept : (m : Made) (f : Filled) (l : Lists) (fine good : Bool) → m .kept ≡ true → good ≡ epochFinite (m .epoch) → fine ≡ (f .fine && good) →
     Added m f (record { count = f .count + 1; fine = fine }) l (stored (f .count) (m .epoch) l)

@@ -14,6 +14,7 @@ use borrow.Author.Tests.{leb-true, le-leb, eqb-true, eq-eqb}
 use Rattle.laws.specs.Floats.{bits}
 use Rattle.laws.specs.Checks.{all, isTime, rising, risingSeconds}
 use Rattle.laws.specs.Times.{Time}
+use Rattle.laws.specs.Bools.{both-true}
 use Rattle.finality.specs.Tables.{Table, find}
 use Rattle.finality.specs.Brackets.{covers}
 use Rattle.finality.specs.Kernels.{stagesOf}
@@ -24,7 +25,6 @@ use Rattle.epochs.specs.Epochs.{time, residual}
 use Rattle.epochs.specs.declared.Epoch.{Epoch}
 use Rattle.detrend.specs.Revolutions.{removedOf}
 use Rattle.filter.specs.Filter.{bandPass}
-use Rattle.lent.proofs.Passed.{both-pass}
 use Rattle.integrate.specs.Force.{model, frontSize, fullForce}
 use Rattle.integrate.specs.declared.kernel.State.{State}
 use Rattle.fit.specs.Fit.{stateFor}
@@ -115,10 +115,10 @@ module _ (S : Setting) (l : Lists) (o₁ o₂ o₃ o₄ s : List Float) (none-fa
   -- the outputs are as long as there are observations
   places : (length o₁ ≡ m) × (length o₂ ≡ m) × (length o₃ ≡ m) × (length o₄ ≡ m)
   places =
-      let a = both-pass (eqb (length o₁) m) _ (h .outputs-fit) in
-      let b = both-pass (eqb (length o₂) m) _ (a .1) in
-      let c = both-pass (eqb (length o₃) m) _ (b .1) in
-      let d = both-pass (eqb (length o₄) m) _ (c .1) in
+      let a = both-true (eqb (length o₁) m) _ (h .outputs-fit) in
+      let b = both-true (eqb (length o₂) m) _ (a .1) in
+      let c = both-true (eqb (length o₃) m) _ (b .1) in
+      let d = both-true (eqb (length o₄) m) _ (c .1) in
       (eqb-true (length o₁) m (a .0), eqb-true (length o₂) m (b .0), eqb-true (length o₃) m (c .0), eqb-true (length o₄) m (d .0))
 
   abbrev windowOfCode : List ℤ → List Float → Float → Float → Table State

@@ -1,6 +1,6 @@
 -- Laws of the windows' slots: what one window leaves, and that the slots before it stay. Assumes nothing.
 use mathlib.Core.Path.{_≡_, refl, sym, ap, _∙_, subst}
-use mathlib.Core.Bool.{Bool, true, false, cond, _&&_}
+use mathlib.Core.Bool.{Bool, true, false, cond, _&&_, false≢true}
 use mathlib.Core.List.{List, [], _∷_}
 use Prim.Native.Nat.{ℕ, zero, suc, _+_, _-_, _*_, _/_, _≤_, _<_}
 use native.Mathlib.Numerals.{add-one}
@@ -11,12 +11,14 @@ use lib.Ieee.{Float, nan, lt}
 use lib.ListN.{length, getD, set}
 use lib.Seq.{getD-set-same, getD-set-other}
 use lib.Ieee.Fits.{and-l, and-r}
+use lib.Ieee.Bits.{is-true}
 use borrow.Author.Tests.{le-leb, lt-leb, eq-eqb, eqb-true, eqb-false}
 use Rattle.laws.specs.Floats.{_⊖_}
 use Rattle.laws.specs.Checks.{all, isTime, rising, risingSeconds, time-says}
 use Rattle.laws.specs.Order.{lt→le}
 use Rattle.laws.specs.Times.{Time}
 use Rattle.laws.specs.WholeNumbers.{number}
+use Rattle.laws.specs.Bools.{by}
 use Rattle.finality.specs.Tables.{Table}
 use Rattle.finality.specs.Arcs.{longest, start, steps, arcOf, inside}
 use Rattle.finality.specs.Fitting.{tab}
@@ -26,7 +28,6 @@ use Rattle.integrate.specs.Force.{frontSize}
 use Rattle.integrate.specs.Room.{Run, Only, Holds3, Orbit}
 use Rattle.integrate.specs.declared.kernel.State.{State}
 use Rattle.integrate.specs.declared.kernel.Arc.{Arc as ArcStruct}
-use Rattle.integrate.proofs.Places.{by}
 use Rattle.fit.specs.Fit.{fitOf, orbitOf}
 use Rattle.fit.specs.Contracts.{arcServes, Fits, ArcFit}
 use Rattle.fit.specs.declared.kernel.Held.{Held}
@@ -86,10 +87,6 @@ module _ (covered : Float → Bool) (full : Float → Vector → Vector) (look :
   abbrev table : Table State
   table = windowBy covered full look a b
 
-  yes : (c : Bool) → T c → c ≡ true
-  yes true t = refl
-  yes false t = absurd t
-
   -- a long window leaves none
   pub long-leaves : (s : List Float) (base at : ℕ) → lt (b ⊖ a) longest ≡ false → Leaves table s s base at 0
   unfolding windowBy
@@ -105,7 +102,7 @@ module _ (covered : Float → Bool) (full : Float → Vector → Vector) (look :
 
   short-table : T (lt (b ⊖ a) longest) → (answer : Fitted) → answer ≡ fitOf covered full look arc → table ≡ inside (start a) a b 0 (statesOf answer (orbitOf full look arc) (steps a b))
   unfolding windowBy
-  short-table short answer e = rw (yes (lt (b ⊖ a) longest) short) (ap (λ (x : Fitted). inside (start a) a b 0 (statesOf x (orbitOf full look arc) (steps a b))) (sym e))
+  short-table short answer e = rw (is-true (lt (b ⊖ a) longest) short) (ap (λ (x : Fitted). inside (start a) a b 0 (statesOf x (orbitOf full look arc) (steps a b))) (sym e))
 
   pub fits-of : (N n : ℕ) (keys : List ℤ) (states : ℕ) (s s₁ : List Float) (base : ℕ) (t0 : Float) (answer : Fitted) → t0 ≡ start a → n ≡ steps a b →
       N ≤ 180 → n ≤ 5302 → states ≡ 6 * length keys → base ≡ frontSize N → base + 90173 ≤ length s → risingSeconds keys ≡ true →
@@ -213,10 +210,6 @@ pub record Served (N : ℕ) (keys : List ℤ) (states : ℕ) (nodes : List Float
   pub rises : risingSeconds keys ≡ true
   pub ends : (w : ℕ) → w + 1 < length nodes → Ends (getD nodes w nan) (getD nodes (w + 1) nan)
 
-is-true : (c : Bool) → T c → c ≡ true
-is-true true t = refl
-is-true false t = absurd t
-
 pub served : (N : ℕ) (keys : List ℤ) (states : ℕ) (nodes : List Float) (satellite room : ℕ) → windowsServe N keys states nodes satellite room ≡ true → Served N keys states nodes satellite room
 unfolding windowsServe roomFor
 served N keys states nodes satellite room e =
@@ -269,12 +262,12 @@ pub fit-filled : (window : Float → Float → Table State) (nodes s s' : List F
 fit-filled window nodes s s' N satellite base serves answer e t eb f = record {
   says = sym t ∙ e;
   filled = λ h. subst (λ (m : ℕ). Filled window nodes (length nodes - 1) s s' (frontSize N) m) (omega arith) (subst (λ (m : ℕ). Filled window nodes (length nodes - 1) s s' m (m + 150000 + 24600 * satellite)) eb f);
-  unfit = λ h. absurd (Rattle.integrate.proofs.Front.never (sym h ∙ sym e ∙ t));
+  unfit = λ h. absurd (false≢true (sym h ∙ sym e ∙ t));
 }
 
 pub fit-unfit : (window : Float → Float → Table State) (nodes s : List Float) (N satellite : ℕ) (serves answer : Bool) → answer ≡ serves → answer ≡ false → WindowsFit serves window nodes s s (frontSize N) satellite false
 fit-unfit window nodes s N satellite serves answer e f = record {
   says = sym f ∙ e;
-  filled = λ h. absurd (Rattle.integrate.proofs.Front.never (sym f ∙ e ∙ h));
+  filled = λ h. absurd (false≢true (sym f ∙ e ∙ h));
   unfit = λ h. refl;
 }

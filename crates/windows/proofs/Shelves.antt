@@ -12,6 +12,7 @@ use lib.ListN.{length, getD, set, length-set, length-append, List·getD-append}
 use lib.Seq.{getD-set-same, getD-at}
 use borrow.Author.Tests.{eqb-true, eqb-false}
 use Rattle.laws.specs.Times.{Time, second, secondTime}
+use Rattle.laws.specs.Bools.{by}
 use Rattle.numbers.specs.Seconds.{wholeSecond}
 use Rattle.finality.specs.Tables.{Table}
 use Rattle.finality.specs.Arcs.{inside, stepTime}
@@ -20,7 +21,7 @@ use Rattle.integrate.specs.Steps.{timeOf}
 use Rattle.integrate.specs.declared.kernel.State.{State}
 use Rattle.integrate.specs.Room.{Run, stateIn, Only, Holds3, Orbit}
 use Rattle.integrate.specs.Work.{Stored}
-use Rattle.integrate.proofs.Places.{by, only-then, only-wide, only-same, stays3}
+use Rattle.integrate.proofs.Places.{only-then, only-wide, only-same, stays3}
 use Rattle.fit.proofs.Rows.{set-only}
 use Rattle.windows.specs.Slots.{within, nth, Entry, Entries, Slot, Entered, keptIf, Keeping, Keeps}
 use Rattle.windows.proofs.Times.{held-inside}

@@ -9,10 +9,13 @@ use lib.Dec.{T, leb}
 use lib.IntN.{ℤ, pos}
 use lib.Ieee.{Float, fin, le, lt}
 use lib.ListN.{length, replicate}
+use lib.Ieee.Bits.{is-true}
+use lib.Ieee.Fits.{and-i}
 use borrow.Author.Tests.{le-leb}
 use Rattle.laws.specs.Floats.{zero64, _⊖_}
 use Rattle.laws.specs.Order.{lt→le}
 use Rattle.laws.specs.WholeNumbers.{Is, is-le, is-lt}
+use Rattle.laws.specs.Bools.{by}
 use Rattle.numbers.specs.Seconds.{isHeld}
 use Rattle.vectors.specs.declared.Vector.{Vector}
 use Rattle.series.specs.Prepared.{prepared}
@@ -26,7 +29,6 @@ use Rattle.integrate.specs.Steps.{timeOf}
 use Rattle.integrate.specs.Force.{model, frontSize, fullForce}
 use Rattle.integrate.specs.declared.kernel.State.{State}
 use Rattle.integrate.specs.declared.kernel.Arc.{Arc as ArcStruct}
-use Rattle.integrate.proofs.Places.{by}
 use Rattle.fit.specs.Fit.{fitOf, orbitOf, stateFor}
 use Rattle.fit.specs.declared.kernel.Held.{Held}
 use Rattle.fit.proofs.Locality.{Agree, SameReads, fit-same, orbit-same}
@@ -42,10 +44,8 @@ lower-is = record { is-finite = tt; value = refl }
 upper-is : Is (fin false 1 (pos 63)) 9223372036854775808 0
 upper-is = record { is-finite = tt; value = refl }
 
-both-true : (b c : Bool) → T b → T c → b && c ≡ true
-both-true true true q r = refl
-both-true true false q r = absurd r
-both-true false c q r = absurd q
+both-hold : (b c : Bool) → T b → T c → b && c ≡ true
+both-hold b c q r = is-true (b && c) (and-i b c q r)
 
 module _ (a b : Float) (e : Ends a b) where
   abbrev ab : T (le a b)
@@ -60,7 +60,7 @@ module _ (a b : Float) (e : Ends a b) where
       let n = N-le a b (e .from) (e .to) ab in
       let kk = k-le a b (e .from) (e .to) ab in
       let m = steps-le a b (e .from) (e .to) ab in
-      both-true (le (fin true 1 (pos 63)) (stepTime (start a) i)) (lt (stepTime (start a) i) (fin false 1 (pos 63))) (is-le (fin true 1 (pos 63)) (stepTime (start a) i) 0 9223372036854775808 _ _ lower-is s (omega (arith, n)))
+      both-hold (le (fin true 1 (pos 63)) (stepTime (start a) i)) (lt (stepTime (start a) i) (fin false 1 (pos 63))) (is-le (fin true 1 (pos 63)) (stepTime (start a) i) 0 9223372036854775808 _ _ lower-is s (omega (arith, n)))
       (is-lt (stepTime (start a) i) (fin false 1 (pos 63)) _ _ 9223372036854775808 0 s upper-is (omega (arith, p, n, kk, m, h)))
 
   held-start : isHeld (start a) ≡ true
@@ -69,7 +69,7 @@ module _ (a b : Float) (e : Ends a b) where
       let p = P-le a b (e .from) (e .to) ab in
       let n = N-le a b (e .from) (e .to) ab in
       let kk = k-le a b (e .from) (e .to) ab in
-      both-true (le (fin true 1 (pos 63)) (start a)) (lt (start a) (fin false 1 (pos 63))) (is-le (fin true 1 (pos 63)) (start a) 0 9223372036854775808 _ _ lower-is s (omega (arith, n)))
+      both-hold (le (fin true 1 (pos 63)) (start a)) (lt (start a) (fin false 1 (pos 63))) (is-le (fin true 1 (pos 63)) (start a) 0 9223372036854775808 _ _ lower-is s (omega (arith, n)))
       (is-lt (start a) (fin false 1 (pos 63)) _ _ 9223372036854775808 0 s upper-is (omega (arith, p, n, kk)))
 
   module _ (covered : Float → Bool) (full : Float → Vector → Vector) (look look' : Float → Held) (same : (i : ℕ) → i ≤ steps a b → look (timeOf (start a) i) ≡ look' (timeOf (start a) i)) (first : look (start a) ≡ look' (start a)) where
