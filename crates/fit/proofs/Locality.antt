@@ -1,7 +1,7 @@
 -- A fit reads its model and its states at the arc's own times only: where two agree there, the fits are the same.
 use mathlib.Core.Path.{_≡_, refl, sym, ap, _∙_, subst}
 use mathlib.Core.Bool.{Bool, true, false, cond, _&&_}
-use mathlib.Core.List.{List, [], _∷_, _++_}
+use mathlib.Core.List.{List, _++_}
 use Prim.Native.Nat.{ℕ, zero, suc, _+_, _*_, _/_, _%_, _≤_, _<_}
 use native.Mathlib.Omega.{arith}
 use lib.Dec.{ltb}
@@ -22,7 +22,7 @@ use Rattle.integrate.specs.Force.{accelerationOf, argumentOf, runOf, strengthsO
 use Rattle.integrate.specs.Room.{Run, stateIn}
 use Rattle.integrate.specs.Steps.{Acceleration, stateAt, stepOf, timeOf}
 use Rattle.laws.specs.Floats.{_⊕_, _⊖_, _⊘_, two64}
-use Rattle.laws.specs.Tables.{row}
+use Rattle.laws.specs.Tables.{row-same}
 use Rattle.least_squares.specs.LeastSquares.{solvable, solved}
 use Rattle.vectors.specs.Vector.{plus}
 
@@ -61,18 +61,11 @@ module _ (full full' : Float → Vector → Vector) (arc : Arc) (g : Agree full 
         end = λ x v. ap (λ (y : Vector). plus y (rest (timeOf (arc .t0) k ⊕ two64) x v)) (g .end k (omega arith) x);
       })
 
-  tab-same : (f f' : ℕ → Float) (m : ℕ) → ((r : ℕ) → r < m → f r ≡ f' r) → row f m ≡ row f' m
-  unfolding row
-  tab-same f f' zero h = refl
-  tab-same f f' (suc m) h =
-      ap (λ (l : List Float). l ++ (f m ∷ [])) (tab-same f f' m (λ r l. h r (omega arith)))
-      ∙ ap (λ (v : Float). row f' m ++ (v ∷ [])) (h m (omega arith))
-
   module _ (obs : List Observed) (w : Within obs (arc .steps)) where
     misfits-same : (p : List Float) → misfitsAt full arc obs p ≡ misfitsAt full' arc obs p
     unfolding misfitsAt misfitsOf misfitAt
     misfits-same p =
-        tab-same (misfitAt (runOf full arc p) obs) (misfitAt (runOf full' arc p) obs) (3 * length obs)
+        row-same (misfitAt (runOf full arc p) obs) (misfitAt (runOf full' arc p) obs) (3 * length obs)
         (λ r h. ap (λ (s : State). axis (r % 3) (nth obs (r / 3) .place) ⊖ axis (r % 3) (s .position)) (run-same p (nth obs (r / 3) .step) (w (r / 3) (omega arith) .0)))
 
     design-same : (p : List Float) → designAt full arc obs p ≡ designAt full' arc obs p

@@ -14,10 +14,10 @@ use Rattle.laws.specs.Lists.{map-append}
 use Rattle.laws.specs.Loops.{fill-turn, fill-done}
 use Rattle.laws.specs.Times.{Time}
 use Rattle.laws.specs.Bools.{by}
+use Rattle.laws.specs.Tables.{row}
 use Rattle.numbers.specs.Seconds.{wholeSecond}
 use Rattle.finality.specs.Tables.{Table, keyOf}
 use Rattle.finality.specs.Arcs.{inside}
-use Rattle.finality.specs.Fitting.{tab}
 use Rattle.integrate.specs.Room.{Run, Orbit, six, stateIn}
 use Rattle.integrate.specs.Steps.{timeOf}
 use Rattle.integrate.specs.declared.kernel.State.{State}
@@ -161,7 +161,7 @@ keeping-none t0 from to s base first keys states = record {
 }
 
 -- how many of the first steps lie inside, with one more that does
-pub few-more : (t0 from to : Float) (k m : ℕ) → Time from → Time to → ((run : Run) → length (inside t0 from to 0 (tab run m)) ≤ 3500) → k < m → within from to (timeOf t0 k) ≡ true → keptCount t0 from to k + 1 ≤ 3500
+pub few-more : (t0 from to : Float) (k m : ℕ) → Time from → Time to → ((run : Run) → length (inside t0 from to 0 (row run m)) ≤ 3500) → k < m → within from to (timeOf t0 k) ≡ true → keptCount t0 from to k + 1 ≤ 3500
 unfolding keptCount
 few-more t0 from to k m ft ut h l e =
     let most = few t0 from to (suc k) m ft ut h l in
@@ -186,10 +186,10 @@ keeping-more t0 from to s base first k n r keys keys₁ keys₂ states states₁
     }
 
 pub keeping-all : (t0 from to : Float) (s : List Float) (base first steps k r : ℕ) (keys keys' : List ℤ) (states states' : List Float) → Time from → Time to →
-    ((run : Run) → length (inside t0 from to 0 (tab run (steps + 1))) ≤ 3500) → k ≡ steps + 1 → Keeping t0 from to s base first k r keys keys' states states' →
-    Joins (inside t0 from to 0 (tab (readRun s base) (steps + 1))) first r keys keys' states states'
+    ((run : Run) → length (inside t0 from to 0 (row run (steps + 1))) ≤ 3500) → k ≡ steps + 1 → Keeping t0 from to s base first k r keys keys' states states' →
+    Joins (inside t0 from to 0 (row (readRun s base) (steps + 1))) first r keys keys' states states'
 keeping-all t0 from to s base first steps k r keys keys' states states' ft ut h e f =
-    let is : keptTo (readRun s base) t0 from to k ≡ inside t0 from to 0 (tab (readRun s base) (steps + 1)) = ap (keptTo (readRun s base) t0 from to) e ∙ sym (kept-inside (readRun s base) t0 from to (steps + 1) ft ut) in
+    let is : keptTo (readRun s base) t0 from to k ≡ inside t0 from to 0 (row (readRun s base) (steps + 1)) = ap (keptTo (readRun s base) t0 from to) e ∙ sym (kept-inside (readRun s base) t0 from to (steps + 1) ft ut) in
     let most = few t0 from to k (steps + 1) ft ut h (omega arith) in
     record {
       all = λ m table l t. subst (λ (x : Table State). Tabled m (table ++ x) r keys' states') is (f .all m table l t);
@@ -199,8 +199,8 @@ keeping-all t0 from to s base first steps k r keys keys' states states' ft ut h 
     }
 
 -- the states of a run are those that stand in the lent numbers
-pub run-read : (s : List Float) (base : ℕ) (run : Run) (m : ℕ) → Orbit s base run m → (k : ℕ) → k ≤ m → tab (readRun s base) k ≡ tab run k
-unfolding tab
+pub run-read : (s : List Float) (base : ℕ) (run : Run) (m : ℕ) → Orbit s base run m → (k : ℕ) → k ≤ m → row (readRun s base) k ≡ row run k
+unfolding row
 run-read s base run m o zero h = refl
 run-read s base run m o (suc k) h = (λ i. run-read s base run m o k (omega arith) i ++ (state-read s base run m k o h i ∷ []))
 

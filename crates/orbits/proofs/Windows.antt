@@ -14,9 +14,9 @@ use lib.Ieee.Bits.{is-true}
 use Rattle.laws.specs.Floats.{zero64, _⊖_}
 use Rattle.laws.specs.Lists.{map-append}
 use Rattle.laws.specs.Order.{lt→le}
+use Rattle.laws.specs.Tables.{row}
 use Rattle.finality.specs.Tables.{Table, keyOf}
 use Rattle.finality.specs.Arcs.{longest, start, steps, arcOf, inside}
-use Rattle.finality.specs.Fitting.{tab}
 use Rattle.finality.proofs.Windows.{steps-short}
 use Rattle.vectors.specs.declared.Vector.{Vector}
 use Rattle.integrate.specs.Force.{frontSize}
@@ -113,7 +113,7 @@ module _ (covered : Float → Bool) (full : Float → Vector → Vector) (look :
   arc = arcStruct (arcOf a b)
 
   abbrev table : Table State
-  table = inside (start a) a b 0 (tab (orbitOf full look arc) (suc (steps a b)))
+  table = inside (start a) a b 0 (row (orbitOf full look arc) (suc (steps a b)))
 
   -- a long window is skipped
   pub long-adds : (done : Done) (o : Outputs) → lt (b ⊖ a) longest ≡ false → Adds (windowFit covered full look a b) 1 done done o o
@@ -138,7 +138,7 @@ module _ (covered : Float → Bool) (full : Float → Vector → Vector) (look :
     arc-few x e = let q = ap (λ (y : ArcStruct). y .steps) (arc-is x e) in omega (arith, q, steps-few)
 
     -- at most 3,500 states of any run lie inside
-    pub arc-inside : (x : ArcStruct) → x ≡ arcBetween a b → (run : Run) → length (inside (x .t0) a b 0 (tab run (x .steps + 1))) ≤ 3500
+    pub arc-inside : (x : ArcStruct) → x ≡ arcBetween a b → (run : Run) → length (inside (x .t0) a b 0 (row run (x .steps + 1))) ≤ 3500
     arc-inside x e run = inside-few a b (sh .ends) (sh .short) (x .t0) (x .steps) (ap (λ (y : ArcStruct). y .t0) (arc-is x e)) (ap (λ (y : ArcStruct). y .steps) (arc-is x e)) run
 
     pub fits-here : (N : ℕ) (keys : List ℤ) (states : ℕ) (s s₁ : List Float) (x : ArcStruct) (answer : Fitted) → x ≡ arcBetween a b → Usable N keys states (length s) →
@@ -155,7 +155,7 @@ module _ (covered : Float → Bool) (full : Float → Vector → Vector) (look :
     -- else its states and its rms are added
     fitted-adds : (N : ℕ) (s s₁ : List Float) (base : ℕ) (arc₁ : ArcStruct) (done : Done) (o : Outputs) (answer : Fitted) (x : Float) (n : ℕ) (keys' : List ℤ) (states' : List Float) →
         answer ≡ Rms x → base ≡ frontSize N → arc₁ ≡ arcBetween a b → Fits covered full look arc s s₁ (frontSize N) answer →
-        Joins (inside (arc₁ .t0) a b 0 (tab (readRun s₁ base) (arc₁ .steps + 1))) (done .states) n (o .keys) keys' (o .states) states' →
+        Joins (inside (arc₁ .t0) a b 0 (row (readRun s₁ base) (arc₁ .steps + 1))) (done .states) n (o .keys) keys' (o .states) states' →
         Adds (windowFit covered full look a b) 1 done (record { states = n; windows = done .windows + 1 }) o (outputs keys' states' (set (o .rms) (done .windows) x))
     fitted-adds N s s₁ base arc₁ done o answer x n keys' states' e eb ea f j = subst (λ (l : List Window). Adds l 1 done r o o') (sym (short-window (sh .short) (Rms x) (sym e ∙ f .said))) (record {
       all = λ k ws hs hw g. so-far-more k ws done o x table n keys' states' (omega arith) hw g j';
@@ -175,13 +175,13 @@ module _ (covered : Float → Bool) (full : Float → Vector → Vector) (look :
         run : Run
         run = orbitOf full look arc
 
-        read : tab (readRun s₁ base) (suc (steps a b)) ≡ tab run (suc (steps a b))
-        read = ap (λ (m : ℕ). tab (readRun s₁ m) (suc (steps a b))) eb ∙ run-read s₁ (frontSize N) run (steps a b + 1) (f .states x e) (suc (steps a b)) (omega arith)
+        read : row (readRun s₁ base) (suc (steps a b)) ≡ row run (suc (steps a b))
+        read = ap (λ (m : ℕ). row (readRun s₁ m) (suc (steps a b))) eb ∙ run-read s₁ (frontSize N) run (steps a b + 1) (f .states x e) (suc (steps a b)) (omega arith)
 
-        same : inside (arc₁ .t0) a b 0 (tab (readRun s₁ base) (arc₁ .steps + 1)) ≡ table
+        same : inside (arc₁ .t0) a b 0 (row (readRun s₁ base) (arc₁ .steps + 1)) ≡ table
         same =
-            ap (λ (y : ArcStruct). inside (y .t0) a b 0 (tab (readRun s₁ base) (y .steps + 1))) (arc-is arc₁ ea)
-            ∙ ap (λ (m : ℕ). inside (start a) a b 0 (tab (readRun s₁ base) m)) (add-one (steps a b))
+            ap (λ (y : ArcStruct). inside (y .t0) a b 0 (row (readRun s₁ base) (y .steps + 1))) (arc-is arc₁ ea)
+            ∙ ap (λ (m : ℕ). inside (start a) a b 0 (row (readRun s₁ base) m)) (add-one (steps a b))
             ∙ ap (λ (l : List State). inside (start a) a b 0 l) read
 
         j' : Joins table (done .states) n (o .keys) keys' (o .states) states'
@@ -190,7 +190,7 @@ module _ (covered : Float → Bool) (full : Float → Vector → Vector) (look :
     -- the same, from what the calls gave
     pub fitted-adds-at : (N : ℕ) (s s₁ : List Float) (base : ℕ) (arc₁ : ArcStruct) (done : Done) (o : Outputs) (answer : Fitted) (x : Float) (n : ℕ) (keys' : List ℤ) (states' : List Float) (w : ℕ) (rms' : List Float) →
         answer ≡ Rms x → base ≡ frontSize N → arc₁ ≡ arcBetween a b → Fits covered full look arc s s₁ (frontSize N) answer →
-        Joins (inside (arc₁ .t0) a b 0 (tab (readRun s₁ base) (arc₁ .steps + 1))) (done .states) n (o .keys) keys' (o .states) states' → w ≡ done .windows + 1 → rms' ≡ set (o .rms) (done .windows) x →
+        Joins (inside (arc₁ .t0) a b 0 (row (readRun s₁ base) (arc₁ .steps + 1))) (done .states) n (o .keys) keys' (o .states) states' → w ≡ done .windows + 1 → rms' ≡ set (o .rms) (done .windows) x →
         Adds (windowFit covered full look a b) 1 done (record { states = n; windows = w }) o (outputs keys' states' rms')
     fitted-adds-at N s s₁ base arc₁ done o answer x n keys' states' w rms' e eb ea f j ew er =
         subst (λ (m : ℕ). Adds (windowFit covered full look a b) 1 done (record { states = n; windows = m }) o (outputs keys' states' rms')) (sym ew)

@@ -9,7 +9,7 @@ ghost use lib.ListN.{length, getD, set, replicate};
 ghost use Rattle.laws.specs.Times.{Time};
 ghost use Rattle.numbers.specs.Seconds.{wholeSecond};
 ghost use Rattle.finality.specs.Arcs.{inside};
-ghost use Rattle.finality.specs.Fitting.{tab};
+ghost use Rattle.laws.specs.Tables.{row};
 ghost use Rattle.finality.specs.Brackets.{covers};
 ghost use Rattle.integrate.specs.Force.{model, fullForce};
 ghost use Rattle.integrate.specs.Room.{Run, stateIn};
@@ -95,8 +95,8 @@ fn keep(
     outkeys: &mut [i64],
     outstates: &mut [f64],
 ) -> usize
-    requires { ⌜ Time from × Time to × (steps ≤ 5302) × ((run : Run) → length (inside t0 from to 0 (tab run (steps + 1))) ≤ 3500) × (base + 31818 ≤ length (now s)) × (first + 3500 ≤ length (now outkeys)) × (6 * (first + 3500) ≤ length (now outstates)) ⌝ }
-    ensures { λ r. ⌜ Joins (inside t0 from to 0 (tab (readRun (now (s .entry)) base) (steps + 1))) first r (now (outkeys .entry)) (now (outkeys .exit)) (now (outstates .entry)) (now (outstates .exit)) ⌝ }
+    requires { ⌜ Time from × Time to × (steps ≤ 5302) × ((run : Run) → length (inside t0 from to 0 (row run (steps + 1))) ≤ 3500) × (base + 31818 ≤ length (now s)) × (first + 3500 ≤ length (now outkeys)) × (6 * (first + 3500) ≤ length (now outstates)) ⌝ }
+    ensures { λ r. ⌜ Joins (inside t0 from to 0 (row (readRun (now (s .entry)) base) (steps + 1))) first r (now (outkeys .entry)) (now (outkeys .exit)) (now (outstates .entry)) (now (outstates .exit)) ⌝ }
 {
     let mut n = first;
     for k in 0..steps + 1 {

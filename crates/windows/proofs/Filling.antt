@@ -19,9 +19,9 @@ use Rattle.laws.specs.Order.{lt→le}
 use Rattle.laws.specs.Times.{Time}
 use Rattle.laws.specs.WholeNumbers.{number}
 use Rattle.laws.specs.Bools.{by}
+use Rattle.laws.specs.Tables.{row, row-length}
 use Rattle.finality.specs.Tables.{Table}
 use Rattle.finality.specs.Arcs.{longest, start, steps, arcOf, inside}
-use Rattle.finality.specs.Fitting.{tab}
 use Rattle.finality.proofs.Windows.{steps-short, states-short}
 use Rattle.vectors.specs.declared.Vector.{Vector}
 use Rattle.integrate.specs.Force.{frontSize}
@@ -69,16 +69,11 @@ serves-arc : (N n : ℕ) (keys : List ℤ) (states room : ℕ) → N ≤ 180 →
 unfolding arcServes
 serves-arc N n keys states room a b c d e = simp (le-leb N 180 a, le-leb n 5302 b, eq-eqb states (6 * length keys) c, le-leb (frontSize N + 90173) room d, e)
 
-tab-length : {X : Type 0} (f : ℕ → X) (n : ℕ) → length (tab f n) ≡ n
-unfolding tab
-tab-length f zero = refl
-tab-length f (suc n) = lib.ListN.length-append (tab f n) (f n ∷ []) ∙ let h = tab-length f n in omega arith
-
 -- at most 3,500 states of any run lie inside
-pub inside-few : (a b : Float) → Ends a b → T (lt (b ⊖ a) longest) → (t0 : Float) (n : ℕ) → t0 ≡ start a → n ≡ steps a b → (run : Run) → length (inside t0 a b 0 (tab run (n + 1))) ≤ 3500
+pub inside-few : (a b : Float) → Ends a b → T (lt (b ⊖ a) longest) → (t0 : Float) (n : ℕ) → t0 ≡ start a → n ≡ steps a b → (run : Run) → length (inside t0 a b 0 (row run (n + 1))) ≤ 3500
 inside-few a b e short t0 n et en run =
-    subst (λ (t : Float). length (inside t a b 0 (tab run (n + 1))) ≤ 3500) (sym et)
-    (states-short a b (e .from) (e .to) (lt→le a b (e .order)) short 0 (tab run (n + 1)) (let h = tab-length run (n + 1) in omega (arith, h, en)))
+    subst (λ (t : Float). length (inside t a b 0 (row run (n + 1))) ≤ 3500) (sym et)
+    (states-short a b (e .from) (e .to) (lt→le a b (e .order)) short 0 (row run (n + 1)) (let h = row-length run (n + 1) in omega (arith, h, en)))
 
 module _ (covered : Float → Bool) (full : Float → Vector → Vector) (look : Float → Held) (a b : Float) (ends : Ends a b) where
   abbrev arc : ArcStruct
@@ -141,11 +136,11 @@ module _ (covered : Float → Bool) (full : Float → Vector → Vector) (look :
       run : Run
       run = orbitOf full look arc
 
-      is : table ≡ inside t0 a b 0 (tab run (n + 1))
+      is : table ≡ inside t0 a b 0 (row run (n + 1))
       is =
           short-table short (Rms x) (sym e ∙ f .said)
-          ∙ ap (λ (t : Float). inside t a b 0 (tab run (suc (steps a b)))) (sym et)
-          ∙ ap (λ (m : ℕ). inside t0 a b 0 (tab run m)) (let q = en in omega (arith, q))
+          ∙ ap (λ (t : Float). inside t a b 0 (row run (suc (steps a b)))) (sym et)
+          ∙ ap (λ (m : ℕ). inside t0 a b 0 (row run m)) (let q = en in omega (arith, q))
 
 -- the count in front
 pub windowed : (table : Table State) (s s₁ : List Float) (base at n : ℕ) (x : Float) → base + 150000 ≤ at → at + 24600 ≤ length s → x ≡ number n → Leaves table s s₁ base (at + 1) n → Windowed table s (set s₁ at x) base at

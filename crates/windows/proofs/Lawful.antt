@@ -3,18 +3,18 @@ use mathlib.Core.Path.{_≡_, refl, sym, ap, _∙_}
 use mathlib.Core.Option.{Option}
 use mathlib.Core.Logic.{_⊎_, inl, inr}
 use mathlib.Core.Bool.{Bool, true, false, not, cond}
-use mathlib.Core.List.{List, [], _∷_, _++_}
-use Prim.Native.Nat.{ℕ, zero, suc, _+_, _*_, _/_, _≤_, _<_}
+use mathlib.Core.List.{List, []}
+use Prim.Native.Nat.{ℕ, suc, _*_, _/_, _≤_, _<_}
 use native.Mathlib.Nat.{le-refl, le-of-eq}
 use native.Mathlib.Omega.{arith}
 use lib.Dec.{T, leb, leb→le}
 use lib.IntN.{ℤ}
-use lib.ListN.{length, length-append}
+use lib.ListN.{length}
 use lib.Ieee.{Float, binary64, div, ofBits}
 use Rattle.laws.specs.Floats.{_⊕_, _⊘_, bits, one64, two64}
 use Rattle.laws.specs.Times.{second}
+use Rattle.laws.specs.Tables.{row-length, row-same}
 use Rattle.finality.specs.Arcs.{Arc, Fit, step, halfStep, stepTime}
-use Rattle.finality.specs.Fitting.{tab}
 use Rattle.finality.proofs.Fits.{LawfulFit}
 use Rattle.vectors.specs.Vector.{plus}
 use Rattle.vectors.specs.declared.Vector.{Vector}
@@ -31,26 +31,15 @@ use Rattle.windows.specs.Stage.{Setting, gravityOf, fullOf, arcStruct, h
 
 -- ---- lists of states
 
-tab-length : {X : Type 0} (f : ℕ → X) (n : ℕ) → length (tab f n) ≡ n
-unfolding tab
-tab-length f zero = refl
-tab-length f (suc n) = length-append (tab f n) (f n ∷ []) ∙ let h = tab-length f n in omega arith
-
-tab-same : {X : Type 0} (f g : ℕ → X) (n : ℕ) → ((k : ℕ) → k < n → f k ≡ g k) → tab f n ≡ tab g n
-unfolding tab
-tab-same {X = X} f g zero h = refl
-tab-same {X = X} f g (suc n) h =
-    ap (λ (l : List X). l ++ (f n ∷ [])) (tab-same f g n (λ k l. h k (omega arith))) ∙ ap (λ (x : X). tab g n ++ (x ∷ [])) (h n (omega arith))
-
 states-length : (r : Fitted) (run : Run) (n : ℕ) → length (statesOf r run n) ≤ suc n
-states-length (Rms rms) run n = le-of-eq (tab-length run (suc n))
+states-length (Rms rms) run n = le-of-eq (row-length run (suc n))
 states-length (Refused k) run n = omega arith
 
 pub states-same : (r r' : Fitted) (run run' : Run) (n : ℕ) → r ≡ r' → ((k : ℕ) → k < suc n → run k ≡ run' k) → statesOf r run n ≡ statesOf r' run' n
 states-same r r' run run' n e h = each r ∙ ap (λ (q : Fitted). statesOf q run' n) e
   where
     each : (q : Fitted) → statesOf q run n ≡ statesOf q run' n
-    each (Rms rms) = tab-same run run' (suc n) h
+    each (Rms rms) = row-same run run' (suc n) h
     each (Refused k) = refl
 
 -- ---- what a fit reads

@@ -13,10 +13,10 @@ use lib.Seq.{getD-set-same, getD-at}
 use borrow.Author.Tests.{eqb-true, eqb-false}
 use Rattle.laws.specs.Times.{Time, second, secondTime}
 use Rattle.laws.specs.Bools.{by}
+use Rattle.laws.specs.Tables.{row, row-length}
 use Rattle.numbers.specs.Seconds.{wholeSecond}
 use Rattle.finality.specs.Tables.{Table}
 use Rattle.finality.specs.Arcs.{inside, stepTime}
-use Rattle.finality.specs.Fitting.{tab}
 use Rattle.integrate.specs.Steps.{timeOf}
 use Rattle.integrate.specs.declared.kernel.State.{State}
 use Rattle.integrate.specs.Room.{Run, stateIn, Only, Holds3, Orbit}
@@ -107,11 +107,6 @@ inside-append {X} t0 a b i (x ∷ xs) ys =
     (λ e. let shift : length xs + suc i ≡ suc (length xs) + i = omega arith in
     rw e (inside-append t0 a b (suc i) xs ys ∙ ap (λ (j : ℕ). inside t0 a b (suc i) xs ++ inside t0 a b j ys) shift))
 
-tab-length : {X : Type 0} (f : ℕ → X) (n : ℕ) → length (tab f n) ≡ n
-unfolding tab
-tab-length f zero = refl
-tab-length f (suc n) = length-append (tab f n) (f n ∷ []) ∙ let h = tab-length f n in omega arith
-
 -- where both ends of the window are times these are the states inside it
 last-inside : (run : Run) (t0 from to : Float) (k : ℕ) → Time from → Time to →
     inside t0 from to k (run k ∷ []) ≡ keptIf (within from to (timeOf t0 k)) (wholeSecond (timeOf t0 k)) (run k)
@@ -121,13 +116,13 @@ last-inside run t0 from to k ft ut =
     (λ e. rw e (ap (λ (z : ℤ). (z, run k) ∷ []) (sym (held-inside from to (timeOf t0 k) ft ut (subst T (sym e) tt)))))
     (λ e. rw e refl)
 
-pub kept-inside : (run : Run) (t0 from to : Float) (k : ℕ) → Time from → Time to → inside t0 from to 0 (tab run k) ≡ keptTo run t0 from to k
-unfolding keptTo tab inside
+pub kept-inside : (run : Run) (t0 from to : Float) (k : ℕ) → Time from → Time to → inside t0 from to 0 (row run k) ≡ keptTo run t0 from to k
+unfolding keptTo row inside
 kept-inside run t0 from to zero ft ut = refl
 kept-inside run t0 from to (suc k) ft ut =
-    inside-append t0 from to 0 (tab run k) (run k ∷ [])
-    ∙ ap (λ (l : Table State). l ++ inside t0 from to (length (tab run k) + 0) (run k ∷ [])) (kept-inside run t0 from to k ft ut)
-    ∙ ap (λ (j : ℕ). keptTo run t0 from to k ++ inside t0 from to j (run k ∷ [])) (let h = tab-length run k in omega arith)
+    inside-append t0 from to 0 (row run k) (run k ∷ [])
+    ∙ ap (λ (l : Table State). l ++ inside t0 from to (length (row run k) + 0) (run k ∷ [])) (kept-inside run t0 from to k ft ut)
+    ∙ ap (λ (j : ℕ). keptTo run t0 from to k ++ inside t0 from to j (run k ∷ [])) (let h = row-length run k in omega arith)
     ∙ ap (λ (l : Table State). keptTo run t0 from to k ++ l) (last-inside run t0 from to k ft ut)
 
 -- a state of the run, read from the lent numbers
@@ -164,7 +159,7 @@ kept-length run t0 from to (suc k) =
     length-append (keptTo run t0 from to k) (keptIf (within from to (timeOf t0 k)) (wholeSecond (timeOf t0 k)) (run k))
     ∙ by (within from to (timeOf t0 k)) (λ e. simp (e, kept-length run t0 from to k)) (λ e. simp (e, kept-length run t0 from to k))
 
-inside-length : (run : Run) (t0 from to : Float) (k : ℕ) → Time from → Time to → length (inside t0 from to 0 (tab run k)) ≡ keptCount t0 from to k
+inside-length : (run : Run) (t0 from to : Float) (k : ℕ) → Time from → Time to → length (inside t0 from to 0 (row run k)) ≡ keptCount t0 from to k
 inside-length run t0 from to k ft ut = ap (λ (l : Table State). length l) (kept-inside run t0 from to k ft ut) ∙ kept-length run t0 from to k
 
 count-below : (t0 from to : Float) (k m : ℕ) → k ≤ m → keptCount t0 from to k ≤ keptCount t0 from to m
@@ -176,7 +171,7 @@ count-below t0 from to k (suc m) h =
     (λ t. omega (arith, count-below t0 from to k m (omega (arith, eqb-false k (suc m) t))))
 
 -- at most 3,500 after k steps where the whole run leaves no more
-pub few : (t0 from to : Float) (k m : ℕ) → Time from → Time to → ((run : Run) → length (inside t0 from to 0 (tab run m)) ≤ 3500) → k ≤ m → keptCount t0 from to k ≤ 3500
+pub few : (t0 from to : Float) (k m : ℕ) → Time from → Time to → ((run : Run) → length (inside t0 from to 0 (row run m)) ≤ 3500) → k ≤ m → keptCount t0 from to k ≤ 3500
 few t0 from to k m ft ut h l =
     let a = h (λ i. stateIn [] 0) in
     let b = inside-length (λ i. stateIn [] 0) t0 from to m ft ut in

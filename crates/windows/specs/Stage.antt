@@ -9,11 +9,10 @@ use lib.IntN.{ℤ}
 use lib.ListN.{drop, replicate}
 use lib.Ieee.{Float}
 use Rattle.laws.specs.Floats.{zero64}
-use Rattle.laws.specs.Tables.{tri}
+use Rattle.laws.specs.Tables.{tri, row}
 use Rattle.laws.specs.Times.{second}
 use Rattle.finality.specs.Tables.{Table}
 use Rattle.finality.specs.Arcs.{Arc, Fit}
-use Rattle.finality.specs.Fitting.{tab}
 use Rattle.vectors.specs.Vector.{plus}
 use Rattle.vectors.specs.declared.Vector.{Vector}
 use Rattle.series.specs.Prepared.{prepared}
@@ -63,7 +62,7 @@ lookOf look t = heldOf (look (second t))
 
 -- the states of an orbit, one a step, where its fit is not refused
 abbrev pub statesOf : Fitted → Run → ℕ → List State
-statesOf (Rms rms) run steps = tab run (suc steps)
+statesOf (Rms rms) run steps = row run (suc steps)
 statesOf (Refused n) run steps = []
 
 -- an arc of more than 5,302 steps has no fit; no window gives one

@@ -11,7 +11,7 @@ ghost use Rattle.laws.specs.WholeNumbers.{ceil, floor};
 ghost use Rattle.laws.specs.Times.{Time, secondTime};
 ghost use Rattle.numbers.specs.Seconds.{wholeSecond};
 ghost use Rattle.finality.specs.Arcs.{start, steps, longest, inside};
-ghost use Rattle.finality.specs.Fitting.{tab};
+ghost use Rattle.laws.specs.Tables.{row};
 ghost use Rattle.finality.specs.Brackets.{covers};
 ghost use Rattle.integrate.specs.Force.{model, frontSize, fullForce};
 ghost use Rattle.integrate.specs.Room.{Run, stateIn};
@@ -141,7 +141,7 @@ fn keep_step(
 
 // The states of a run whose times lie in a window, seven numbers each, from a place on. Returns how many there are.
 fn keep(t0: f64, from: f64, to: f64, steps: usize, s: &mut [f64], base: usize, at: usize) -> usize
-    requires { ⌜ Time from × Time to × (steps ≤ 5302) × ((run : Run) → length (inside t0 from to 0 (tab run (steps + 1))) ≤ 3500) × (base + 31818 ≤ at) × (at + 24599 ≤ length (now s)) ⌝ }
+    requires { ⌜ Time from × Time to × (steps ≤ 5302) × ((run : Run) → length (inside t0 from to 0 (row run (steps + 1))) ≤ 3500) × (base + 31818 ≤ at) × (at + 24599 ≤ length (now s)) ⌝ }
     ensures { λ r. ⌜ Keeps t0 from to steps (now (s .entry)) (now (s .exit)) base at r ⌝ }
 {
     let mut n: usize = 0;
