@@ -12,12 +12,12 @@ use lib.Ieee.{Float, binary64, ofBits, ofInt, toSigned, add, sub, mul, div, le, 
 use Rattle.laws.specs.Floats.{bits}
 use Rattle.laws.specs.Lists.{cond-ind}
 use Rattle.laws.specs.WholeNumbers.{number, ceil, floor}
-use Rattle.laws.specs.Times.{end, second}
+use Rattle.laws.specs.Times.{end, second, stepTime}
 use Rattle.laws.specs.Checks.{isTime}
 use Rattle.laws.specs.Runs.{splits, passed}
 use Rattle.finality.specs.Tables.{Table, find}
 use Rattle.finality.specs.Stages.{Stages}
-use Rattle.finality.specs.Arcs.{Arc, start, steps, stepTime, inside, windowOf}
+use Rattle.finality.specs.Arcs.{Arc, start, steps, inside, windowOf}
 use Rattle.finality.specs.Brackets.{covers, bracketed}
 use Rattle.finality.specs.Detrending.{before, from, fromNode, detrend}
 use Rattle.finality.specs.Sheet.{largest, endOf, count, published, Observation, Submission, Valid, Grows, coveredIn, fieldIn, fitted, found, keptOf, kept, epochOf, orbits, sampleOf, times, horizon, countTo, final, sheet}

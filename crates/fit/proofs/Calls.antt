@@ -15,6 +15,7 @@ use Rattle.laws.specs.Checks.{all, rising, risingSeconds}
 use Rattle.laws.specs.Lists.{cond-ind}
 use Rattle.laws.specs.Loops.{cleared, same-cleared}
 use Rattle.laws.specs.Bools.{both-true}
+use Rattle.laws.specs.Times.{stepTime}
 use Rattle.vectors.specs.declared.Vector.{Vector}
 use Rattle.slices.specs.Slices.{copied}
 use Rattle.slices.specs.Calls.{left, settled}
@@ -24,7 +25,6 @@ use Rattle.lent.specs.Lent.{degreeFine, fieldsFine, few, lengthsFit, statesFit,
 use Rattle.lent.proofs.Passed.{all-pass, degree-passes, states-pass, lengths-room}
 use Rattle.finality.specs.Brackets.{covers}
 use Rattle.integrate.specs.declared.kernel.Arc.{Arc}
-use Rattle.integrate.specs.Steps.{timeOf}
 use Rattle.integrate.specs.Room.{Run, Orbit, flat}
 use Rattle.integrate.specs.Force.{model, frontSize, fullForce}
 use Rattle.integrate.specs.Calls.{outFits, arcFits}
@@ -88,7 +88,7 @@ unfolding fitOf
 fit-late covered full look arc =
     let few : Bool = ltb (length (observed look arc)) (arc .steps / 10) in
     let rest : Fit = fitFrom full arc (observed look arc) (look (arc .t0)) in
-    cond-ind Late (covered (arc .t0) && covered (timeOf (arc .t0) (arc .steps))) (cond few (Refused 7) rest) (Refused 6)
+    cond-ind Late (covered (arc .t0) && covered (stepTime (arc .t0) (arc .steps))) (cond few (Refused 7) rest) (Refused 6)
     (λ t. cond-ind Late few (Refused 7) rest (λ u. late 7 (omega arith)) (λ u. from-late full arc (observed look arc) (look (arc .t0))))
     (λ t. late 6 (omega arith))
 

@@ -20,9 +20,10 @@ use Rattle.fit.proofs.Steps.{within}
 use Rattle.forces.specs.Forces.{empiricalOf, fictitiousOf}
 use Rattle.integrate.specs.Force.{accelerationOf, argumentOf, runOf, strengthsOf}
 use Rattle.integrate.specs.Room.{Run, stateIn}
-use Rattle.integrate.specs.Steps.{Acceleration, stateAt, stepOf, timeOf}
+use Rattle.integrate.specs.Steps.{Acceleration, stateAt, stepOf}
 use Rattle.laws.specs.Floats.{_⊕_, _⊖_, _⊘_, two64}
 use Rattle.laws.specs.Tables.{row-same}
+use Rattle.laws.specs.Times.{stepTime}
 use Rattle.least_squares.specs.LeastSquares.{solvable, solved}
 use Rattle.vectors.specs.Vector.{plus}
 
@@ -36,18 +37,18 @@ step-same : (a a' : Acceleration) (t : Float) (s : State) → AgreeAt a a' t →
 unfolding stepOf
 step-same a a' t s h = let h₀ = h .start in let h₁ = h .middle in let h₂ = h .end in simp (h₀, h₁, h₂)
 
-state-same : (a a' : Acceleration) (t0 : Float) (s : State) (n : ℕ) → ((k : ℕ) → k < n → AgreeAt a a' (timeOf t0 k)) → stateAt a t0 s n ≡ stateAt a' t0 s n
+state-same : (a a' : Acceleration) (t0 : Float) (s : State) (n : ℕ) → ((k : ℕ) → k < n → AgreeAt a a' (stepTime t0 k)) → stateAt a t0 s n ≡ stateAt a' t0 s n
 unfolding stateAt
 state-same a a' t0 s zero h = refl
 state-same a a' t0 s (suc n) h =
-    step-same a a' (timeOf t0 n) (stateAt a t0 s n) (h n (omega arith))
-    ∙ ap (stepOf a' (timeOf t0 n)) (state-same a a' t0 s n (λ k l. h k (omega arith)))
+    step-same a a' (stepTime t0 n) (stateAt a t0 s n) (h n (omega arith))
+    ∙ ap (stepOf a' (stepTime t0 n)) (state-same a a' t0 s n (λ k l. h k (omega arith)))
 
 -- two attractions agree at the times of an arc
 pub record Agree (full full' : Float → Vector → Vector) (arc : Arc) : Type 0 where
-  pub start : (k : ℕ) → k < arc .steps → (x : Vector) → full (timeOf (arc .t0) k) x ≡ full' (timeOf (arc .t0) k) x
-  pub middle : (k : ℕ) → k < arc .steps → (x : Vector) → full (timeOf (arc .t0) k ⊕ two64 ⊘ two64) x ≡ full' (timeOf (arc .t0) k ⊕ two64 ⊘ two64) x
-  pub end : (k : ℕ) → k < arc .steps → (x : Vector) → full (timeOf (arc .t0) k ⊕ two64) x ≡ full' (timeOf (arc .t0) k ⊕ two64) x
+  pub start : (k : ℕ) → k < arc .steps → (x : Vector) → full (stepTime (arc .t0) k) x ≡ full' (stepTime (arc .t0) k) x
+  pub middle : (k : ℕ) → k < arc .steps → (x : Vector) → full (stepTime (arc .t0) k ⊕ two64 ⊘ two64) x ≡ full' (stepTime (arc .t0) k ⊕ two64 ⊘ two64) x
+  pub end : (k : ℕ) → k < arc .steps → (x : Vector) → full (stepTime (arc .t0) k ⊕ two64) x ≡ full' (stepTime (arc .t0) k ⊕ two64) x
 
 module _ (full full' : Float → Vector → Vector) (arc : Arc) (g : Agree full full' arc) where
   run-same : (p : List Float) (n : ℕ) → n ≤ arc .steps → runOf full arc p n ≡ runOf full' arc p n
@@ -56,9 +57,9 @@ module _ (full full' : Float → Vector → Vector) (arc : Arc) (g : Agree full 
       let rest : Float → Vector → Vector → Vector = λ t x v. plus (fictitiousOf x v) (empiricalOf x v (argumentOf arc t) (strengthsOf p)) in
       state-same (accelerationOf full arc (strengthsOf p)) (accelerationOf full' arc (strengthsOf p)) (arc .t0) (stateIn p 0) n
       (λ k h. record {
-        start = λ x v. ap (λ (y : Vector). plus y (rest (timeOf (arc .t0) k) x v)) (g .start k (omega arith) x);
-        middle = λ x v. ap (λ (y : Vector). plus y (rest (timeOf (arc .t0) k ⊕ two64 ⊘ two64) x v)) (g .middle k (omega arith) x);
-        end = λ x v. ap (λ (y : Vector). plus y (rest (timeOf (arc .t0) k ⊕ two64) x v)) (g .end k (omega arith) x);
+        start = λ x v. ap (λ (y : Vector). plus y (rest (stepTime (arc .t0) k) x v)) (g .start k (omega arith) x);
+        middle = λ x v. ap (λ (y : Vector). plus y (rest (stepTime (arc .t0) k ⊕ two64 ⊘ two64) x v)) (g .middle k (omega arith) x);
+        end = λ x v. ap (λ (y : Vector). plus y (rest (stepTime (arc .t0) k ⊕ two64) x v)) (g .end k (omega arith) x);
       })
 
   module _ (obs : List Observed) (w : Within obs (arc .steps)) where
@@ -95,20 +96,20 @@ module _ (full full' : Float → Vector → Vector) (arc : Arc) (g : Agree full 
     from-same Missing = refl
 
 -- two look-ups agree at every fifth step
-observed-same : (look look' : Float → Held) (t0 : Float) (c : ℕ) → ((k : ℕ) → k < c → look (timeOf t0 (5 * k)) ≡ look' (timeOf t0 (5 * k))) → observedTo look t0 c ≡ observedTo look' t0 c
+observed-same : (look look' : Float → Held) (t0 : Float) (c : ℕ) → ((k : ℕ) → k < c → look (stepTime t0 (5 * k)) ≡ look' (stepTime t0 (5 * k))) → observedTo look t0 c ≡ observedTo look' t0 c
 unfolding observedTo
 observed-same look look' t0 zero h = refl
 observed-same look look' t0 (suc c) h =
-    ap (λ (l : List Observed). l ++ seen (5 * c) (look (timeOf t0 (5 * c)))) (observed-same look look' t0 c (λ k l. h k (omega arith)))
+    ap (λ (l : List Observed). l ++ seen (5 * c) (look (stepTime t0 (5 * c)))) (observed-same look look' t0 c (λ k l. h k (omega arith)))
     ∙ ap (λ (x : Held). observedTo look' t0 c ++ seen (5 * c) x) (h c (omega arith))
 
 -- what a fit reads of two models and two tables is the same
 pub record SameReads (covered covered' : Float → Bool) (full full' : Float → Vector → Vector) (look look' : Float → Held) (arc : Arc) : Type 0 where
   pub first : covered (arc .t0) ≡ covered' (arc .t0)
-  pub last : covered (timeOf (arc .t0) (arc .steps)) ≡ covered' (timeOf (arc .t0) (arc .steps))
+  pub last : covered (stepTime (arc .t0) (arc .steps)) ≡ covered' (stepTime (arc .t0) (arc .steps))
   pub force : Agree full full' arc
   pub start : look (arc .t0) ≡ look' (arc .t0)
-  pub places : (c : ℕ) → c < arc .steps / 5 + 1 → look (timeOf (arc .t0) (5 * c)) ≡ look' (timeOf (arc .t0) (5 * c))
+  pub places : (c : ℕ) → c < arc .steps / 5 + 1 → look (stepTime (arc .t0) (5 * c)) ≡ look' (stepTime (arc .t0) (5 * c))
 
 module _ (covered covered' : Float → Bool) (full full' : Float → Vector → Vector) (look look' : Float → Held) (arc : Arc) (l : arc .steps ≤ 5302) (r : SameReads covered covered' full full' look look' arc) where
   places-same : observed look arc ≡ observed look' arc

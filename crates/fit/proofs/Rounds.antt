@@ -27,7 +27,6 @@ use Rattle.forces.specs.Forces.{j2Of}
 use Rattle.integrate.proofs.Places.{only-same, only-then, stays3}
 use Rattle.integrate.specs.Force.{Model, attractionOf, fullForce, runOf}
 use Rattle.integrate.specs.Room.{Holds3, Only, Orbit, Run}
-use Rattle.integrate.specs.Steps.{timeOf}
 use Rattle.laws.specs.Floats.{_⊖_}
 use Rattle.laws.specs.Tables.{row, row-at, row-length}
 use Rattle.laws.specs.WholeNumbers.{number}

@@ -15,9 +15,9 @@ use Rattle.fit.specs.declared.kernel.Held.the-variants.{Known, Missing}
 use Rattle.fit.specs.Fit.{Observed, nth, seen, observedTo, observed}
 use Rattle.fit.specs.Room.{stepNumber}
 use Rattle.fit.specs.Contracts.{Within}
-use Rattle.integrate.specs.Steps.{timeOf}
 use Rattle.laws.specs.WholeNumbers.{number}
 use Rattle.laws.specs.Bools.{by, left-true, right-true}
+use Rattle.laws.specs.Times.{stepTime}
 
 pub record Fifth (k c : ℕ) : Type 0 where
   pub n : ℕ
@@ -43,7 +43,7 @@ more c obs Missing f j h =
 fifths : (look : Float → Held) (t0 : Float) (c : ℕ) → (j : ℕ) → j < length (observedTo look t0 c) → Fifth (nth (observedTo look t0 c) j .step) c
 unfolding observedTo
 fifths look t0 zero j h = absurd (omega arith)
-fifths look t0 (suc c) j h = more c (observedTo look t0 c) (look (timeOf t0 (5 * c))) (fifths look t0 c) j h
+fifths look t0 (suc c) j h = more c (observedTo look t0 c) (look (stepTime t0 (5 * c))) (fifths look t0 c) j h
 
 -- whether f holds at each number below n
 unfoldable allTo : (ℕ → Bool) → ℕ → Bool

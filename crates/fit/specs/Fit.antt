@@ -20,13 +20,13 @@ use Rattle.fit.specs.declared.kernel.Fitted.the-variants.{Fitted, Refuse
 use Rattle.forces.specs.Forces.{j2Of}
 use Rattle.integrate.specs.Force.{runOf}
 use Rattle.integrate.specs.Room.{Run, stateIn}
-use Rattle.integrate.specs.Steps.{timeOf}
 use Rattle.numbers.specs.Seconds.{wholeSecond}
 use Rattle.slices.specs.Slices.{lookup}
 use Rattle.laws.specs.Floats.{_⊕_, _⊖_, _⊗_, _⊘_, one64, zero64, bits}
 use Rattle.laws.specs.Sums.{sumTo}
 use Rattle.laws.specs.Tables.{row}
 use Rattle.laws.specs.WholeNumbers.{number}
+use Rattle.laws.specs.Times.{stepTime}
 use Rattle.least_squares.specs.LeastSquares.{solvable, solved}
 
 -- ---- what a fit reads
@@ -52,7 +52,7 @@ seen k Missing = []
 -- the positions held at steps 0, 5, 10 and so on, c steps in all
 unfoldable pub observedTo : (Float → Held) → Float → ℕ → List Observed
 observedTo look t0 zero = []
-observedTo look t0 (suc c) = observedTo look t0 c ++ seen (5 * c) (look (timeOf t0 (5 * c)))
+observedTo look t0 (suc c) = observedTo look t0 c ++ seen (5 * c) (look (stepTime t0 (5 * c)))
 
 -- those of an arc
 unfoldable pub observed : (Float → Held) → Arc → List Observed
@@ -137,7 +137,7 @@ module _ (full : Float → Vector → Vector) (arc : Arc) (obs : List Observed) 
 -- the answer: an rms, or document 01's number of the refusal
 unfoldable pub fitOf : (Float → Bool) → (Float → Vector → Vector) → (Float → Held) → Arc → Fit
 fitOf covered full look arc =
-    cond (covered (arc .t0) && covered (timeOf (arc .t0) (arc .steps)))
+    cond (covered (arc .t0) && covered (stepTime (arc .t0) (arc .steps)))
     (cond (ltb (length (observed look arc)) (arc .steps / 10)) (Refused 7) (fitFrom full arc (observed look arc) (look (arc .t0))))
     (Refused 6)
 

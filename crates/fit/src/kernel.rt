@@ -11,11 +11,11 @@ ghost use mathlib.Core.List.{List, _++_};
 ghost use Prim.Native.Nat.{ℕ, _+_, _*_, _/_, _≤_, _<_};
 ghost use lib.Ieee.{Float, nan};
 ghost use lib.ListN.{length, getD, replicate};
+ghost use Rattle.laws.specs.Times.{stepTime};
 ghost use Rattle.laws.specs.Checks.{risingSeconds};
 ghost use Rattle.numbers.specs.Seconds.{wholeSecond};
 ghost use Rattle.slices.specs.Slices.{lookup};
 ghost use Rattle.finality.specs.Brackets.{covers};
-ghost use Rattle.integrate.specs.Steps.{timeOf};
 ghost use Rattle.integrate.specs.Room.{Only, Orbit};
 ghost use Rattle.integrate.specs.Force.{model, frontSize, fullForce, attractionOf, runOf};
 ghost use Rattle.integrate.specs.declared.kernel.Force.the-variants.{Full, J2};
@@ -225,7 +225,7 @@ fn note(
     n: usize,
 ) -> usize
     requires { ⌜ (risingSeconds (now keys) ≡ true) × (length (now states) ≡ 6 * length (now keys)) × (n ≤ c) × (c < 1061) × (base + 90173 ≤ length (now s)) ⌝ }
-    ensures { λ r. ⌜ Noted (now (s .entry)) (now (s .exit)) base n (seen (5 * c) (stateFor (now (keys .entry)) (now (states .entry)) (timeOf t0 (5 * c)))) r ⌝ }
+    ensures { λ r. ⌜ Noted (now (s .entry)) (now (s .exit)) base n (seen (5 * c) (stateFor (now (keys .entry)) (now (states .entry)) (stepTime t0 (5 * c)))) r ⌝ }
 {
     let held = state_for(keys, states, integrate::kernel::time(t0, 5 * c));
     match held {

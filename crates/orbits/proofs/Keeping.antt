@@ -12,14 +12,13 @@ use lib.Seq.{set-append-seam}
 use Rattle.laws.specs.Floats.{zero64}
 use Rattle.laws.specs.Lists.{map-append}
 use Rattle.laws.specs.Loops.{fill-turn, fill-done}
-use Rattle.laws.specs.Times.{Time}
+use Rattle.laws.specs.Times.{Time, stepTime}
 use Rattle.laws.specs.Bools.{by}
 use Rattle.laws.specs.Tables.{row}
 use Rattle.numbers.specs.Seconds.{wholeSecond}
 use Rattle.finality.specs.Tables.{Table, keyOf}
 use Rattle.finality.specs.Arcs.{inside}
 use Rattle.integrate.specs.Room.{Run, Orbit, six, stateIn}
-use Rattle.integrate.specs.Steps.{timeOf}
 use Rattle.integrate.specs.declared.kernel.State.{State}
 use Rattle.windows.specs.Slots.{within, keptIf}
 use Rattle.windows.proofs.Shelves.{keptTo, keptCount, kept-inside, state-read, few}
@@ -161,7 +160,7 @@ keeping-none t0 from to s base first keys states = record {
 }
 
 -- how many of the first steps lie inside, with one more that does
-pub few-more : (t0 from to : Float) (k m : ℕ) → Time from → Time to → ((run : Run) → length (inside t0 from to 0 (row run m)) ≤ 3500) → k < m → within from to (timeOf t0 k) ≡ true → keptCount t0 from to k + 1 ≤ 3500
+pub few-more : (t0 from to : Float) (k m : ℕ) → Time from → Time to → ((run : Run) → length (inside t0 from to 0 (row run m)) ≤ 3500) → k < m → within from to (stepTime t0 k) ≡ true → keptCount t0 from to k + 1 ≤ 3500
 unfolding keptCount
 few-more t0 from to k m ft ut h l e =
     let most = few t0 from to (suc k) m ft ut h l in
@@ -169,17 +168,17 @@ few-more t0 from to k m ft ut h l e =
     omega (arith, most, next)
 
 pub keeping-more : (t0 from to : Float) (s : List Float) (base first k n r : ℕ) (keys keys₁ keys₂ : List ℤ) (states states₁ states₂ : List Float) →
-    (within from to (timeOf t0 k) ≡ true → keptCount t0 from to k + 1 ≤ 3500) → Keeping t0 from to s base first k n keys keys₁ states states₁ →
-    Kept (within from to (timeOf t0 k)) (wholeSecond (timeOf t0 k)) (stateIn s (base + 6 * k)) n r keys₁ keys₂ states₁ states₂ → Keeping t0 from to s base first (k + 1) r keys keys₂ states states₂
+    (within from to (stepTime t0 k) ≡ true → keptCount t0 from to k + 1 ≤ 3500) → Keeping t0 from to s base first k n keys keys₁ states states₁ →
+    Kept (within from to (stepTime t0 k)) (wholeSecond (stepTime t0 k)) (stateIn s (base + 6 * k)) n r keys₁ keys₂ states₁ states₂ → Keeping t0 from to s base first (k + 1) r keys keys₂ states states₂
 unfolding keptTo keptCount
 keeping-more t0 from to s base first k n r keys keys₁ keys₂ states states₁ states₂ room f w =
-    let b : Bool = within from to (timeOf t0 k) in
-    let next : keptTo (readRun s base) t0 from to (k + 1) ≡ keptTo (readRun s base) t0 from to k ++ keptIf b (wholeSecond (timeOf t0 k)) (stateIn s (base + 6 * k)) = rw add-one in
+    let b : Bool = within from to (stepTime t0 k) in
+    let next : keptTo (readRun s base) t0 from to (k + 1) ≡ keptTo (readRun s base) t0 from to k ++ keptIf b (wholeSecond (stepTime t0 k)) (stateIn s (base + 6 * k)) = rw add-one in
     record {
       all = λ m table h t.
           subst (λ (x : Table State). Tabled m x r keys₂ states₂)
-          (append-assoc table (keptTo (readRun s base) t0 from to k) (keptIf b (wholeSecond (timeOf t0 k)) (stateIn s (base + 6 * k))) ∙ ap (λ (x : Table State). table ++ x) (sym next))
-          (tabled-more b (wholeSecond (timeOf t0 k)) (stateIn s (base + 6 * k)) n r keys₁ keys₂ states₁ states₂ w m (table ++ keptTo (readRun s base) t0 from to k) (λ e. let q = room e in let c = f .counted in omega arith) (f .all m table h t));
+          (append-assoc table (keptTo (readRun s base) t0 from to k) (keptIf b (wholeSecond (stepTime t0 k)) (stateIn s (base + 6 * k))) ∙ ap (λ (x : Table State). table ++ x) (sym next))
+          (tabled-more b (wholeSecond (stepTime t0 k)) (stateIn s (base + 6 * k)) n r keys₁ keys₂ states₁ states₂ w m (table ++ keptTo (readRun s base) t0 from to k) (λ e. let q = room e in let c = f .counted in omega arith) (f .all m table h t));
       counted = rw add-one (w .counted ∙ (let c = f .counted in ap (λ (x : ℕ). x + cond b 1 0) c ∙ omega arith));
       longKeys = kept-keys b _ _ n r keys₁ keys₂ states₁ states₂ w ∙ f .longKeys;
       longStates = kept-states b _ _ n r keys₁ keys₂ states₁ states₂ w ∙ f .longStates;

@@ -12,15 +12,14 @@ use lib.IntN.{ℤ}
 use lib.ListN.{length}
 use lib.Ieee.{Float, binary64, div, ofBits}
 use Rattle.laws.specs.Floats.{_⊕_, _⊘_, bits, one64, two64}
-use Rattle.laws.specs.Times.{second}
+use Rattle.laws.specs.Times.{second, step, stepTime}
 use Rattle.laws.specs.Tables.{row-length, row-same}
-use Rattle.finality.specs.Arcs.{Arc, Fit, step, halfStep, stepTime}
+use Rattle.finality.specs.Arcs.{Arc, Fit, halfStep}
 use Rattle.finality.proofs.Fits.{LawfulFit}
 use Rattle.vectors.specs.Vector.{plus}
 use Rattle.vectors.specs.declared.Vector.{Vector}
 use Rattle.forces.specs.Forces.{tidesOf}
 use Rattle.integrate.specs.Room.{Run}
-use Rattle.integrate.specs.Steps.{timeOf}
 use Rattle.integrate.specs.declared.kernel.State.{State}
 use Rattle.fit.specs.Fit.{fitOf, orbitOf}
 use Rattle.fit.specs.declared.kernel.Held.{Held}
@@ -49,10 +48,6 @@ half-step : two64 ⊘ two64 ≡ halfStep
 unfolding div ofBits
 half-step = refl
 
-time-of : (t0 : Float) (k : ℕ) → timeOf t0 k ≡ stepTime t0 k
-unfolding timeOf stepTime
-time-of t0 k = refl
-
 module _ (S : Setting) (c c' : Float → Bool) (m m' : Float → List Float) (g g' : ℤ → Option State) (arc : Arc)
     (first : c (arc .t0) ≡ c' (arc .t0)) (start : g (second (arc .t0)) ≡ g' (second (arc .t0)))
     (covers : (i : ℕ) → i ≤ arc .steps → c (stepTime (arc .t0) i) ≡ c' (stepTime (arc .t0) i))
@@ -63,24 +58,16 @@ module _ (S : Setting) (c c' : Float → Bool) (m m' : Float → List Float) (g 
   pull : (t : Float) (x : Vector) → m t ≡ m' t → fullOf S m t x ≡ fullOf S m' t x
   pull t x e = ap (λ (f : List Float). plus (gravityOf S f x) (tidesOf t x)) e
 
-  at-times : (k : ℕ) → k < arc .steps → m (timeOf (arc .t0) k) ≡ m' (timeOf (arc .t0) k)
-  at-times k h = ap m (time-of (arc .t0) k) ∙ at-step k h ∙ ap m' (sym (time-of (arc .t0) k))
-
-  at-halves : (k : ℕ) → k < arc .steps → m (timeOf (arc .t0) k ⊕ two64 ⊘ two64) ≡ m' (timeOf (arc .t0) k ⊕ two64 ⊘ two64)
+  at-halves : (k : ℕ) → k < arc .steps → m (stepTime (arc .t0) k ⊕ two64 ⊘ two64) ≡ m' (stepTime (arc .t0) k ⊕ two64 ⊘ two64)
   at-halves k h =
-      let e : timeOf (arc .t0) k ⊕ two64 ⊘ two64 ≡ stepTime (arc .t0) k ⊕ halfStep = (λ i. time-of (arc .t0) k i ⊕ half-step i) in
+      let e : stepTime (arc .t0) k ⊕ two64 ⊘ two64 ≡ stepTime (arc .t0) k ⊕ halfStep = ap (λ (h : Float). stepTime (arc .t0) k ⊕ h) half-step in
       ap m e ∙ at-half k h ∙ ap m' (sym e)
-
-  at-nexts : (k : ℕ) → k < arc .steps → m (timeOf (arc .t0) k ⊕ two64) ≡ m' (timeOf (arc .t0) k ⊕ two64)
-  at-nexts k h =
-      let e : timeOf (arc .t0) k ⊕ two64 ≡ stepTime (arc .t0) k ⊕ step = ap (λ (t : Float). t ⊕ two64) (time-of (arc .t0) k) in
-      ap m e ∙ at-next k h ∙ ap m' (sym e)
 
   agree : Agree (fullOf S m) (fullOf S m') (arcStruct arc)
   agree = record {
-    start = λ k h x. pull (timeOf (arc .t0) k) x (at-times k h);
-    middle = λ k h x. pull (timeOf (arc .t0) k ⊕ two64 ⊘ two64) x (at-halves k h);
-    end = λ k h x. pull (timeOf (arc .t0) k ⊕ two64) x (at-nexts k h);
+    start = λ k h x. pull (stepTime (arc .t0) k) x (at-step k h);
+    middle = λ k h x. pull (stepTime (arc .t0) k ⊕ two64 ⊘ two64) x (at-halves k h);
+    end = λ k h x. pull (stepTime (arc .t0) k ⊕ two64) x (at-next k h);
   }
 
   held-same : (t : Float) → g (second t) ≡ g' (second t) → lookOf g t ≡ lookOf g' t
@@ -89,10 +76,10 @@ module _ (S : Setting) (c c' : Float → Bool) (m m' : Float → List Float) (g 
   same-reads : SameReads c c' (fullOf S m) (fullOf S m') (lookOf g) (lookOf g') (arcStruct arc)
   same-reads = record {
     first = first;
-    last = ap c (time-of (arc .t0) (arc .steps)) ∙ covers (arc .steps) (le-refl (arc .steps)) ∙ ap c' (sym (time-of (arc .t0) (arc .steps)));
+    last = covers (arc .steps) (le-refl (arc .steps));
     force = agree;
     start = held-same (arc .t0) start;
-    places = λ n h. held-same (timeOf (arc .t0) (5 * n)) (ap (λ (t : Float). g (second t)) (time-of (arc .t0) (5 * n)) ∙ states (5 * n) (omega arith) ∙ ap (λ (t : Float). g' (second t)) (sym (time-of (arc .t0) (5 * n))));
+    places = λ n h. held-same (stepTime (arc .t0) (5 * n)) (states (5 * n) (omega arith));
   }
 
   fit-reads-same : fitStage S c m g arc ≡ fitStage S c' m' g' arc

@@ -11,13 +11,12 @@ use lib.Ieee.{Float, nan, le, lt}
 use lib.ListN.{length, getD, set, length-set, length-append, List·getD-append}
 use lib.Seq.{getD-set-same, getD-at}
 use borrow.Author.Tests.{eqb-true, eqb-false}
-use Rattle.laws.specs.Times.{Time, second, secondTime}
+use Rattle.laws.specs.Times.{Time, second, secondTime, stepTime}
 use Rattle.laws.specs.Bools.{by}
 use Rattle.laws.specs.Tables.{row, row-length}
 use Rattle.numbers.specs.Seconds.{wholeSecond}
 use Rattle.finality.specs.Tables.{Table}
-use Rattle.finality.specs.Arcs.{inside, stepTime}
-use Rattle.integrate.specs.Steps.{timeOf}
+use Rattle.finality.specs.Arcs.{inside}
 use Rattle.integrate.specs.declared.kernel.State.{State}
 use Rattle.integrate.specs.Room.{Run, stateIn, Only, Holds3, Orbit}
 use Rattle.integrate.specs.Work.{Stored}
@@ -90,12 +89,12 @@ keeping-at s s' at n b t t₁ state state₁ et es e w =
 -- those of the first k steps
 unfoldable pub keptTo : Run → Float → Float → Float → ℕ → Table State
 keptTo run t0 from to zero = []
-keptTo run t0 from to (suc k) = keptTo run t0 from to k ++ keptIf (within from to (timeOf t0 k)) (wholeSecond (timeOf t0 k)) (run k)
+keptTo run t0 from to (suc k) = keptTo run t0 from to k ++ keptIf (within from to (stepTime t0 k)) (wholeSecond (stepTime t0 k)) (run k)
 
 -- how many there are
 unfoldable pub keptCount : Float → Float → Float → ℕ → ℕ
 keptCount t0 from to zero = 0
-keptCount t0 from to (suc k) = keptCount t0 from to k + cond (within from to (timeOf t0 k)) 1 0
+keptCount t0 from to (suc k) = keptCount t0 from to k + cond (within from to (stepTime t0 k)) 1 0
 
 inside-append : {X : Type 0} (t0 a b : Float) (i : ℕ) (xs ys : List X) → inside t0 a b i (xs ++ ys) ≡ inside t0 a b i xs ++ inside t0 a b (length xs + i) ys
 unfolding inside
@@ -109,11 +108,11 @@ inside-append {X} t0 a b i (x ∷ xs) ys =
 
 -- where both ends of the window are times these are the states inside it
 last-inside : (run : Run) (t0 from to : Float) (k : ℕ) → Time from → Time to →
-    inside t0 from to k (run k ∷ []) ≡ keptIf (within from to (timeOf t0 k)) (wholeSecond (timeOf t0 k)) (run k)
-unfolding inside timeOf stepTime
+    inside t0 from to k (run k ∷ []) ≡ keptIf (within from to (stepTime t0 k)) (wholeSecond (stepTime t0 k)) (run k)
+unfolding inside stepTime
 last-inside run t0 from to k ft ut =
-    by (within from to (timeOf t0 k))
-    (λ e. rw e (ap (λ (z : ℤ). (z, run k) ∷ []) (sym (held-inside from to (timeOf t0 k) ft ut (subst T (sym e) tt)))))
+    by (within from to (stepTime t0 k))
+    (λ e. rw e (ap (λ (z : ℤ). (z, run k) ∷ []) (sym (held-inside from to (stepTime t0 k) ft ut (subst T (sym e) tt)))))
     (λ e. rw e refl)
 
 pub kept-inside : (run : Run) (t0 from to : Float) (k : ℕ) → Time from → Time to → inside t0 from to 0 (row run k) ≡ keptTo run t0 from to k
@@ -156,8 +155,8 @@ kept-length : (run : Run) (t0 from to : Float) (k : ℕ) → length (keptTo run 
 unfolding keptTo keptCount
 kept-length run t0 from to zero = refl
 kept-length run t0 from to (suc k) =
-    length-append (keptTo run t0 from to k) (keptIf (within from to (timeOf t0 k)) (wholeSecond (timeOf t0 k)) (run k))
-    ∙ by (within from to (timeOf t0 k)) (λ e. simp (e, kept-length run t0 from to k)) (λ e. simp (e, kept-length run t0 from to k))
+    length-append (keptTo run t0 from to k) (keptIf (within from to (stepTime t0 k)) (wholeSecond (stepTime t0 k)) (run k))
+    ∙ by (within from to (stepTime t0 k)) (λ e. simp (e, kept-length run t0 from to k)) (λ e. simp (e, kept-length run t0 from to k))
 
 inside-length : (run : Run) (t0 from to : Float) (k : ℕ) → Time from → Time to → length (inside t0 from to 0 (row run k)) ≡ keptCount t0 from to k
 inside-length run t0 from to k ft ut = ap (λ (l : Table State). length l) (kept-inside run t0 from to k ft ut) ∙ kept-length run t0 from to k
@@ -179,15 +178,15 @@ few t0 from to k m ft ut h l =
     omega (arith, a, b, c)
 
 pub shelf-more : (t0 from to : Float) (s s₁ s₂ : List Float) (base at k n r : ℕ) → base + 31818 ≤ at → k ≤ 5302 → n ≤ 3500 → Shelf t0 from to s s₁ base at k n →
-    Keeping s₁ s₂ at n (within from to (timeOf t0 k)) (wholeSecond (timeOf t0 k)) (stateIn s₁ (base + 6 * k)) r → Shelf t0 from to s s₂ base at (k + 1) r
+    Keeping s₁ s₂ at n (within from to (stepTime t0 k)) (wholeSecond (stepTime t0 k)) (stateIn s₁ (base + 6 * k)) r → Shelf t0 from to s s₂ base at (k + 1) r
 unfolding keptTo keptCount
 shelf-more t0 from to s s₁ s₂ base at k n r h lk ln f w = record {
   all = λ run m o l.
-      let next : keptTo run t0 from to (k + 1) ≡ keptTo run t0 from to k ++ keptIf (within from to (timeOf t0 k)) (wholeSecond (timeOf t0 k)) (run k) = rw add-one in
+      let next : keptTo run t0 from to (k + 1) ≡ keptTo run t0 from to k ++ keptIf (within from to (stepTime t0 k)) (wholeSecond (stepTime t0 k)) (run k) = rw add-one in
       let same : stateIn s₁ (base + 6 * k) ≡ run k = state-kept run m o (omega arith) in
-      subst (λ (x : Table State). Entries s₂ at x) (ap (λ (x : State). keptTo run t0 from to k ++ keptIf (within from to (timeOf t0 k)) (wholeSecond (timeOf t0 k)) x) same ∙ sym next)
+      subst (λ (x : Table State). Entries s₂ at x) (ap (λ (x : State). keptTo run t0 from to k ++ keptIf (within from to (stepTime t0 k)) (wholeSecond (stepTime t0 k)) x) same ∙ sym next)
       (w .all (keptTo run t0 from to k) (kept-length run t0 from to k ∙ sym (f .counted)) (f .all run m o (omega arith)));
-  counted = rw add-one (w .counted ∙ ap (λ (x : ℕ). x + cond (within from to (timeOf t0 k)) 1 0) (f .counted));
+  counted = rw add-one (w .counted ∙ ap (λ (x : ℕ). x + cond (within from to (stepTime t0 k)) 1 0) (f .counted));
   only = only-then at (at + 24599) at (at + 24599) at (at + 7 * n + 7) s s₁ s₂ (f .only) (w .only) (omega arith) (omega arith) (omega arith) (omega arith);
 }
   where

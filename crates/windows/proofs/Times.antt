@@ -12,9 +12,9 @@ use lib.Ieee.Bits.{is-true}
 use Rattle.laws.specs.Floats.{zero⁺, zero64, two64, _⊕_, _⊖_, _⊗_, _⊘_}
 use Rattle.laws.specs.Order.{le-tr, lt→le, lt-le-tr, le-lt-tr, sub-mono-l, add-mono-l}
 use Rattle.laws.specs.WholeNumbers.{Is, is-le, number, number-is, add-int, sub-int, two-mul-int, half-int, half-mono, floor, between, Floored}
-use Rattle.laws.specs.Times.{Time, bound, natural, natural-le, natural-next, second}
+use Rattle.laws.specs.Times.{Time, bound, natural, natural-le, natural-next, second, step}
 use Rattle.numbers.specs.Seconds.{isHeld, wholeSecond}
-use Rattle.finality.specs.Arcs.{halfHour, step, longest, start, steps}
+use Rattle.finality.specs.Arcs.{halfHour, longest, start, steps}
 use Rattle.finality.proofs.Windows.{k, k-le, P, N, floored, P-le, N-le, half}
 use Rattle.windows.specs.Slots.{lowest, highest, within}
 

@@ -16,6 +16,7 @@ use Rattle.laws.specs.Floats.{zero64, _⊖_}
 use Rattle.laws.specs.Order.{lt→le}
 use Rattle.laws.specs.WholeNumbers.{Is, is-le, is-lt}
 use Rattle.laws.specs.Bools.{by}
+use Rattle.laws.specs.Times.{stepTime}
 use Rattle.numbers.specs.Seconds.{isHeld}
 use Rattle.vectors.specs.declared.Vector.{Vector}
 use Rattle.series.specs.Prepared.{prepared}
@@ -23,9 +24,8 @@ use Rattle.model.specs.Model.{fieldAt}
 use Rattle.model.specs.Calls.{atFits}
 use Rattle.finality.specs.Brackets.{covers}
 use Rattle.finality.specs.Tables.{Table, find}
-use Rattle.finality.specs.Arcs.{longest, start, steps, stepTime, arcOf, inside, windowOf}
+use Rattle.finality.specs.Arcs.{longest, start, steps, arcOf, inside, windowOf}
 use Rattle.finality.proofs.Windows.{k, k-le, P, N, P-le, N-le, steps-le, step-is, steps-short}
-use Rattle.integrate.specs.Steps.{timeOf}
 use Rattle.integrate.specs.Force.{model, frontSize, fullForce}
 use Rattle.integrate.specs.declared.kernel.State.{State}
 use Rattle.integrate.specs.declared.kernel.Arc.{Arc as ArcStruct}
@@ -52,8 +52,8 @@ module _ (a b : Float) (e : Ends a b) where
   ab = lt→le a b (e .order)
 
   -- every step's second is an i64
-  held-step : (i : ℕ) → i ≤ steps a b → isHeld (timeOf (start a) i) ≡ true
-  unfolding timeOf stepTime
+  held-step : (i : ℕ) → i ≤ steps a b → isHeld (stepTime (start a) i) ≡ true
+  unfolding stepTime
   held-step i h =
       let s = step-is a b (e .from) (e .to) ab i h in
       let p = P-le a b (e .from) (e .to) ab in
@@ -72,7 +72,7 @@ module _ (a b : Float) (e : Ends a b) where
       both-hold (le (fin true 1 (pos 63)) (start a)) (lt (start a) (fin false 1 (pos 63))) (is-le (fin true 1 (pos 63)) (start a) 0 9223372036854775808 _ _ lower-is s (omega (arith, n)))
       (is-lt (start a) (fin false 1 (pos 63)) _ _ 9223372036854775808 0 s upper-is (omega (arith, p, n, kk)))
 
-  module _ (covered : Float → Bool) (full : Float → Vector → Vector) (look look' : Float → Held) (same : (i : ℕ) → i ≤ steps a b → look (timeOf (start a) i) ≡ look' (timeOf (start a) i)) (first : look (start a) ≡ look' (start a)) where
+  module _ (covered : Float → Bool) (full : Float → Vector → Vector) (look look' : Float → Held) (same : (i : ℕ) → i ≤ steps a b → look (stepTime (start a) i) ≡ look' (stepTime (start a) i)) (first : look (start a) ≡ look' (start a)) where
     reads : SameReads covered covered full full look look' (arcStruct (arcOf a b))
     reads = record {
       first = refl;
@@ -103,5 +103,5 @@ window-is M field ta tb ts added keys states fit a b e =
     let look' : Float → Held = lookOf (λ (key : ℤ). find key (statesIn keys states)) in
     rw (t, within) (ap (λ (l : List State). inside (start a) a b 0 l)
     ((λ i. statesOf (fitOf (covers ts) (λ u x. full-is M field ta tb ts added fit u x i) (stateFor keys states) (arcStruct (arcOf a b))) (orbitOf (λ u x. full-is M field ta tb ts added fit u x i) (stateFor keys states) (arcStruct (arcOf a b))) (steps a b))
-    ∙ look-same a b e (covers ts) full (stateFor keys states) look' (λ i h. look-is keys states (timeOf (start a) i) (held-step a b e i h)) (look-is keys states (start a) (held-start a b e)) few)))
+    ∙ look-same a b e (covers ts) full (stateFor keys states) look' (λ i h. look-is keys states (stepTime (start a) i) (held-step a b e i h)) (look-is keys states (start a) (held-start a b e)) few)))
     (λ t. rw t refl)

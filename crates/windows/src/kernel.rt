@@ -8,14 +8,13 @@ ghost use lib.ListN.{length, getD};
 ghost use Rattle.laws.specs.Checks.{risingSeconds};
 ghost use Rattle.laws.specs.Floats.{zero64, _⊖_};
 ghost use Rattle.laws.specs.WholeNumbers.{ceil, floor};
-ghost use Rattle.laws.specs.Times.{Time, secondTime};
+ghost use Rattle.laws.specs.Times.{stepTime, Time, secondTime};
 ghost use Rattle.numbers.specs.Seconds.{wholeSecond};
 ghost use Rattle.finality.specs.Arcs.{start, steps, longest, inside};
 ghost use Rattle.laws.specs.Tables.{row};
 ghost use Rattle.finality.specs.Brackets.{covers};
 ghost use Rattle.integrate.specs.Force.{model, frontSize, fullForce};
 ghost use Rattle.integrate.specs.Room.{Run, stateIn};
-ghost use Rattle.integrate.specs.Steps.{timeOf};
 ghost use Rattle.fit.specs.Fit.{stateFor};
 ghost use Rattle.windows.specs.Windows.{windowBy, windowFine, arcBetween, roomFor, windowsServe, Leaves, Windowed, Ends, Filled, WindowsFit};
 ghost use Rattle.windows.specs.Slots.{lowest, highest, within, Entered, Keeping, Keeps};
@@ -128,7 +127,7 @@ fn keep_step(
     n: usize,
 ) -> usize
     requires { ⌜ (k ≤ 5302) × (base + 31818 ≤ at) × (n ≤ 3500) × (at + 24599 ≤ length (now s)) ⌝ }
-    ensures { λ r. ⌜ Keeping (now (s .entry)) (now (s .exit)) at n (within from to (timeOf t0 k)) (wholeSecond (timeOf t0 k)) (stateIn (now (s .entry)) (base + 6 * k)) r ⌝ }
+    ensures { λ r. ⌜ Keeping (now (s .entry)) (now (s .exit)) at n (within from to (stepTime t0 k)) (wholeSecond (stepTime t0 k)) (stateIn (now (s .entry)) (base + 6 * k)) r ⌝ }
 {
     let t = integrate::kernel::time(t0, k);
     if within(from, to, t) {
