@@ -10,6 +10,7 @@ use lib.ListN.{length, getD, set, replicate, length-append, length-set}
 use Rattle.laws.specs.Floats.{zero64}
 use Rattle.laws.specs.Checks.{isTime}
 use Rattle.laws.specs.Bools.{by, clash}
+use Rattle.laws.specs.Loops.{filled-none}
 use Rattle.finality.specs.Tables.{Table}
 use Rattle.finality.specs.Sheet.{Observation, published}
 use Rattle.epochs.specs.Epochs.{time, residual}
@@ -20,7 +21,7 @@ use Rattle.sighting.specs.Kept.{epochBy, observation, observations, keep}
 use Rattle.sighting.specs.Work.{madeOf, Tried}
 use Rattle.sighting.specs.declared.Sighting.{Sighting}
 use Rattle.sighting.specs.declared.Made.{Made}
-use Rattle.sighting.proofs.Kept.{seen, keptUpTo, kept-more, kept-few, kept-all, kept-none, set-more, replicate-like}
+use Rattle.sighting.proofs.Kept.{seen, keptUpTo, kept-more, kept-few, kept-all, kept-none, set-more}
 use Rattle.gather.specs.Gather.{Given, epochIn, Stand, Listed, Found, Added, Able, SoFar, Done}
 use Rattle.gather.proofs.Looks.{time-at, stand-stays, stand-found}
 
@@ -116,8 +117,8 @@ begins g base ts rs s n m a en em et er = record {
   only = only-same 0 base s;
   is = λ c d st. subst (λ (es : List Epoch). Listed (length (g .times)) es ts rs 0) (sym (kept-none (epochIn g c d) (g .times) (g .values) (g .good))) (record {
     count = refl;
-    times = et ∙ replicate-like zero64 n (length (g .times)) en;
-    raws = er ∙ replicate-like zero64 m (length (g .times)) em;
+    times = et ∙ filled-none zero64 n (length (g .times)) en;
+    raws = er ∙ filled-none zero64 m (length (g .times)) em;
   });
 }
 

@@ -15,6 +15,7 @@
 -- what a call tests of its lists, as Bools                              Checks          all, isTime, isKey, ascending, rising, risingSeconds
 -- what those tests say of each element                                  Checks          all-says, time-says, times-say, rising-says, rising-times-say, seconds-say
 -- one turn of a loop that fills, copies or clears a list                Loops           head-at, turn, take-set, fill-turn, fill-done, copy-turn, copy-done, cleared, same-cleared, clear-turn, clear-done
+-- values at the front of m places, one more value; +0.0 or 0 in the rest Loops           filledUp, filled-length, filled-front, filled-none, filled-set
 -- one turn of a loop that tests elements or neighbours                  Loops           all-goes, all-stops, all-done, ascending-goes, ascending-stops, ascending-done, ascending-none
 -- a triangular table as a list: index, rows, filling by rows            Tables          tri, row, rows, tri-next, tri-mono, row-at, rows-at, row-none, row-turn, rows-turn, rows-done
 -- sums from +0.0 in order, one term more, equal terms                   Sums            sumTo, sum-more, sum-same

@@ -7,11 +7,10 @@ use native.Mathlib.Numerals.{add-one}
 use native.Mathlib.Omega.{arith}
 use lib.IntN.{ℤ, pos}
 use lib.Ieee.{Float}
-use lib.ListN.{length, take, set, replicate, length-append, length-map, length-replicate, length-set}
-use lib.Seq.{set-append-seam}
+use lib.ListN.{length, set, length-append, length-map, length-set}
 use Rattle.laws.specs.Floats.{zero64}
 use Rattle.laws.specs.Lists.{map-append}
-use Rattle.laws.specs.Loops.{fill-turn, fill-done}
+use Rattle.laws.specs.Loops.{filledUp, filled-set}
 use Rattle.laws.specs.Times.{Time, stepTime}
 use Rattle.laws.specs.Bools.{by}
 use Rattle.laws.specs.Tables.{row}
@@ -23,38 +22,12 @@ use Rattle.integrate.specs.declared.kernel.State.{State}
 use Rattle.windows.specs.Slots.{within, keptIf}
 use Rattle.windows.proofs.Shelves.{keptTo, keptCount, kept-inside, state-read, few}
 use Rattle.orbits.specs.Orbits.{numbersOf}
-use Rattle.orbits.specs.Calls.{padded}
 use Rattle.orbits.specs.Work.{putSix, readRun, Kept, Tabled, Joins}
-
--- ---- clearing a list of keys
-
-pub zeros-turn : (a a₀ : List ℤ) (i : ℕ) → length a ≡ length a₀ → i < length a → take i a ++ replicate (length a₀ - i) (pos 0) ≡ replicate (length a₀) (pos 0) →
-    take (i + 1) (set a i (pos 0)) ++ replicate (length a₀ - (i + 1)) (pos 0) ≡ replicate (length a₀) (pos 0)
-zeros-turn a a₀ i l h inv =
-    let e : length a₀ - i ≡ suc (length a₀ - (i + 1)) = omega arith in
-    fill-turn a _ (replicate (length a₀ - (i + 1)) (pos 0)) _ i (pos 0) h inv (rw e)
-
-pub zeros-done : (a a₀ : List ℤ) (i : ℕ) → length a ≡ length a₀ → length a ≤ i → take i a ++ replicate (length a₀ - i) (pos 0) ≡ replicate (length a₀) (pos 0) → a ≡ replicate (length a₀) (pos 0)
-zeros-done a a₀ i l h inv =
-    let e : length a₀ - i ≡ 0 = omega arith in
-    fill-done a _ _ i h (ap (λ (k : ℕ). replicate k (pos 0)) e) inv
 
 -- ---- lists filled up
 
--- one more at the place after the last
-pub padded-set : {A : Type 0} (z v : A) (m : ℕ) (xs : List A) (n : ℕ) → n ≡ length xs → n < m → set (padded z m xs) n v ≡ padded z m (xs ++ (v ∷ []))
-padded-set {A} z v m xs n en h =
-    let r : ℕ = m - suc (length xs) in
-    let e : m - length xs ≡ suc r = omega arith in
-    let g : m - length (xs ++ (v ∷ [])) ≡ r = omega (arith, length-append xs (v ∷ [])) in
-    ap (λ (k : ℕ). set (padded z m xs) k v) en ∙ ap (λ (k : ℕ). set (xs ++ replicate k z) (length xs) v) e ∙ set-append-seam xs z (replicate r z) v
-    ∙ sym (ap (λ (k : ℕ). (xs ++ (v ∷ [])) ++ replicate k z) g ∙ append-assoc xs (v ∷ []) (replicate r z))
-
-pub padded-length : {A : Type 0} (z : A) (m : ℕ) (xs : List A) → length xs ≤ m → length (padded z m xs) ≡ m
-padded-length z m xs h = length-append xs (replicate (m - length xs) z) ∙ omega (arith, length-replicate (m - length xs) z)
-
 -- six numbers more
-six-set : (m : ℕ) (xs : List Float) (at : ℕ) (s : State) → at ≡ length xs → at + 6 ≤ m → putSix (padded zero64 m xs) at s ≡ padded zero64 m (xs ++ six s)
+six-set : (m : ℕ) (xs : List Float) (at : ℕ) (s : State) → at ≡ length xs → at + 6 ≤ m → putSix (filledUp zero64 m xs) at s ≡ filledUp zero64 m (xs ++ six s)
 unfolding putSix
 six-set m xs at s e h =
     let a = s .position .x in
@@ -73,13 +46,13 @@ six-set m xs at s e h =
     let l3 : length x3 ≡ at + 3 = length-append x2 (c ∷ []) ∙ omega (arith, l2) in
     let l4 : length x4 ≡ at + 4 = length-append x3 (d ∷ []) ∙ omega (arith, l3) in
     let l5 : length x5 ≡ at + 5 = length-append x4 (f ∷ []) ∙ omega (arith, l4) in
-    ap (λ (l : List Float). set (set (set (set (set l (at + 1) b) (at + 2) c) (at + 3) d) (at + 4) f) (at + 5) g) (padded-set zero64 a m xs at e (omega arith))
-    ∙ ap (λ (l : List Float). set (set (set (set l (at + 2) c) (at + 3) d) (at + 4) f) (at + 5) g) (padded-set zero64 b m x1 (at + 1) (sym l1) (omega arith))
-    ∙ ap (λ (l : List Float). set (set (set l (at + 3) d) (at + 4) f) (at + 5) g) (padded-set zero64 c m x2 (at + 2) (sym l2) (omega arith))
-    ∙ ap (λ (l : List Float). set (set l (at + 4) f) (at + 5) g) (padded-set zero64 d m x3 (at + 3) (sym l3) (omega arith))
-    ∙ ap (λ (l : List Float). set l (at + 5) g) (padded-set zero64 f m x4 (at + 4) (sym l4) (omega arith))
-    ∙ padded-set zero64 g m x5 (at + 5) (sym l5) (omega arith)
-    ∙ ap (padded zero64 m) (joined-six xs a b c d f g)
+    ap (λ (l : List Float). set (set (set (set (set l (at + 1) b) (at + 2) c) (at + 3) d) (at + 4) f) (at + 5) g) (filled-set zero64 a m at xs e (omega arith))
+    ∙ ap (λ (l : List Float). set (set (set (set l (at + 2) c) (at + 3) d) (at + 4) f) (at + 5) g) (filled-set zero64 b m (at + 1) x1 (sym l1) (omega arith))
+    ∙ ap (λ (l : List Float). set (set (set l (at + 3) d) (at + 4) f) (at + 5) g) (filled-set zero64 c m (at + 2) x2 (sym l2) (omega arith))
+    ∙ ap (λ (l : List Float). set (set l (at + 4) f) (at + 5) g) (filled-set zero64 d m (at + 3) x3 (sym l3) (omega arith))
+    ∙ ap (λ (l : List Float). set l (at + 5) g) (filled-set zero64 f m (at + 4) x4 (sym l4) (omega arith))
+    ∙ filled-set zero64 g m (at + 5) x5 (sym l5) (omega arith)
+    ∙ ap (filledUp zero64 m) (joined-six xs a b c d f g)
   where
     joined-six : (xs : List Float) (a b c d f g : Float) → (((((xs ++ (a ∷ [])) ++ (b ∷ [])) ++ (c ∷ [])) ++ (d ∷ [])) ++ (f ∷ [])) ++ (g ∷ []) ≡ xs ++ (a ∷ b ∷ c ∷ d ∷ f ∷ g ∷ [])
     joined-six xs a b c d f g = simp append-assoc
@@ -104,11 +77,11 @@ tabled-one m table n keys states second state h t =
     record {
       counted = omega (arith, en, length-append table ((second, state) ∷ []));
       seconds = ap (λ (l : List ℤ). set l n second) (t .seconds)
-          ∙ padded-set (pos 0) second m (map keyOf table) n (omega (arith, en, length-map table (λ (e : ℤ × State). e .0))) h
-          ∙ ap (padded (pos 0) m) (sym (map-append keyOf table ((second, state) ∷ [])));
+          ∙ filled-set (pos 0) second m n (map keyOf table) (omega (arith, en, length-map table (λ (e : ℤ × State). e .0))) h
+          ∙ ap (filledUp (pos 0) m) (sym (map-append keyOf table ((second, state) ∷ [])));
       numbers = ap (λ (l : List Float). putSix l (6 * n) state) (t .numbers)
           ∙ six-set (6 * m) (numbersOf table) (6 * n) state (omega (arith, en, numbers-length table)) (omega arith)
-          ∙ ap (padded zero64 (6 * m)) (sym (numbers-append table ((second, state) ∷ [])));
+          ∙ ap (filledUp zero64 (6 * m)) (sym (numbers-append table ((second, state) ∷ [])));
     }
 
 module _ (b : Bool) (second : ℤ) (state : State) (n r : ℕ) (keys keys' : List ℤ) (states states' : List Float) (k : Kept b second state n r keys keys' states states') where

@@ -15,6 +15,7 @@ use Rattle.laws.specs.Floats.{zero64, _⊖_}
 use Rattle.laws.specs.Lists.{map-append}
 use Rattle.laws.specs.Order.{lt→le}
 use Rattle.laws.specs.Tables.{row}
+use Rattle.laws.specs.Loops.{filledUp, filled-set, filled-none}
 use Rattle.finality.specs.Tables.{Table, keyOf}
 use Rattle.finality.specs.Arcs.{longest, start, steps, arcOf, inside}
 use Rattle.finality.proofs.Windows.{steps-short}
@@ -34,9 +35,9 @@ use Rattle.windows.proofs.Arcs.{arc-between}
 use Rattle.windows.proofs.Filling.{fits-of, inside-few}
 use Rattle.orbits.specs.declared.work.Done.{Done}
 use Rattle.orbits.specs.Orbits.{Window, unlessRefused, windowFit, between, joined, numbersOf}
-use Rattle.orbits.specs.Calls.{Outputs, outputs, padded, listed}
+use Rattle.orbits.specs.Calls.{Outputs, outputs, listed}
 use Rattle.orbits.specs.Work.{readRun, Tabled, Joins, SoFar, Room, Adds, Usable, Short}
-use Rattle.orbits.proofs.Keeping.{padded-set, run-read}
+use Rattle.orbits.proofs.Keeping.{run-read}
 
 abbrev pub start-done : Done
 start-done = record { states = 0; windows = 0 }
@@ -67,16 +68,16 @@ so-far-more k ws done o x table n keys' states' hs hw f j =
     let is : joined (ws ++ ((x, table) ∷ [])) ≡ joined ws ++ table = joined-one ws x table in
     let t : Tabled (3500 * k) (joined ws ++ table) n keys' states' =
     j .all (3500 * k) (joined ws) hs (record { counted = f .states; seconds = ap (λ (y : Outputs). y .keys) (f .outputs); numbers = ap (λ (y : Outputs). y .states) (f .outputs) }) in
-    let rms : set (o .rms) (done .windows) x ≡ padded zero64 k (map (λ (w : Window). w .0) (ws ++ ((x, table) ∷ []))) =
+    let rms : set (o .rms) (done .windows) x ≡ filledUp zero64 k (map (λ (w : Window). w .0) (ws ++ ((x, table) ∷ []))) =
     ap (λ (l : List Float). set l (done .windows) x) (ap (λ (y : Outputs). y .rms) (f .outputs))
-    ∙ padded-set zero64 x k (map (λ (w : Window). w .0) ws) (done .windows) (omega (arith, ew, length-map ws (λ (w : Window). w .0))) (omega arith)
-    ∙ ap (padded zero64 k) (sym (map-append (λ (w : Window). w .0) ws ((x, table) ∷ []))) in
+    ∙ filled-set zero64 x k (done .windows) (map (λ (w : Window). w .0) ws) (omega (arith, ew, length-map ws (λ (w : Window). w .0))) (omega arith)
+    ∙ ap (filledUp zero64 k) (sym (map-append (λ (w : Window). w .0) ws ((x, table) ∷ []))) in
     record {
       windows = omega (arith, ew, length-append ws ((x, table) ∷ []));
       states = t .counted ∙ ap (λ (l : Table State). length l) (sym is);
       outputs = λ i. outputs
-          ((t .seconds ∙ ap (λ (l : Table State). padded (pos 0) (3500 * k) (map keyOf l)) (sym is)) i)
-          ((t .numbers ∙ ap (λ (l : Table State). padded zero64 (6 * (3500 * k)) (numbersOf l)) (sym is)) i)
+          ((t .seconds ∙ ap (λ (l : Table State). filledUp (pos 0) (3500 * k) (map keyOf l)) (sym is)) i)
+          ((t .numbers ∙ ap (λ (l : Table State). filledUp zero64 (6 * (3500 * k)) (numbersOf l)) (sym is)) i)
           (rms i);
     }
 
@@ -257,16 +258,13 @@ usable-still N keys states s s' e u = subst (λ (n : ℕ). Usable N keys states 
 
 -- ---- all windows, from empty outputs
 
-replicate-like : {A : Type 0} (z : A) (n m : ℕ) → n ≡ m → replicate n z ≡ replicate (m - 0) z
-replicate-like z n m e = let g : n ≡ m - 0 = omega arith in ap (λ (k : ℕ). replicate k z) g
-
 pub cleared-listed : (k : ℕ) (keys keys' : List ℤ) (states states' rms rms' : List Float) → keys' ≡ replicate (length keys) (pos 0) → states' ≡ replicate (length states) zero64 → rms' ≡ replicate (length rms) zero64 →
     length keys ≡ 3500 * k → length states ≡ 6 * (3500 * k) → length rms ≡ k → outputs keys' states' rms' ≡ listed k []
 unfolding listed joined numbersOf
 cleared-listed k keys keys' states states' rms rms' ek es er lk ls lr = λ i. outputs
-    ((ek ∙ replicate-like (pos 0) (length keys) (3500 * k) lk) i)
-    ((es ∙ replicate-like zero64 (length states) (6 * (3500 * k)) ls) i)
-    ((er ∙ replicate-like zero64 (length rms) k lr) i)
+    ((ek ∙ filled-none (pos 0) (length keys) (3500 * k) lk) i)
+    ((es ∙ filled-none zero64 (length states) (6 * (3500 * k)) ls) i)
+    ((er ∙ filled-none zero64 (length rms) k lr) i)
 
 pub filled : (k : ℕ) (ws : List Window) (r : Done) (o o' : Outputs) → o ≡ listed k [] → Adds ws k start-done r o o' → SoFar k ws r o'
 filled k ws r o o' e f = f .all k [] (omega arith) (omega arith) (so-far-none k o e)

@@ -9,7 +9,7 @@ use lib.Ieee.Scale.{finite}
 use lib.ListN.{length, replicate}
 use Rattle.laws.specs.Floats.{zero64}
 use Rattle.laws.specs.Checks.{all, isTime, rising}
-use Rattle.laws.specs.Loops.{cleared}
+use Rattle.laws.specs.Loops.{cleared, filledUp}
 use Rattle.slices.specs.Calls.{Left, left}
 use Rattle.slices.specs.declared.Counted.{Counted}
 use Rattle.slices.specs.declared.Counted.the-variants.{Counted as Filled, Refused as NotFilled}
@@ -20,7 +20,7 @@ use Rattle.residuals.specs.declared.Verdict.the-variants.{Kept, NotKept,
 use Rattle.residuals.specs.declared.EpochAnswer.{EpochAnswer}
 use Rattle.residuals.specs.Inputs.{Inputs, epochOf}
 use Rattle.sighting.specs.declared.Made.{Made}
-use Rattle.sighting.specs.Kept.{Keyed, observations, keptOf, padded}
+use Rattle.sighting.specs.Kept.{Keyed, observations, keptOf}
 use Rattle.sighting.specs.Work.{noEpoch}
 
 -- ---- refusals 1 to 5
@@ -123,11 +123,11 @@ residualsRefusal inp obs samples scratch =
 -- the records' numbers, +0.0 after the last
 unfoldable pub listsOf : ℕ → List Epoch → Lists
 listsOf m es = record {
-  times = padded zero64 m (map (λ (e : Epoch). e .t) es);
-  residuals = padded zero64 m (map (λ (e : Epoch). e .residual) es);
-  terms = padded (replicate 5 zero64) m (map (λ (e : Epoch). e .terms) es);
-  mids = padded (replicate 3 zero64) m (map (λ (e : Epoch). e .mid) es);
-  vels = padded (replicate 3 zero64) m (map (λ (e : Epoch). e .vel) es);
+  times = filledUp zero64 m (map (λ (e : Epoch). e .t) es);
+  residuals = filledUp zero64 m (map (λ (e : Epoch). e .residual) es);
+  terms = filledUp (replicate 5 zero64) m (map (λ (e : Epoch). e .terms) es);
+  mids = filledUp (replicate 3 zero64) m (map (λ (e : Epoch). e .mid) es);
+  vels = filledUp (replicate 3 zero64) m (map (λ (e : Epoch). e .vel) es);
 }
 
 pub record ListsLeft : Type 0 where

@@ -2,11 +2,11 @@
 use Prim.Native.Nat.{ℕ, suc, _*_, _-_}
 use mathlib.Core.Bool.{Bool, cond, _&&_}
 use mathlib.Core.Option.{Option, none, some}
-use mathlib.Core.List.{List, [], _∷_, _++_}
+use mathlib.Core.List.{List, [], _∷_}
 use lib.Dec.{ltb}
 use lib.IntN.{ℤ}
 use lib.Ieee.{Float, nan}
-use lib.ListN.{length, getD, replicate}
+use lib.ListN.{getD}
 use Rattle.numbers.specs.Seconds.{wholeSecond}
 use Rattle.vectors.specs.declared.Vector.{Vector}
 use Rattle.finality.specs.Brackets.{covers}
@@ -93,7 +93,3 @@ keep (some e) es = e ∷ es
 unfoldable pub keptOf : {X Y : Type 0} → (X → Option Y) → List X → List Y
 keptOf f [] = []
 keptOf f (o ∷ os) = keep (f o) (keptOf f os)
-
--- m places, filled up with z
-abbrev pub padded : {A : Type 0} → A → ℕ → List A → List A
-padded z m xs = xs ++ replicate (m - length xs) z
