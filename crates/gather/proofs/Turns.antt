@@ -12,12 +12,12 @@ use Rattle.laws.specs.Checks.{isTime}
 use Rattle.laws.specs.Bools.{by, clash}
 use Rattle.laws.specs.Loops.{filled-none}
 use Rattle.finality.specs.Tables.{Table}
-use Rattle.finality.specs.Sheet.{Observation, published}
+use Rattle.finality.specs.Sheet.{Observation, published, keep}
 use Rattle.epochs.specs.Epochs.{time, residual}
 use Rattle.epochs.specs.declared.Epoch.{Epoch}
 use Rattle.integrate.specs.declared.kernel.State.{State}
 use Rattle.integrate.proofs.Places.{only-same}
-use Rattle.sighting.specs.Kept.{epochBy, observation, observations, keep}
+use Rattle.sighting.specs.Kept.{epochBy, observation, observations}
 use Rattle.sighting.specs.Work.{madeOf, Tried}
 use Rattle.sighting.specs.declared.Sighting.{Sighting}
 use Rattle.sighting.specs.declared.Made.{Made}

@@ -11,10 +11,10 @@ use Rattle.laws.specs.Floats.{zero64}
 use Rattle.laws.specs.Checks.{all}
 use Rattle.laws.specs.Bools.{clash}
 use Rattle.laws.specs.Loops.{filled-none}
-use Rattle.finality.specs.Sheet.{Observation}
+use Rattle.finality.specs.Sheet.{Observation, keep, keptOf}
 use Rattle.epochs.specs.declared.Epoch.{Epoch}
 use Rattle.sighting.specs.declared.Made.{Made}
-use Rattle.sighting.specs.Kept.{observation, keep, keptOf}
+use Rattle.sighting.specs.Kept.{observation}
 use Rattle.sighting.specs.Work.{madeOf}
 use Rattle.sighting.proofs.Kept.{seen as seenAt, kept-more as more-kept, kept-few as few-kept, kept-all as all-kept, set-more, filled-records}
 use Rattle.residuals.specs.declared.filling.Filled.{Filled}

@@ -13,14 +13,14 @@ use Rattle.laws.specs.Loops.{cleared, filledUp}
 use Rattle.slices.specs.Calls.{Left, left}
 use Rattle.slices.specs.declared.Counted.{Counted}
 use Rattle.slices.specs.declared.Counted.the-variants.{Counted as Filled, Refused as NotFilled}
-use Rattle.finality.specs.Sheet.{Observation}
+use Rattle.finality.specs.Sheet.{Observation, keptOf}
 use Rattle.lent.specs.Lent.{firstOf, degreeFine, countsFine, modelFits, tablesFit, scratchFits, modelFine, keyedFine, rise}
 use Rattle.epochs.specs.declared.Epoch.{Epoch}
 use Rattle.residuals.specs.declared.Verdict.the-variants.{Kept, NotKept, Refused}
 use Rattle.residuals.specs.declared.EpochAnswer.{EpochAnswer}
 use Rattle.residuals.specs.Inputs.{Inputs, epochOf}
 use Rattle.sighting.specs.declared.Made.{Made}
-use Rattle.sighting.specs.Kept.{Keyed, observations, keptOf}
+use Rattle.sighting.specs.Kept.{Keyed, observations}
 use Rattle.sighting.specs.Work.{noEpoch}
 
 -- ---- refusals 1 to 5

@@ -20,15 +20,15 @@ use Rattle.numbers.proofs.Seconds.{second-of-time}
 use Rattle.finality.specs.Tables.{Table, find}
 use Rattle.finality.specs.Brackets.{covers}
 use Rattle.finality.specs.Kernels.{stagesOf}
-use Rattle.finality.specs.Sheet.{Observation, Submission, Valid, coveredIn, fieldIn, fitted, found, epochOf, kept, keptOf as keptIn}
+use Rattle.finality.specs.Sheet.{Observation, Submission, Valid, fieldIn, fitted, whereFound, epochOf, kept, keep, keptOf}
+use Rattle.finality.proofs.Keeping.{kept-same}
 use Rattle.integrate.specs.Force.{model}
 use Rattle.integrate.specs.declared.kernel.State.{State}
 use Rattle.epochs.specs.declared.Epoch.{Epoch}
 use Rattle.windows.specs.Stage.{Setting, gravityOf, statesIn}
 use Rattle.windows.proofs.Meaning.{front-is}
 use Rattle.sighting.specs.Epoch.{epochWith}
-use Rattle.sighting.specs.Kept.{keyed, rowsFrom, numbers, recordAt, whereFound, seenBy, epochBy, observations, keptOf}
-use Rattle.sighting.proofs.Stages.{found-same, kept-same}
+use Rattle.sighting.specs.Kept.{keyed, rowsFrom, numbers, recordAt, seenBy, epochBy, observations}
 use Rattle.sheet.specs.Stages.{epochStage, kernels}
 use Rattle.sheet.specs.Submission.{Lists, submissionOf, valuesIn, observationsIn}
 use Rattle.sheet.proofs.Orbits.{ModelFits, field-is, covered-is}
@@ -63,11 +63,9 @@ observations-are (t ∷ ts) (v ∷ vs) (b ∷ gs) h k =
 
 -- ---- two functions that agree on the observations keep the same
 
-keep-same : (S : Setting) (f g : Observation → Option Epoch) (P : Observation → Type 0) (os : List Observation) → ((o : Observation) → P o → f o ≡ g o) → All P os →
-    keptIn (stagesOf (kernels S)) f os ≡ keptIn (stagesOf (kernels S)) g os
-unfolding keptIn
-keep-same S f g P [] h a = refl
-keep-same S f g P (o ∷ os) h a = λ i. Rattle.finality.specs.Sheet.keep (stagesOf (kernels S)) (h o (a .0) i) (keep-same S f g P os h (a .1) i)
+keep-same : (f g : Observation → Option Epoch) (P : Observation → Type 0) (os : List Observation) → ((o : Observation) → P o → f o ≡ g o) → All P os →
+    keptOf f os ≡ keptOf g os
+keep-same f g P os h a = kept-same f g os (all-map P (λ (o : Observation). f o ≡ g o) os h a)
 
 -- ---- one epoch
 
@@ -95,8 +93,6 @@ module _ (S : Setting) (l : Lists) (few : 2 ≤ length (l .fieldTimes)) (fits : 
       (λ i. cond (o .good && covered-is S l few (o .at) i)
       (whereFound (λ c d p q. record-is (o .at) (o .observed) c d p q i) (find (k i) (fitted (stagesOf (kernels S)) sub (sub .statesC))) (find (k i) (fitted (stagesOf (kernels S)) sub (sub .statesD)))
       (find (k i) (sub .accC)) (find (k i) (sub .accD))) none)
-      ∙ ap (λ (e : Option Epoch). cond (o .good && coveredIn (stagesOf (kernels S)) sub (o .at)) e none)
-      (found-same (stagesOf (kernels S)) _ _ _ _ _)
 
   -- all of them
   pub kept-is : Valid (stagesOf (kernels S)) sub → length (l .values) ≡ length (l .times) → length (l .good) ≡ length (l .times) →
@@ -106,5 +102,4 @@ module _ (S : Setting) (l : Lists) (few : 2 ≤ length (l .fieldTimes)) (fits : 
   kept-is v hv hg =
       (λ i. keptOf (epochBy (model (S .degree) (S .static) (l .fieldTimes) (l .added)) (S .a) (S .b) (fitted (stagesOf (kernels S)) sub (sub .statesC)) (fitted (stagesOf (kernels S)) sub (sub .statesD))
       (values-are (l .accKeysC) (l .accC) i) (values-are (l .accKeysD) (l .accD) i)) (observations-are (l .times) (l .values) (l .good) hv hg i))
-      ∙ kept-same (stagesOf (kernels S)) _ (sub .obs)
-      ∙ keep-same S _ _ (λ (o : Observation). Time (o .at)) (sub .obs) epoch-is (v .obs-times)
+      ∙ keep-same _ _ (λ (o : Observation). Time (o .at)) (sub .obs) epoch-is (v .obs-times)

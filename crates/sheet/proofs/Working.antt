@@ -18,9 +18,8 @@ use Rattle.laws.specs.Loops.{filled-length, filled-front}
 use Rattle.finality.specs.Tables.{Table, find}
 use Rattle.finality.specs.Brackets.{covers}
 use Rattle.finality.specs.Kernels.{stagesOf}
-use Rattle.finality.specs.Sheet.{Submission, Valid, published, coveredIn, fieldIn, fitted, orbits, epochOf, obsTime, kept}
-use Rattle.finality.proofs.Assembled.{lawful}
-use Rattle.finality.proofs.Finality.{kept-length}
+use Rattle.finality.specs.Sheet.{Submission, Valid, published, coveredIn, fieldIn, fitted, orbits, epochOf, obsTime, kept, keptOf}
+use Rattle.finality.proofs.Keeping.{kept-length}
 use Rattle.epochs.specs.Epochs.{time, residual}
 use Rattle.epochs.specs.declared.Epoch.{Epoch}
 use Rattle.detrend.specs.Revolutions.{removedOf}
@@ -28,7 +27,7 @@ use Rattle.filter.specs.Filter.{bandPass}
 use Rattle.integrate.specs.Force.{model, frontSize, fullForce}
 use Rattle.integrate.specs.declared.kernel.State.{State}
 use Rattle.fit.specs.Fit.{stateFor}
-use Rattle.sighting.specs.Kept.{keyed, numbers, epochBy, observations, keptOf}
+use Rattle.sighting.specs.Kept.{keyed, numbers, epochBy, observations}
 use Rattle.windows.specs.Stage.{Setting, statesIn}
 use Rattle.windows.specs.Slots.{Slot}
 use Rattle.windows.specs.Windows.{slotAt, windowBy, windowsServe, Ends}
@@ -44,7 +43,6 @@ use Rattle.sheet.proofs.Accepted.{Accepts, accepts, passed, model-fits,
 use Rattle.sheet.proofs.Columns.{detrended-is, passed-is}
 use Rattle.sheet.proofs.Kept.{kept-is}
 use Rattle.sheet.proofs.Grown.{observed-times}
-use Rattle.sheet.proofs.Lawful.{lawful-kernels}
 use Rattle.sheet.proofs.Final.{valid}
 
 -- ---- a column's first entries
@@ -88,7 +86,7 @@ length-kept : (S : Setting) (l : Lists) → length (kept (stagesOf (kernels S)) 
 length-kept S l =
     omega (
       arith,
-      kept-length (stagesOf (kernels S)) (lawful (kernels S) (lawful-kernels S)) (epochOf (stagesOf (kernels S)) (submissionOf S l)) (submissionOf S l .obs),
+      kept-length (epochOf (stagesOf (kernels S)) (submissionOf S l)) (submissionOf S l .obs),
       length-map (submissionOf S l .obs) obsTime,
       ap length (observed-times (l .times) (l .values) (l .good)),
     )

@@ -1,6 +1,6 @@
 -- The epochs that are kept of the first observations, and lists filled up. Assumes nothing.
 use mathlib.Core.Path.{_≡_, refl, sym, ap, _∙_}
-use mathlib.Core.Option.{Option, none, some}
+use mathlib.Core.Option.{Option}
 use mathlib.Core.List.{List, [], _∷_, _++_, map}
 use Prim.Native.Nat.{ℕ, zero, suc, _+_, _-_, _≤_, _<_}
 use native.Mathlib.Numerals.{add-one}
@@ -10,29 +10,10 @@ use lib.ListN.{length, take, getD, set, length-map}
 use lib.Seq.{take-suc, take-all, length-take-le}
 use Rattle.laws.specs.Lists.{map-append}
 use Rattle.laws.specs.Loops.{filledUp, filled-length, filled-set}
-use Rattle.finality.specs.Sheet.{Observation}
+use Rattle.finality.specs.Sheet.{Observation, keep, keptOf}
+use Rattle.finality.proofs.Keeping.{kept-append, kept-length}
 use Rattle.epochs.specs.declared.Epoch.{Epoch}
-use Rattle.sighting.specs.Kept.{observation, observations, keep, keptOf}
-
--- ---- kept of a longer list
-
-keep-append : {A : Type 0} (o : Option A) (xs ys : List A) → keep o (xs ++ ys) ≡ keep o xs ++ ys
-keep-append none xs ys = refl
-keep-append (some x) xs ys = refl
-
-kept-append : {X Y : Type 0} (f : X → Option Y) (xs ys : List X) → keptOf f (xs ++ ys) ≡ keptOf f xs ++ keptOf f ys
-unfolding keptOf
-kept-append f [] ys = refl
-kept-append f (x ∷ xs) ys = ap (keep (f x)) (kept-append f xs ys) ∙ keep-append (f x) (keptOf f xs) (keptOf f ys)
-
-keep-length : {A : Type 0} (o : Option A) (xs : List A) (n : ℕ) → length xs ≤ n → length (keep o xs) ≤ suc n
-keep-length none xs n h = omega arith
-keep-length (some x) xs n h = omega arith
-
-kept-length : {X Y : Type 0} (f : X → Option Y) (xs : List X) → length (keptOf f xs) ≤ length xs
-unfolding keptOf
-kept-length f [] = omega arith
-kept-length f (x ∷ xs) = keep-length (f x) (keptOf f xs) (length xs) (kept-length f xs)
+use Rattle.sighting.specs.Kept.{observation, observations}
 
 -- ---- the observations as one list
 

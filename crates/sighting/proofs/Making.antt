@@ -15,6 +15,7 @@ use Rattle.laws.specs.Floats.{zero64}
 use Rattle.laws.specs.Loops.{cleared}
 use Rattle.laws.specs.Bools.{by, both-true}
 use Rattle.finality.specs.Brackets.{covers}
+use Rattle.finality.specs.Sheet.{whereFound}
 use Rattle.series.specs.Prepared.{prepared}
 use Rattle.forces.specs.Forces.{gravityWith}
 use Rattle.model.specs.Calls.{atLeft}
@@ -25,7 +26,7 @@ use Rattle.integrate.specs.declared.kernel.State.{State}
 use Rattle.sighting.specs.declared.Sighting.{Sighting}
 use Rattle.sighting.specs.declared.Made.{Made}
 use Rattle.sighting.specs.Epoch.{epochWith}
-use Rattle.sighting.specs.Kept.{recordAt, whereFound, seenBy, observation}
+use Rattle.sighting.specs.Kept.{recordAt, seenBy, observation}
 use Rattle.sighting.specs.Work.{sightingFrom, sightingOf, madeOf, Usable, Recorded, Tried, Opened}
 use Rattle.integrate.proofs.Places.{only-same}
 use Rattle.integrate.proofs.Front.{at-length, at-again, prepared-length, front-length, put-front}
@@ -100,7 +101,7 @@ not-opened N base w h = record { usable = λ e l. absurd (h l); only = only-same
 module _ (f : State → State → Float → Float → Epoch) where
   kept-made : (g : Bool) (x y : Option State) (p q : Option Float) (s : Sighting) → s ≡ sightingOf x y p q → (g && s .all) ≡ true →
       record { kept = true; epoch = f (s .c) (s .d) (s .axc) (s .axd) } ≡ madeOf (cond g (whereFound f x y p q) none)
-  unfolding sightingFrom whereFound
+  unfolding sightingFrom
   kept-made g x y p q s e h = subst (λ (s : Sighting). (g && s .all) ≡ true → record { kept = true; epoch = f (s .c) (s .d) (s .axc) (s .axd) } ≡ madeOf (cond g (whereFound f x y p q) none)) (sym e) (cases g x y p q) h
     where
       cases : (g : Bool) (x y : Option State) (p q : Option Float) → (g && sightingOf x y p q .all) ≡ true →
@@ -114,7 +115,7 @@ module _ (f : State → State → Float → Float → Epoch) where
 
   none-made : (g : Bool) (x y : Option State) (p q : Option Float) (s : Sighting) → s ≡ sightingOf x y p q → (g && s .all) ≡ false →
       madeOf none ≡ madeOf (cond g (whereFound f x y p q) none)
-  unfolding sightingFrom whereFound
+  unfolding sightingFrom
   none-made g x y p q s e h = cases g x y p q (sym (ap (λ (s : Sighting). g && s .all) e) ∙ h)
     where
       cases : (g : Bool) (x y : Option State) (p q : Option Float) → (g && sightingOf x y p q .all) ≡ false → madeOf none ≡ madeOf (cond g (whereFound f x y p q) none)

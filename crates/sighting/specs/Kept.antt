@@ -1,7 +1,7 @@
 -- Rows by whole second, one epoch over them, and the epochs that are kept (document 01, module 5). Assumes nothing.
 use Prim.Native.Nat.{ℕ, suc, _*_, _-_}
 use mathlib.Core.Bool.{Bool, cond, _&&_}
-use mathlib.Core.Option.{Option, none, some}
+use mathlib.Core.Option.{Option, none}
 use mathlib.Core.List.{List, [], _∷_}
 use lib.Dec.{ltb}
 use lib.IntN.{ℤ}
@@ -11,7 +11,7 @@ use Rattle.numbers.specs.Seconds.{wholeSecond}
 use Rattle.vectors.specs.declared.Vector.{Vector}
 use Rattle.finality.specs.Brackets.{covers}
 use Rattle.finality.specs.Tables.{Table, find}
-use Rattle.finality.specs.Sheet.{Observation}
+use Rattle.finality.specs.Sheet.{Observation, whereFound}
 use Rattle.forces.specs.Forces.{gravityWith}
 use Rattle.model.specs.Field.{gm, radius}
 use Rattle.epochs.specs.declared.Epoch.{Epoch}
@@ -51,14 +51,6 @@ gravityAt m a b t = gravityWith (m .degree) (gm (m .field)) (radius (m .field)) 
 unfoldable pub recordAt : Model → List Float → List Float → Float → Float → State → State → Float → Float → Epoch
 recordAt m a b t observed c d axc axd = epochWith (gravityAt m a b t) t observed (c .position) (c .velocity) (d .position) (d .velocity) axc axd
 
--- where all four look-ups succeed
-unfoldable pub whereFound : {X Y : Type 0} → (X → X → Float → Float → Y) → Option X → Option X → Option Float → Option Float → Option Y
-whereFound f none y p q = none
-whereFound f (some x) none p q = none
-whereFound f (some x) (some y) none q = none
-whereFound f (some x) (some y) (some p) none = none
-whereFound f (some x) (some y) (some p) (some q) = some (f x y p q)
-
 -- of a good and covered observation, from what four look-ups found
 unfoldable pub seenBy : Model → List Float → List Float → Observation → Option State → Option State → Option Float → Option Float → Option Epoch
 seenBy m a b o x y p q = cond (o .good && covers (m .times) (o .at)) (whereFound (recordAt m a b (o .at) (o .observed)) x y p q) none
@@ -85,11 +77,4 @@ observations (t ∷ ts) [] bs = []
 observations (t ∷ ts) (v ∷ vs) [] = []
 observations (t ∷ ts) (v ∷ vs) (b ∷ bs) = observation t v b ∷ observations ts vs bs
 
-abbrev pub keep {ℓ} : {A : Type ℓ} → Option A → List A → List A
-keep none es = es
-keep (some e) es = e ∷ es
-
 -- the records of those that are kept, in order
-unfoldable pub keptOf : {X Y : Type 0} → (X → Option Y) → List X → List Y
-keptOf f [] = []
-keptOf f (o ∷ os) = keep (f o) (keptOf f os)
