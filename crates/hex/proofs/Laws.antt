@@ -19,7 +19,7 @@ use Rattle.laws.specs.Bools.{left-true, right-true}
 use Rattle.laws.specs.SameBits.{ne-isNan}
 use Rattle.hex.specs.declared.Parsed.{Parsed}
 use Rattle.hex.specs.declared.Parsed.the-variants.{Value, Malformed}
-use Rattle.hex.specs.Digits.{digitOf, glyphOf, isDigit, valueFrom, digitsOf, valued, spelledIn, wordAt, written, unpadded, counted, decimalAt, placesIn, placesOf, Put}
+use Rattle.hex.specs.Digits.{digitOf, glyphOf, isDigit, valueFrom, digitsOf, valued, spelledIn, wordAt, written, unpadded, counted, decimalAt, placesIn, placesOf, Put, isWord}
 
 -- ---- reading
 
@@ -114,6 +114,14 @@ pub write-done : (base rest i : ℕ) (out goal : List ℕ) → i ≤ 0 → digit
 unfolding digitsOf
 write-done base rest zero out goal h inv = inv
 write-done base rest (suc i) out goal h inv = absurd (omega arith)
+
+-- ---- words
+
+pub word-true : (w p : Parsed) (n : ℕ) → w ≡ p → w ≡ Value n → true ≡ isWord p
+word-true w p n e h = ap isWord (sym h ∙ e)
+
+pub word-false : (w p : Parsed) → w ≡ p → w ≡ Malformed → false ≡ isWord p
+word-false w p e h = ap isWord (sym h ∙ e)
 
 -- ---- 16 hexadecimal digits fit 64 bits
 
