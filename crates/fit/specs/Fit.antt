@@ -21,8 +21,9 @@ use Rattle.forces.specs.Forces.{j2Of}
 use Rattle.integrate.specs.Force.{runOf}
 use Rattle.integrate.specs.Room.{Run, stateIn}
 use Rattle.numbers.specs.Seconds.{wholeSecond}
+use Rattle.numbers.specs.Constants.{decimal}
 use Rattle.slices.specs.Slices.{lookup}
-use Rattle.laws.specs.Floats.{_⊕_, _⊖_, _⊗_, _⊘_, one64, zero64, bits}
+use Rattle.laws.specs.Floats.{_⊕_, _⊖_, _⊗_, _⊘_, one64, zero64}
 use Rattle.laws.specs.Sums.{sumTo}
 use Rattle.laws.specs.Tables.{row}
 use Rattle.laws.specs.WholeNumbers.{number}
@@ -63,9 +64,9 @@ observed look arc = observedTo look (arc .t0) (arc .steps / 5 + 1)
 unfoldable pub startOf : State → List Float
 startOf s = s .position .x ∷ s .position .y ∷ s .position .z ∷ s .velocity .x ∷ s .velocity .y ∷ s .velocity .z ∷ replicate 9 zero64
 
--- by how much a parameter is moved for its partial derivatives: 1, but for the velocity 1e-3, whose bits stand here
+-- by how much a parameter is moved for its partial derivatives: 1, but for the velocity 1e-3
 unfoldable pub scaleOf : ℕ → Float
-scaleOf i = cond (ltb i 3) one64 (cond (ltb i 6) (bits 0x3f50624dd2f1a9fc) one64)
+scaleOf i = cond (ltb i 3) one64 (cond (ltb i 6) (decimal 1 3) one64)
 
 -- parameter i moved by its scale
 unfoldable pub movedOf : List Float → ℕ → List Float
