@@ -6,9 +6,9 @@ use mathlib.Core.List.{List}
 use lib.Dec.{leb}
 use lib.Ieee.{Float, nan}
 use lib.ListN.{getD, replicate}
-use Rattle.laws.specs.Floats.{_⊖_, _⊗_, _⊘_, zero64, two64}
+use Rattle.laws.specs.Floats.{zero64}
 use Rattle.laws.specs.Tables.{tri, row}
-use Rattle.numbers.specs.Numbers.{π}
+use Rattle.numbers.specs.Constants.{angleFrom}
 use Rattle.vectors.specs.Vector.{plus}
 use Rattle.vectors.specs.declared.Vector.{Vector}
 use Rattle.forces.specs.Forces.{j2Of, fictitiousOf, empiricalOf, tidesOf}
@@ -50,7 +50,7 @@ attractionOf J2 M a b t x = j2Of x
 
 -- the angle from the node at a time
 unfoldable pub argumentOf : Arc → Float → Float
-argumentOf arc t = two64 ⊗ π ⊗ (t ⊖ arc .node) ⊘ arc .period
+argumentOf arc t = angleFrom (arc .node) (arc .period) t
 
 -- with nine empirical parameters e
 unfoldable pub accelerationOf : (Float → Vector → Vector) → Arc → List Float → Acceleration
