@@ -7,9 +7,10 @@ use borrow.Author.Tests.{le-leb, lt-leb, leb-true, eqb-true}
 use lib.Dec.{eqb, leb}
 use Rattle.laws.specs.Tables.{tri}
 use Rattle.laws.specs.Bools.{both-true}
+use Rattle.laws.specs.Checks.{degreeFine}
 use Rattle.slices.proofs.Calls.{cond-passes}
 use Rattle.series.specs.Field.{size, Fits}
-use Rattle.fields.specs.Calls.{degreeFine, twoTables, fieldAnd, fourTables, refusalOf, indexOf}
+use Rattle.fields.specs.Calls.{twoTables, fieldAnd, fourTables, refusalOf, indexOf}
 use Rattle.fields.specs.declared.Index.{Index}
 use Rattle.fields.specs.declared.Index.the-variants as index
 

@@ -11,7 +11,7 @@ use lib.Ieee.Scale.{finite}
 use lib.ListN.{length, take, drop, length-drop}
 use lib.Seq.{length-take-le}
 use borrow.Author.Tests.{le-leb, eq-eqb}
-use Rattle.laws.specs.Checks.{all, rising, risingSeconds}
+use Rattle.laws.specs.Checks.{all, rising, risingSeconds, degreeFine}
 use Rattle.laws.specs.Lists.{cond-ind}
 use Rattle.laws.specs.Loops.{cleared, same-cleared}
 use Rattle.laws.specs.Bools.{both-true}
@@ -21,12 +21,12 @@ use Rattle.slices.specs.Slices.{copied}
 use Rattle.slices.specs.Calls.{left, settled}
 use Rattle.slices.proofs.Calls.{call-refused, call-failed, call-handed}
 use Rattle.slices.proofs.Laws.{copied-all}
-use Rattle.lent.specs.Lent.{degreeFine, fieldsFine, few, lengthsFit, statesFit, modelFine, keyedFine}
+use Rattle.lent.specs.Lent.{fieldsFine, few, lengthsFit, statesFit, modelFine, keyedFine, frontSize, Front}
 use Rattle.lent.proofs.Passed.{all-pass, degree-passes, states-pass, lengths-room}
 use Rattle.finality.specs.Brackets.{covers}
 use Rattle.integrate.specs.declared.kernel.Arc.{Arc}
 use Rattle.integrate.specs.Room.{Run, Orbit, flat}
-use Rattle.integrate.specs.Force.{model, frontSize, fullForce}
+use Rattle.integrate.specs.Force.{model, fullForce}
 use Rattle.integrate.specs.Calls.{outFits, arcFits}
 use Rattle.integrate.proofs.Calls.{out-passes, flat-part}
 use Rattle.fit.specs.declared.kernel.Held.{Held}
@@ -95,7 +95,7 @@ fit-late covered full look arc =
 -- ---- handing out
 
 module _ (x : Float) (N steps base : ℕ) (w out o1 w1 : List Float) (h : N ≤ 180) (k : steps ≤ 5302) (l : frontSize N + 31818 ≤ length w) (q : length out ≡ 6 * (steps + 1))
-    (e : (N ≤ 180 → base ≡ frontSize N) × (base ≤ 131768)) (c : o1 ≡ copied (take (base + 6 * (steps + 1) - base) (drop base w)) out) (cl : w1 ≡ cleared w)
+    (e : Front N base) (c : o1 ≡ copied (take (base + 6 * (steps + 1) - base) (drop base w)) out) (cl : w1 ≡ cleared w)
     (f g t : Bool) (ef : f ≡ finite x) (eg : g ≡ all finite o1) (et : t ≡ f && g) where
   part-is : take (base + 6 * (steps + 1) - base) (drop base w) ≡ take (6 * (steps + 1)) (drop (frontSize N) w)
   part-is = let z : base + 6 * (steps + 1) - base ≡ 6 * (steps + 1) = omega arith in λ i. take (z i) (drop (e .0 h i) w)

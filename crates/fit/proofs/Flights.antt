@@ -8,7 +8,8 @@ use lib.IntN.{ℤ}
 use lib.Ieee.{Float}
 use lib.ListN.{length}
 use borrow.Author.Tests.{le-leb, lt-leb, eq-eqb, ne-eqb}
-use Rattle.integrate.specs.Force.{frontSize, runFits}
+use Rattle.lent.specs.Lent.{frontSize, Front}
+use Rattle.integrate.specs.Force.{runFits}
 use Rattle.integrate.specs.Room.{Run, Only, Orbit}
 use Rattle.integrate.specs.Work.{Ran}
 use Rattle.integrate.specs.declared.kernel.Arc.{Arc}
@@ -47,7 +48,7 @@ module _ (N steps : ℕ) (keys : List ℤ) (states room : ℕ) where
   unfolding arcServes
   serves-states g h k = not-serving (simp (le-leb N 180 g, le-leb steps 5302 h, ne-eqb states (6 * length keys) k))
 
-  module _ (g : N ≤ 180) (h : steps ≤ 5302) (k : states ≡ 6 * length keys) (base : ℕ) (e : (N ≤ 180 → base ≡ frontSize N) × (base ≤ 131768)) where
+  module _ (g : N ≤ 180) (h : steps ≤ 5302) (k : states ≡ 6 * length keys) (base : ℕ) (e : Front N base) where
     pub serves-room : room < base + 90173 → Serving N steps keys states room false
     unfolding arcServes
     serves-room l = not-serving (simp (le-leb N 180 g, le-leb steps 5302 h, eq-eqb states (6 * length keys) k, lt-leb (frontSize N + 90173) room (omega (arith, e .0 g))))
@@ -64,7 +65,7 @@ module _ (N steps : ℕ) (keys : List ℤ) (states room : ℕ) where
     }
 
 module _ (covered : Float → Bool) (full : Float → Vector → Vector) (look : Float → Held) (arc : Arc) (s s' : List Float) (N : ℕ) (keys : List ℤ) (states : ℕ) (t : Bool) (g : Serving N (arc .steps) keys states (length s) t) where
-  pub arc-fitted : (base : ℕ) (answer : Fit) → t ≡ true → (N ≤ 180 → base ≡ frontSize N) × (base ≤ 131768) → Fits covered full look arc s s' base answer →
+  pub arc-fitted : (base : ℕ) (answer : Fit) → t ≡ true → Front N base → Fits covered full look arc s s' base answer →
       ArcFit (arcServes N (arc .steps) keys states (length s)) covered full look arc s s' (frontSize N) answer
   arc-fitted base answer h e f = record {
     fits = λ _. subst (λ (n : ℕ). Fits covered full look arc s s' n answer) (e .0 (g .degree h)) f;

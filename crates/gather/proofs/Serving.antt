@@ -9,10 +9,10 @@ use lib.IntN.{ℤ}
 use lib.Ieee.{Float}
 use lib.ListN.{length, replicate, length-replicate}
 use borrow.Author.Tests.{leb-true, le-leb, eqb-true, eq-eqb}
+use Rattle.lent.specs.Lent.{frontSize, Front}
 use Rattle.laws.specs.Floats.{zero64}
 use Rattle.laws.specs.Checks.{all, isTime, risingSeconds}
 use Rattle.laws.specs.Bools.{by, both-true}
-use Rattle.integrate.specs.Force.{frontSize}
 use Rattle.sighting.specs.Work.{Opened}
 use Rattle.gather.specs.Gather.{Given, gatherServes, SoFar, Done, Gathered}
 use Rattle.gather.proofs.Looks.{stand-stays}
@@ -86,7 +86,7 @@ serves-where N p q ts values good outtimes outraws room s =
 
 module _ (g : Given) (ts rs s : List Float) (base : ℕ)
     (h : gatherServes (g .model .degree) (g .accC .keys) (g .accD .keys) (g .times) (length (g .values)) (length (g .good)) (length ts) (length rs) (length s) ≡ true)
-    (eb : (g .model .degree ≤ 180 → base ≡ frontSize (g .model .degree)) × (base ≤ 131768)) where
+    (eb : Front (g .model .degree) base) where
   serve : Serving (g .model .degree) (g .accC .keys) (g .accD .keys) (g .times) (length (g .values)) (length (g .good)) (length ts) (length rs) (length s)
   serve = serving (g .model .degree) (g .accC .keys) (g .accD .keys) (g .times) (length (g .values)) (length (g .good)) (length ts) (length rs) (length s) h
 

@@ -11,7 +11,7 @@ use lib.ListN.{length, take, drop, getD, length-append, length-drop}
 use lib.Seq.{ext-getD, getD-take, getD-drop, length-take-le, take-add, drop-drop}
 use borrow.Author.Tests.{leb-true, lt-leb, le-leb, eqb-true}
 use Rattle.laws.specs.Floats.{bits}
-use Rattle.laws.specs.Checks.{all, isTime, rising, latest}
+use Rattle.laws.specs.Checks.{all, isTime, rising, latest, degreeFine}
 use Rattle.laws.specs.Loops.{cleared}
 use Rattle.laws.specs.Bools.{both-true}
 use Rattle.slices.specs.Slices.{copied}
@@ -20,13 +20,13 @@ use Rattle.slices.specs.declared.Outcome.{Outcome}
 use Rattle.slices.specs.declared.Outcome.the-variants.{Accepted, Refused}
 use Rattle.slices.proofs.Calls.{call-refused, call-handed}
 use Rattle.slices.proofs.Laws.{copied-all}
-use Rattle.lent.specs.Lent.{degreeFine, fieldsFine, lengthsFit, modelFine}
+use Rattle.lent.specs.Lent.{fieldsFine, lengthsFit, modelFine, frontSize, Front}
 use Rattle.lent.proofs.Passed.{all-pass, degree-passes, lengths-room}
 use Rattle.integrate.specs.declared.kernel.Arc.{Arc}
 use Rattle.integrate.specs.declared.kernel.State.{State}
 use Rattle.integrate.specs.declared.kernel.Force.{Force}
 use Rattle.integrate.specs.Room.{Run, Orbit, six, flat}
-use Rattle.integrate.specs.Force.{model, frontSize, attractionOf, runOf, runFits}
+use Rattle.integrate.specs.Force.{model, attractionOf, runOf, runFits}
 use Rattle.integrate.specs.Work.{Ran, Listed}
 use Rattle.integrate.specs.Calls.{isStart, outFits, arcFits, refusal, integrateCall}
 
@@ -112,7 +112,7 @@ unfolding runFits
 ran-long N steps w w' run h k l r = r .flown (simp (le-leb N 180 h, le-leb steps 5302 k, le-leb (frontSize N + 31818) (length w) l)) .only .long
 
 pub states-are : (N steps base : ℕ) (w w' out out' : List Float) (run : Run) → N ≤ 180 → steps ≤ 5302 → frontSize N + 31818 ≤ length w → length out ≡ 6 * (steps + 1) →
-    Ran (runFits N steps (length w)) w w' (frontSize N) steps run → (N ≤ 180 → base ≡ frontSize N) × (base ≤ 131768) →
+    Ran (runFits N steps (length w)) w w' (frontSize N) steps run → Front N base →
     out' ≡ copied (take (base + 6 * (steps + 1) - base) (drop base w')) out → Listed run (steps + 1) out' w w'
 unfolding runFits
 states-are N steps base w w' out out' run h k l q r e c =

@@ -11,17 +11,18 @@ use lib.ListN.{length, take, drop, getD, replicate, length-append, length-drop, 
 use lib.Seq.{take-at, drop-at, take-all, getD-append-add, getD-drop, getD-take, ext-getD, length-take-le}
 use borrow.Author.Tests.{leb-true}
 use borrow.Rule.Slice.PartMut.{midOf, putMid}
+use Rattle.lent.specs.Lent.{fieldSize, frontSize}
 use Rattle.laws.specs.Floats.{zero64}
 use Rattle.laws.specs.Loops.{cleared}
 use Rattle.laws.specs.Tables.{tri}
 use Rattle.laws.specs.Bools.{by, left-true, right-true}
-use Rattle.model.specs.Field.{cosines, sines, size}
+use Rattle.model.specs.Field.{cosines, sines}
 use Rattle.model.specs.Model.{fieldAt, kindAt}
 use Rattle.model.specs.Calls.{atFits, atLeft}
 use Rattle.model.proofs.Checks.{kind-long}
 use Rattle.series.specs.Prepared.{prepared}
 use Rattle.series.proofs.Published.{prepared-length as long}
-use Rattle.integrate.specs.Force.{Model, model, frontSize, frontAt}
+use Rattle.integrate.specs.Force.{Model, model, frontAt}
 use Rattle.integrate.specs.Room.{Only}
 
 -- a number that equals itself is none
@@ -35,7 +36,7 @@ eq-no-nan (fin s m e) h = tt
 
 fits-room : (N f n a o : ℕ) → atFits N f n a o ≡ true → 2 * tri (N + 1) ≤ o
 unfolding atFits
-fits-room N f n a o h = leb-true (2 * tri (N + 1)) o (right-true (leb N 180 && eqb f (size N) && leb 2 n && leb n (a / size N)) (leb (2 * tri (N + 1)) o) h)
+fits-room N f n a o h = leb-true (2 * tri (N + 1)) o (right-true (leb N 180 && eqb f (fieldSize N) && leb 2 n && leb n (a / fieldSize N)) (leb (2 * tri (N + 1)) o) h)
 
 field-length : (N : ℕ) (field ts fs : List Float) (t : Float) → length (fieldAt N field ts fs t) ≡ 2 * tri (N + 1)
 field-length N field ts fs t =

@@ -12,6 +12,7 @@ use lib.ListN.{length, take, drop, getD, replicate}
 use borrow.Rule.Slice.PartMut.{midOf, putMid, mid-len}
 use lib.Seq.{length-take-le}
 use borrow.Author.Tests.{le-leb, lt-leb, leb-true}
+use Rattle.lent.specs.Lent.{frontSize}
 use Rattle.laws.specs.Floats.{_⊕_, _⊘_, two64, zero64}
 use Rattle.laws.specs.Loops.{cleared}
 use Rattle.laws.specs.WholeNumbers.{number}
@@ -31,7 +32,7 @@ use Rattle.integrate.specs.declared.kernel.Force.the-variants.{Full, J2}
 use Rattle.series.specs.Prepared.{prepared}
 use Rattle.forces.specs.Forces.{gravityWith}
 use Rattle.integrate.specs.Steps.{Acceleration, alongOf, weighedOf, stepOf, stateAt}
-use Rattle.integrate.specs.Force.{Model, model, frontSize, frontAt, fullForce, attractionOf, argumentOf, accelerationOf, strengthsOf, runOf, runFits}
+use Rattle.integrate.specs.Force.{Model, model, frontAt, fullForce, attractionOf, argumentOf, accelerationOf, strengthsOf, runOf, runFits}
 use Rattle.integrate.specs.Room.{stateIn, Run, Only, Holds3, Orbit}
 use Rattle.integrate.specs.Work.{Ready, ReadyFor, Refreshed, Pulled, Pushed, Moved, Stored, Advanced, Begun, Flown, Fitting, Ran}
 use Rattle.integrate.proofs.Places.{only-same, only-then, orbit-first}

@@ -11,7 +11,8 @@ ghost use Rattle.forces.specs.Forces.{momentOf};
 ghost use Rattle.model.specs.Calls.{atLeft};
 ghost use Rattle.series.specs.Prepared.{prepared};
 ghost use Rattle.integrate.specs.Steps.{alongOf, weighedOf, stepOf, stateAt};
-ghost use Rattle.integrate.specs.Force.{model, frontSize, attractionOf, argumentOf, accelerationOf, strengthsOf, runOf, runFits};
+ghost use Rattle.lent.specs.Lent.{frontSize};
+ghost use Rattle.integrate.specs.Force.{model, attractionOf, argumentOf, accelerationOf, strengthsOf, runOf, runFits};
 ghost use Rattle.integrate.specs.Room.{stateIn, Only};
 ghost use Rattle.integrate.specs.Work.{Ready, Refreshed, Pulled, Pushed, Moved, Placed, Stored, Advanced, Begun, Flown, Fitting, Ran};
 
@@ -540,16 +541,6 @@ fn base_of(degree: usize) -> usize
 {
     let n = degree + 1;
     8 * (n * (n + 1) / 2)
-}
-
-// The same for any degree up to 180.
-pub fn front_size(degree: usize) -> usize
-    ensures { λ r. ⌜ (degree ≤ 180 → r ≡ frontSize degree) × (r ≤ 131768) ⌝ }
-{
-    if degree > 180 {
-        return 0;
-    }
-    base_of(degree)
 }
 
 // The nine empirical parameters behind a state's six numbers.

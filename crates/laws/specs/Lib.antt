@@ -12,7 +12,7 @@
 -- the weight of a blend lies from 0 to 1, both included                 Weight          weight-between, difference-finite
 -- whole numbers up to 2^53 are exact; ceil and floor; squeezing         WholeNumbers    number, Is, is-le, is-lt, add-int, sub-int, half-int, ceil, floor, ceil-le, Floored, between
 -- times 0 to 2^31, whole seconds as ℤ, rising lists, last and appended  Times           Time, step, stepTime, second, secondTime, second-is, second-le, whole-second, Rising, RisingSeconds, end, reaches, appended
--- what a call tests of its lists, as Bools                              Checks          all, isTime, isKey, ascending, rising, risingSeconds
+-- what a call tests of its lists, as Bools                              Checks          all, isTime, isKey, degreeFine, ascending, rising, risingSeconds
 -- what those tests say of each element                                  Checks          all-says, time-says, times-say, rising-says, rising-times-say, seconds-say
 -- one turn of a loop that fills, copies or clears a list                Loops           head-at, turn, take-set, fill-turn, fill-done, copy-turn, copy-done, cleared, same-cleared, clear-turn, clear-done
 -- values at the front of m places, one more value; +0.0 or 0 in the rest Loops           filledUp, filled-length, filled-front, filled-none, filled-set

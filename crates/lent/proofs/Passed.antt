@@ -1,5 +1,5 @@
 -- What the tests say where they pass. Assumes nothing.
-use mathlib.Core.Path.{_≡_, sym, ap, _∙_}
+use mathlib.Core.Path.{_≡_, ap}
 use mathlib.Core.Bool.{Bool, true, false, cond, _&&_}
 use mathlib.Core.List.{List}
 use Prim.Native.Nat.{ℕ, _+_, _-_, _*_, _≤_, _<_}
@@ -9,10 +9,10 @@ use lib.Dec.{leb, eqb}
 use lib.IntN.{ℤ}
 use lib.Ieee.{Float}
 use borrow.Author.Tests.{leb-true, le-leb, lt-leb, eqb-true}
-use Rattle.laws.specs.Checks.{rising, risingSeconds}
+use Rattle.laws.specs.Checks.{rising, risingSeconds, degreeFine}
 use Rattle.laws.specs.Bools.{both-true}
 use Rattle.slices.proofs.Calls.{cond-passes}
-use Rattle.lent.specs.Lent.{kind, size, few, frontSize, firstOf, degreeFine, countsFine, modelFits, statesFit, leastScratch, scratchFits, lengthsFit, wholeScratchFits, rise}
+use Rattle.lent.specs.Lent.{kind, fieldSize, few, firstOf, countsFine, modelFits, statesFit, leastScratch, scratchFits, lengthsFit, wholeScratchFits, rise}
 
 -- all of five tests
 pub record AllPass (d k n v o : Bool) : Type 0 where
@@ -85,22 +85,22 @@ unfolding statesFit
 states-pass n values h = eqb-true values (6 * n) (both-true (few n) (eqb values (6 * n)) h .1)
 
 pub record Sizes (N fields field all p q : ℕ) : Type 0 where
-  pub static : field ≡ size N
-  pub added : all ≡ fields * size N
+  pub static : field ≡ fieldSize N
+  pub added : all ≡ fields * fieldSize N
   pub a : p ≡ kind N
   pub b : q ≡ kind N
 
 pub model-passes : (N fields field added a b : ℕ) → modelFits N fields field added a b ≡ true → Sizes N fields field added a b
 unfolding modelFits
 model-passes N fields field added a b h =
-    let p = both-true (leb N 180) (leb fields 32 && ((eqb field (size N) && eqb added (fields * size N)) && (eqb a (kind N) && eqb b (kind N)))) h .1 in
-    let q = both-true (leb fields 32) ((eqb field (size N) && eqb added (fields * size N)) && (eqb a (kind N) && eqb b (kind N))) p .1 in
-    let r = both-true (eqb field (size N) && eqb added (fields * size N)) (eqb a (kind N) && eqb b (kind N)) q in
-    let s = both-true (eqb field (size N)) (eqb added (fields * size N)) (r .0) in
+    let p = both-true (leb N 180) (leb fields 32 && ((eqb field (fieldSize N) && eqb added (fields * fieldSize N)) && (eqb a (kind N) && eqb b (kind N)))) h .1 in
+    let q = both-true (leb fields 32) ((eqb field (fieldSize N) && eqb added (fields * fieldSize N)) && (eqb a (kind N) && eqb b (kind N))) p .1 in
+    let r = both-true (eqb field (fieldSize N) && eqb added (fields * fieldSize N)) (eqb a (kind N) && eqb b (kind N)) q in
+    let s = both-true (eqb field (fieldSize N)) (eqb added (fields * fieldSize N)) (r .0) in
     let t = both-true (eqb a (kind N)) (eqb b (kind N)) (r .1) in
     record {
-      static = eqb-true field (size N) (s .0);
-      added = eqb-true added (fields * size N) (s .1);
+      static = eqb-true field (fieldSize N) (s .0);
+      added = eqb-true added (fields * fieldSize N) (s .1);
       a = eqb-true a (kind N) (t .0);
       b = eqb-true b (kind N) (t .1);
     }
@@ -115,21 +115,10 @@ unfolding lengthsFit
 lengths-room N fields field added a b scratch h =
     omega (arith, scratch-passes N fields 0 scratch (both-true (modelFits N fields field added a b) (scratchFits N fields 0 scratch) h .1))
 
-pub front-is : (N : ℕ) → N ≤ 180 → frontSize N ≡ 8 * kind N
-unfolding frontSize
-front-is N h = rw (le-leb N 180 h)
-
 -- ---- one way through each test
 
 pub product-small : (a b : ℕ) → a ≤ 32 → b ≤ 32944 → a * b ≤ 1054208
 product-small a b h k = mul-le-mul {n₂ = 32} {m₂ = 32944} h k
-
-pub front-over : (N : ℕ) → 180 < N → 0 ≡ frontSize N
-unfolding frontSize
-front-over N h = rw (lt-leb N 180 h)
-
-pub front-within : (N r : ℕ) → N ≤ 180 → r ≡ kind N → 8 * r ≡ frontSize N
-front-within N r h e = ap (λ (i : ℕ). 8 * i) e ∙ sym (front-is N h)
 
 module _ (N fields field added a b : ℕ) where
   pub model-degree : 180 < N → false ≡ modelFits N fields field added a b
@@ -140,7 +129,7 @@ module _ (N fields field added a b : ℕ) where
   unfolding modelFits
   model-count h k = rw (le-leb N 180 h, lt-leb fields 32 k)
 
-  pub model-within : (r : Bool) → N ≤ 180 → fields ≤ 32 → r ≡ ((eqb field (size N) && eqb added (fields * size N)) && (eqb a (kind N) && eqb b (kind N))) → r ≡ modelFits N fields field added a b
+  pub model-within : (r : Bool) → N ≤ 180 → fields ≤ 32 → r ≡ ((eqb field (fieldSize N) && eqb added (fields * fieldSize N)) && (eqb a (kind N) && eqb b (kind N))) → r ≡ modelFits N fields field added a b
   unfolding modelFits
   model-within r h k e = rw (le-leb N 180 h, le-leb fields 32 k) e
 

@@ -9,7 +9,8 @@ use lib.Dec.{leb}
 use lib.ListN.{length}
 use lib.Ieee.{Float}
 use lib.Ieee.Scale.{finite}
-use Rattle.laws.specs.Checks.{all, rising}
+use Rattle.fields.specs.Calls.{handedTwo}
+use Rattle.laws.specs.Checks.{all, rising, degreeFine}
 use Rattle.laws.specs.Loops.{cleared, same-cleared}
 use Rattle.laws.specs.Tables.{tri, rows-length}
 use Rattle.laws.specs.Bools.{both-true}
@@ -18,11 +19,11 @@ use Rattle.slices.specs.Calls.{Left, left, handed, settled}
 use Rattle.slices.specs.declared.Outcome.{Outcome}
 use Rattle.slices.specs.declared.Outcome.the-variants.{Accepted, Refused}
 use Rattle.slices.proofs.Calls.{call-refused, call-handed}
-use Rattle.lent.specs.Lent.{degreeFine, fieldsFine, lengthsFit}
+use Rattle.lent.specs.Lent.{fieldsFine, lengthsFit}
 use Rattle.lent.proofs.Passed.{all-pass, degree-passes, Sizes, lengths-pass}
 use Rattle.model.specs.Field.{cosines, sines}
 use Rattle.model.specs.Model.{bracket, weight, addedField, blended, blendOf, kindAt}
-use Rattle.model.specs.Calls.{timesFine, coverRefusal, valuesFine, atRefusal, uncovered, handedTwo, atWork, atCall, told, coverAnswer, coverCall}
+use Rattle.model.specs.Calls.{timesFine, coverRefusal, valuesFine, atRefusal, uncovered, atWork, atCall, told, coverAnswer, coverCall}
 use Rattle.model.specs.declared.Cover.the-variants.{Covered, Uncovered, Refused as NotTold}
 
 -- one test after another

@@ -10,12 +10,12 @@ use lib.Ieee.Scale.{finite}
 use lib.ListN.{length, getD, replicate}
 use borrow.Author.Tests.{leb-true, eqb-true}
 use Rattle.laws.specs.Floats.{zero64}
-use Rattle.laws.specs.Checks.{all, isTime, rising, risingSeconds}
+use Rattle.laws.specs.Checks.{all, isTime, rising, risingSeconds, degreeFine}
 use Rattle.laws.specs.Bools.{both-true}
-use Rattle.lent.specs.Lent.{degreeFine, countsFine, modelFits, leastScratch, wholeScratchFits, modelFine, keyedFine}
+use Rattle.lent.specs.Lent.{countsFine, modelFits, leastScratch, wholeScratchFits, modelFine, keyedFine, frontSize}
 use Rattle.lent.proofs.Passed.{all-pass, degree-passes}
 use Rattle.finality.specs.Brackets.{covers}
-use Rattle.integrate.specs.Force.{frontSize, fullForce}
+use Rattle.integrate.specs.Force.{fullForce}
 use Rattle.fit.specs.Fit.{stateFor}
 use Rattle.windows.specs.Windows.{Ends}
 use Rattle.windows.proofs.Filling.{ends-at}

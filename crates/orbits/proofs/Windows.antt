@@ -11,6 +11,7 @@ use lib.Ieee.{Float, nan, lt}
 use lib.ListN.{length, take, getD, set, replicate, length-append, length-map, length-set}
 use lib.Seq.{take-all}
 use lib.Ieee.Bits.{is-true}
+use Rattle.lent.specs.Lent.{frontSize}
 use Rattle.laws.specs.Floats.{zero64, _⊖_}
 use Rattle.laws.specs.Lists.{map-append}
 use Rattle.laws.specs.Order.{lt→le}
@@ -20,7 +21,6 @@ use Rattle.finality.specs.Tables.{Table, keyOf}
 use Rattle.finality.specs.Arcs.{longest, start, steps, arcOf, inside}
 use Rattle.finality.proofs.Windows.{steps-short}
 use Rattle.vectors.specs.declared.Vector.{Vector}
-use Rattle.integrate.specs.Force.{frontSize}
 use Rattle.integrate.specs.Room.{Run}
 use Rattle.integrate.specs.declared.kernel.State.{State}
 use Rattle.integrate.specs.declared.kernel.Arc.{Arc as ArcStruct}

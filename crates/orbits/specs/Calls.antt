@@ -8,9 +8,9 @@ use lib.Ieee.{Float}
 use lib.Ieee.Scale.{finite}
 use lib.ListN.{length}
 use Rattle.laws.specs.Floats.{zero64}
-use Rattle.laws.specs.Checks.{all, isTime, rising, risingSeconds}
+use Rattle.laws.specs.Checks.{all, isTime, rising, risingSeconds, degreeFine}
 use Rattle.laws.specs.Loops.{cleared, filledUp}
-use Rattle.lent.specs.Lent.{firstOf, degreeFine, countsFine, modelFits, wholeScratchFits, modelFine, keyedFine}
+use Rattle.lent.specs.Lent.{firstOf, countsFine, modelFits, wholeScratchFits, modelFine, keyedFine}
 use Rattle.finality.specs.Tables.{keyOf}
 use Rattle.finality.specs.Brackets.{covers}
 use Rattle.integrate.specs.Force.{Model, fullForce}

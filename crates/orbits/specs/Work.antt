@@ -7,12 +7,12 @@ use lib.Dec.{T}
 use lib.IntN.{ℤ, pos}
 use lib.Ieee.{Float, lt}
 use lib.ListN.{length, set}
+use Rattle.lent.specs.Lent.{frontSize}
 use Rattle.laws.specs.Floats.{zero64, _⊖_}
 use Rattle.laws.specs.Checks.{risingSeconds}
 use Rattle.laws.specs.Loops.{filledUp}
 use Rattle.finality.specs.Tables.{Table, keyOf}
 use Rattle.finality.specs.Arcs.{longest}
-use Rattle.integrate.specs.Force.{frontSize}
 use Rattle.integrate.specs.Room.{Run, stateIn}
 use Rattle.integrate.specs.declared.kernel.State.{State}
 use Rattle.windows.specs.Windows.{Ends}

@@ -135,7 +135,7 @@ fn fit_between(
     ensures { λ r. ⌜ Adds (windowFit (covers (now (times .entry))) (fullForce (model degree (now (field .entry)) (now (times .entry)) (now (added .entry))) (now (a .entry)) (now (b .entry))) (stateFor (now (keys .entry)) (now (states .entry))) from to) 1 done r (outputs (now (outkeys .entry)) (now (outstates .entry)) (now (rms .entry))) (outputs (now (outkeys .exit)) (now (outstates .exit)) (now (rms .exit))) ⌝ }
 {
     let arc = windows::kernel::arc_between(from, to);
-    let base = integrate::kernel::front_size(degree);
+    let base = lent::front_size(degree);
     let fitted = fit::kernel::fit_arc(degree, field, a, b, times, added, keys, states, arc, s);
     match fitted {
         fit::kernel::Fitted::Fitted(x) => {

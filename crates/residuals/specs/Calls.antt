@@ -8,13 +8,13 @@ use lib.Ieee.{Float}
 use lib.Ieee.Scale.{finite}
 use lib.ListN.{length, replicate}
 use Rattle.laws.specs.Floats.{zero64}
-use Rattle.laws.specs.Checks.{all, isTime, rising}
+use Rattle.laws.specs.Checks.{all, isTime, rising, degreeFine}
 use Rattle.laws.specs.Loops.{cleared, filledUp}
 use Rattle.slices.specs.Calls.{Left, left}
 use Rattle.slices.specs.declared.Counted.{Counted}
 use Rattle.slices.specs.declared.Counted.the-variants.{Counted as Filled, Refused as NotFilled}
 use Rattle.finality.specs.Sheet.{Observation, keptOf}
-use Rattle.lent.specs.Lent.{firstOf, degreeFine, countsFine, modelFits, tablesFit, scratchFits, modelFine, keyedFine, rise}
+use Rattle.lent.specs.Lent.{firstOf, countsFine, modelFits, tablesFit, scratchFits, modelFine, keyedFine, rise}
 use Rattle.epochs.specs.declared.Epoch.{Epoch}
 use Rattle.residuals.specs.declared.Verdict.the-variants.{Kept, NotKept, Refused}
 use Rattle.residuals.specs.declared.EpochAnswer.{EpochAnswer}

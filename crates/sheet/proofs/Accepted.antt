@@ -13,13 +13,12 @@ use lib.ListN.{length, replicate, length-replicate}
 use borrow.Author.Tests.{leb-true, le-leb, eqb-true, eq-eqb}
 use Rattle.laws.specs.Floats.{zero64}
 use Rattle.laws.specs.Tables.{tri}
-use Rattle.laws.specs.Checks.{all, isTime, rising, risingSeconds}
+use Rattle.laws.specs.Checks.{all, isTime, rising, risingSeconds, degreeFine}
 use Rattle.laws.specs.Bools.{both-true, holds}
-use Rattle.lent.specs.Lent.{kind, size, degreeFine, countsFine, modelFits, statesFit, tablesFit, leastScratch, wholeScratchFits, modelFine, keyedFine, rise}
+use Rattle.lent.specs.Lent.{kind, fieldSize, countsFine, modelFits, statesFit, tablesFit, leastScratch, wholeScratchFits, modelFine, keyedFine, rise, frontSize}
 use Rattle.lent.proofs.Passed.{all-pass, Few, counts-pass, Rise, rise-passes, states-pass, model-passes}
 use Rattle.series.specs.Prepared.{prepared}
 use Rattle.model.specs.Calls.{atFits}
-use Rattle.integrate.specs.Force.{frontSize}
 use Rattle.integrate.proofs.Front.{prepared-length}
 use Rattle.windows.specs.Stage.{Setting}
 use Rattle.windows.specs.Windows.{roomFor, windowsServe}
@@ -36,8 +35,8 @@ pub record Accepts (S : Setting) (l : Lists) (outputs : List (List Float)) (room
   pub counts : Few (length (l .keysC)) (length (l .keysD)) (length (l .accKeysC)) (length (l .accKeysD))
   pub nodes : length (l .nodes) ≤ 64
   pub observations : length (l .times) ≤ 100000
-  pub static : length (S .static) ≡ size (S .degree)
-  pub added : length (l .added) ≡ length (l .fieldTimes) * size (S .degree)
+  pub static : length (S .static) ≡ fieldSize (S .degree)
+  pub added : length (l .added) ≡ length (l .fieldTimes) * fieldSize (S .degree)
   pub statesC : length (l .statesC) ≡ 6 * length (l .keysC)
   pub statesD : length (l .statesD) ≡ 6 * length (l .keysD)
   pub accC : length (l .accC) ≡ length (l .accKeysC)
@@ -54,8 +53,8 @@ pub record Accepts (S : Setting) (l : Lists) (outputs : List (List Float)) (room
   pub times-rise : rising (l .times) ≡ true
 
 record Lengths (S : Setting) (l : Lists) (outputs : List (List Float)) (room : ℕ) : Type 0 where
-  pub static : length (S .static) ≡ size (S .degree)
-  pub added : length (l .added) ≡ length (l .fieldTimes) * size (S .degree)
+  pub static : length (S .static) ≡ fieldSize (S .degree)
+  pub added : length (l .added) ≡ length (l .fieldTimes) * fieldSize (S .degree)
   pub statesC : length (l .statesC) ≡ 6 * length (l .keysC)
   pub statesD : length (l .statesD) ≡ 6 * length (l .keysD)
   pub accC : length (l .accC) ≡ length (l .accKeysC)
@@ -217,10 +216,10 @@ module _ (S : Setting) (l : Lists) (outputs : List (List Float)) (room : ℕ) (h
       let N : ℕ = S .degree in
       let f : ℕ = length (l .fieldTimes) in
       let w = prepared-length N (replicate (frontSize N) zero64) in
-      let pos : 0 < size N = omega arith in
-      let q : length (l .added) / size N ≡ f = ap (λ (n : ℕ). n / size N) (h .added) ∙ mul-div-cancel f pos in
+      let pos : 0 < fieldSize N = omega arith in
+      let q : length (l .added) / fieldSize N ≡ f = ap (λ (n : ℕ). n / fieldSize N) (h .added) ∙ mul-div-cancel f pos in
       let room' : 2 * tri (N + 1) ≤ length (prepared N (replicate (frontSize N) zero64)) = omega (arith, w, length-replicate (frontSize N) zero64) in
-      rw (le-leb N 180 (h .degree), eq-eqb (length (S .static)) (size N) (h .static), le-leb 2 f (h .fields), le-leb f (length (l .added) / size N) (omega (arith, q)), le-leb (2 * tri (N + 1)) (length (prepared N (replicate (frontSize N) zero64))) room') refl
+      rw (le-leb N 180 (h .degree), eq-eqb (length (S .static)) (fieldSize N) (h .static), le-leb 2 f (h .fields), le-leb f (length (l .added) / fieldSize N) (omega (arith, q)), le-leb (2 * tri (N + 1)) (length (prepared N (replicate (frontSize N) zero64))) room') refl
 
   -- there is room for the fits of a satellite
   pub windows-serve : (keys : List ℤ) (states : List Float) (satellite : ℕ) → satellite ≤ 1 → length states ≡ 6 * length keys → risingSeconds keys ≡ true →

@@ -10,6 +10,7 @@ use lib.IntN.{ℤ}
 use lib.ListN.{length, take, getD, length-map}
 use lib.Ieee.{Float, nan, lt}
 use borrow.Author.Tests.{leb-true, le-leb, eqb-true, eq-eqb}
+use Rattle.lent.specs.Lent.{frontSize}
 use Rattle.laws.specs.Floats.{zero64}
 use Rattle.laws.specs.Checks.{all, isTime, rising, risingSeconds}
 use Rattle.laws.specs.Times.{Time}
@@ -24,7 +25,7 @@ use Rattle.epochs.specs.Epochs.{time, residual}
 use Rattle.epochs.specs.declared.Epoch.{Epoch}
 use Rattle.detrend.specs.Revolutions.{removedOf}
 use Rattle.filter.specs.Filter.{bandPass}
-use Rattle.integrate.specs.Force.{model, frontSize, fullForce}
+use Rattle.integrate.specs.Force.{model, fullForce}
 use Rattle.integrate.specs.declared.kernel.State.{State}
 use Rattle.fit.specs.Fit.{stateFor}
 use Rattle.sighting.specs.Kept.{keyed, numbers, epochBy, observations}

@@ -12,6 +12,7 @@ use lib.IntN.{ℤ}
 use lib.Signed.{ltZ}
 use lib.Ieee.{Float, nan}
 use lib.ListN.{length, getD, drop, replicate}
+use Rattle.lent.specs.Lent.{frontSize}
 use Rattle.laws.specs.Floats.{zero64}
 use Rattle.laws.specs.Tables.{tri}
 use Rattle.laws.specs.Times.{second}
@@ -24,7 +25,7 @@ use Rattle.forces.specs.Forces.{gravityWith, tidesOf}
 use Rattle.model.specs.Field.{gm, radius}
 use Rattle.model.specs.Model.{fieldAt}
 use Rattle.model.specs.Calls.{atFits, atLeft}
-use Rattle.integrate.specs.Force.{Model, model, frontSize, frontAt, fullForce}
+use Rattle.integrate.specs.Force.{Model, model, frontAt, fullForce}
 use Rattle.integrate.specs.Room.{stateIn}
 use Rattle.integrate.specs.declared.kernel.State.{State}
 use Rattle.finality.specs.Tables.{sameSecond, find}

@@ -12,6 +12,7 @@ use lib.ListN.{length, replicate}
 use lib.Ieee.Bits.{is-true}
 use lib.Ieee.Fits.{and-i}
 use borrow.Author.Tests.{le-leb}
+use Rattle.lent.specs.Lent.{frontSize}
 use Rattle.laws.specs.Floats.{zero64, _⊖_}
 use Rattle.laws.specs.Order.{lt→le}
 use Rattle.laws.specs.WholeNumbers.{Is, is-le, is-lt}
@@ -26,7 +27,7 @@ use Rattle.finality.specs.Brackets.{covers}
 use Rattle.finality.specs.Tables.{Table, find}
 use Rattle.finality.specs.Arcs.{longest, start, steps, arcOf, inside, windowOf}
 use Rattle.finality.proofs.Windows.{k, k-le, P, N, P-le, N-le, steps-le, step-is, steps-short}
-use Rattle.integrate.specs.Force.{model, frontSize, fullForce}
+use Rattle.integrate.specs.Force.{model, fullForce}
 use Rattle.integrate.specs.declared.kernel.State.{State}
 use Rattle.integrate.specs.declared.kernel.Arc.{Arc as ArcStruct}
 use Rattle.fit.specs.Fit.{fitOf, orbitOf, stateFor}

@@ -8,6 +8,7 @@ use lib.Dec.{leb}
 use lib.IntN.{ℤ}
 use lib.ListN.{drop, replicate}
 use lib.Ieee.{Float}
+use Rattle.lent.specs.Lent.{frontSize}
 use Rattle.laws.specs.Floats.{zero64}
 use Rattle.laws.specs.Tables.{tri, row}
 use Rattle.laws.specs.Times.{second}
@@ -18,7 +19,6 @@ use Rattle.vectors.specs.declared.Vector.{Vector}
 use Rattle.series.specs.Prepared.{prepared}
 use Rattle.forces.specs.Forces.{gravityWith, tidesOf}
 use Rattle.model.specs.Field.{gm, radius}
-use Rattle.integrate.specs.Force.{frontSize}
 use Rattle.integrate.specs.Room.{Run, stateIn}
 use Rattle.integrate.specs.declared.kernel.State.{State}
 use Rattle.integrate.specs.declared.kernel.Arc.{Arc as ArcStruct}

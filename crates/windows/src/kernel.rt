@@ -13,7 +13,8 @@ ghost use Rattle.numbers.specs.Seconds.{wholeSecond};
 ghost use Rattle.finality.specs.Arcs.{start, steps, longest, inside};
 ghost use Rattle.laws.specs.Tables.{row};
 ghost use Rattle.finality.specs.Brackets.{covers};
-ghost use Rattle.integrate.specs.Force.{model, frontSize, fullForce};
+ghost use Rattle.lent.specs.Lent.{frontSize};
+ghost use Rattle.integrate.specs.Force.{model, fullForce};
 ghost use Rattle.integrate.specs.Room.{Run, stateIn};
 ghost use Rattle.fit.specs.Fit.{stateFor};
 ghost use Rattle.windows.specs.Windows.{windowBy, windowFine, arcBetween, roomFor, windowsServe, Leaves, Windowed, Ends, Filled, WindowsFit};
@@ -306,7 +307,7 @@ fn room_for(degree: usize, nodes: usize, room: usize) -> bool
     if degree > 180 {
         return false;
     }
-    let base = integrate::kernel::front_size(degree) + 150000;
+    let base = lent::front_size(degree) + 150000;
     if base > room {
         return false;
     }
@@ -351,7 +352,7 @@ pub fn fit_windows(
     ensures { λ r. ⌜ WindowsFit (windowsServe degree (now (keys .entry)) (length (now (states .entry))) (now (nodes .entry)) satellite (length (now (s .entry)))) (windowBy (covers (now (times .entry))) (fullForce (model degree (now (field .entry)) (now (times .entry)) (now (added .entry))) (now (a .entry)) (now (b .entry))) (stateFor (now (keys .entry)) (now (states .entry)))) (now (nodes .entry)) (now (s .entry)) (now (s .exit)) (frontSize degree) satellite r ⌝ }
 {
     if windows_serve(degree, keys, states.len(), nodes, satellite, s.len()) {
-        let base = integrate::kernel::front_size(degree);
+        let base = lent::front_size(degree);
         fit_each(
             degree,
             field,
