@@ -2,18 +2,20 @@
 use mathlib.Core.Path.{_≡_, refl, sym, ap, _∙_}
 use mathlib.Core.Bool.{Bool, true, false, cond, not, _&&_}
 use mathlib.Core.List.{List, [], _∷_, _++_, append-assoc, append-nil}
-use Prim.Native.Nat.{ℕ, zero, suc, _+_, _-_, _*_, _/_, _%_, _<_, _≤_}
-use native.Mathlib.Numerals.{add-one}
+use Prim.Native.Nat.{ℕ, zero, suc, _+_, _-_, _*_, _/_, _<_, _≤_}
 use native.Mathlib.Omega.{arith}
 use borrow.Author.Tests.{not-true, not-false, lt-ltb, le-ltb, ltb-false, le-leb}
-use lib.Dec.{leb, ltb, eqb}
-use lib.ListN.{length, take, drop, getD, set, length-append, length-take, drop-of-length-le, List·getD-eq-default}
-use lib.Seq.{take-suc, take-at, take-all, length-take-le}
+use lib.Dec.{ltb, eqb}
+use lib.ListN.{length, take, drop, getD, set, length-append, drop-of-length-le, List·getD-eq-default}
+use lib.Seq.{length-take-le}
 use lib.Ieee.{Float, nan, binary64, ofBits, toBits}
 use Rattle.laws.specs.Loops.{head-at, fill-turn, fill-done, take-set}
-use Rattle.hex.specs.Digits.{wordAt, digitsOf, glyphOf, written, placesIn, placesOf, decimalOf, Put}
+use Rattle.hex.specs.Digits.{wordAt, digitsOf, written, decimalOf, isWord, bitsOf, floatAt}
 use Rattle.hex.specs.declared.Parsed.{Parsed}
 use Rattle.hex.specs.declared.Parsed.the-variants.{Value, Malformed}
+use Rattle.hex.proofs.Printing.{then, written-prints, printed-fits}
+use Rattle.hex.proofs.Laws.{digits-length}
+use Rattle.hex.specs.Printing.{lineFeed, refusedText, Printed}
 use lib.Ieee.Scale.{finite}
 use Rattle.io.specs.Counts.{Counts}
 use borrow.Author.Tests.{eq-eqb}
@@ -26,15 +28,9 @@ use Rattle.slices.specs.declared.Outcome.{Outcome}
 use Rattle.slices.specs.declared.Outcome.the-variants.{Accepted, Refused}
 use Rattle.filter.specs.Filter.{bandPass}
 use Rattle.filter.specs.Calls.{longRuns, bandRefusal, bandPassCall}
-use Rattle.band_pass_program.specs.Text.{isWord, bitsOf, isLine, refusalFrom, textRefusal, floatAt, column, lineFeed, refusedText, lineText, linesText, summaryText, passedText, unlessRefused, numbersRefusal, numbersText, answer, Printed}
+use Rattle.band_pass_program.specs.Text.{isLine, refusalFrom, textRefusal, column, lineText, linesText, summaryText, passedText, unlessRefused, numbersRefusal, numbersText, answer}
 
 -- ---- words
-
-pub word-true : (w p : Parsed) (n : ℕ) → w ≡ p → w ≡ Value n → true ≡ isWord p
-word-true w p n e h = ap isWord (sym h ∙ e)
-
-pub word-false : (w p : Parsed) → w ≡ p → w ≡ Malformed → false ≡ isWord p
-word-false w p e h = ap isWord (sym h ∙ e)
 
 pub float-value : (text : List ℕ) (at : ℕ) (w : Parsed) (n : ℕ) (r : Float) → w ≡ wordAt text at → w ≡ Value n → r ≡ ofBits binary64 n → r ≡ floatAt text at
 unfolding floatAt
@@ -129,74 +125,6 @@ column-done text from out out₀ k l h inv =
     let z : length out₀ - k ≡ 0 = omega arith in
     fill-done out (column text (from + 33 * k) (length out₀ - k)) (column text from (length out₀)) k h (ap (column text (from + 33 * k)) z) inv
 
--- ---- bytes
-
-pub bytes-starts : (out bytes : List ℕ) (at : ℕ) → take (at + 0) out ≡ take at out ++ take 0 bytes
-bytes-starts out bytes at = let a : at + 0 ≡ at = omega arith in ap (λ (k : ℕ). take k out) a ∙ sym (append-nil (take at out))
-
-pub bytes-turn : (bytes out out₀ : List ℕ) (at k : ℕ) → length out ≡ length out₀ → at + length bytes ≤ length out₀ → k < length bytes →
-    take (at + k) out ≡ take at out₀ ++ take k bytes → take (at + (k + 1)) (set out (at + k) (getD bytes k 0)) ≡ take at out₀ ++ take (k + 1) bytes
-bytes-turn bytes out out₀ at k l r h inv =
-    let s : at + (k + 1) ≡ at + k + 1 = omega arith in
-    let t : take (k + 1) bytes ≡ take k bytes ++ (getD bytes k 0 ∷ []) = rw add-one (take-suc bytes k 0 h) in
-    rw s (take-set out (at + k) (getD bytes k 0) (omega arith) ∙ ap (λ (x : List ℕ). x ++ (getD bytes k 0 ∷ [])) inv ∙ append-assoc (take at out₀) (take k bytes) (getD bytes k 0 ∷ []) ∙ ap (λ (x : List ℕ). take at out₀ ++ x) (sym t))
-
-pub bytes-done : (bytes out out₀ : List ℕ) (at k : ℕ) → length bytes ≤ k → k ≤ length bytes → take (at + k) out ≡ take at out₀ ++ take k bytes → Printed bytes out₀ at out (at + k)
-bytes-done bytes out out₀ at k h g inv = record {
-  ends = omega arith;
-  text = inv ∙ ap (λ (x : List ℕ). take at out₀ ++ x) (take-all k bytes h);
-}
-
--- one piece after another
-pub then : (b1 b2 o o1 o2 : List ℕ) (at r s : ℕ) → Printed b1 o at o1 r → Printed b2 o1 r o2 s → Printed (b1 ++ b2) o at o2 s
-then b1 b2 o o1 o2 at r s p q = record {
-  ends = q .ends ∙ simp length-append (omega (arith, p .ends));
-  text = q .text ∙ ap (λ (x : List ℕ). x ++ b2) (p .text) ∙ append-assoc (take at o) b1 b2;
-}
-
--- ---- digits
-
-digits-length : (base k n : ℕ) → length (digitsOf base k n) ≡ k
-unfolding digitsOf
-digits-length base zero n = refl
-digits-length base (suc k) n = length-append (digitsOf base k (n / base)) (glyphOf (n % base) ∷ []) ∙ rw (digits-length base k (n / base)) (add-one k)
-
-places-few : (k n : ℕ) → placesIn k n ≤ k + 1
-unfolding placesIn
-places-few zero n = omega arith
-places-few (suc k) n = Rattle.laws.specs.Lists.cond-ind (λ (m : ℕ). m ≤ suc k + 1) (ltb n 10) 1 (suc (placesIn k (n / 10))) (λ _. omega arith) (λ _. omega (arith, places-few k (n / 10)))
-
-written-prints : (o ys : List ℕ) (at e : ℕ) → e ≡ at + length ys → e ≤ length o → Printed ys o at (written o at ys) e
-unfolding written
-written-prints o ys at e h g =
-    let f : length ys ≤ length o - at = omega arith in
-    let l : length (take at o ++ ys) ≡ e = simp length-append (rw (length-take-le at o (omega arith)) (sym h)) in
-    record {
-      ends = h;
-      text = rw (le-leb (length ys) (length o - at) f) (ap (take e) (sym (append-assoc (take at o) ys (drop (at + length ys) o))) ∙ take-at (take at o ++ ys) (drop (at + length ys) o) e l);
-    }
-
-cond-few : (b : Bool) (k : ℕ) → k ≤ 20 → cond b k 0 ≤ 20
-cond-few true k h = h
-cond-few false k h = omega arith
-
-pub count-few : {n : ℕ} {o : List ℕ} {at : ℕ} {o' : List ℕ} {k : ℕ} → Put n o at o' k → k ≤ 20
-count-few {n} {o} {at} p = rw (p .count) (cond-few (leb (placesOf n) (length o - at)) (placesOf n) (places-few 19 n))
-
-pub count-fits : (n at k : ℕ) (o o' : List ℕ) → at + 20 ≤ length o → Put n o at o' k → at + k ≤ at + 20
-count-fits n at k o o' h p =
-    let f : placesOf n ≤ 20 = places-few 19 n in
-    let c : k ≡ placesOf n = p .count ∙ rw (le-leb (placesOf n) (length o - at) (omega arith)) in
-    omega arith
-
-pub count-prints : (n at k : ℕ) (o o' : List ℕ) → at + 20 ≤ length o → Put n o at o' k → Printed (decimalOf n) o at o' (at + k)
-count-prints n at k o o' h p =
-    let f : placesOf n ≤ 20 = places-few 19 n in
-    let c : k ≡ placesOf n = p .count ∙ rw (le-leb (placesOf n) (length o - at) (omega arith)) in
-    let d : length (decimalOf n) ≡ placesOf n = digits-length 10 (placesOf n) n in
-    let w = written-prints o (decimalOf n) at (at + k) (omega (arith, c, d)) (omega (arith, c)) in
-    record { ends = w .ends; text = ap (take (at + k)) (p .text) ∙ w .text }
-
 -- ---- a line
 
 pub line-prints : (t v : Float) (a b at : ℕ) (o o1 o2 : List ℕ) → at + 33 ≤ length o → a ≡ toBits binary64 t → b ≡ toBits binary64 v →
@@ -247,12 +175,6 @@ lines-done ts vs out out₀ i h g l inv =
     }
 
 -- ---- sentences
-
-pub refused-prints : (n : ℕ) (o o1 o2 o3 : List ℕ) (a b r : ℕ) → Printed (114 ∷ 101 ∷ 102 ∷ 117 ∷ 115 ∷ 101 ∷ 100 ∷ 32 ∷ []) o 0 o1 a → Printed (decimalOf n) o1 a o2 b → Printed lineFeed o2 b o3 r →
-    Printed (refusedText n) o 0 o3 r
-unfolding refusedText
-refused-prints n o o1 o2 o3 a b r p q s =
-    then (114 ∷ 101 ∷ 102 ∷ 117 ∷ 115 ∷ 101 ∷ 100 ∷ 32 ∷ []) (decimalOf n ++ lineFeed) o o1 o3 0 a r p (then (decimalOf n) lineFeed o1 o2 o3 a b r q s)
 
 pub summary-prints : (m n : ℕ) (o o1 o2 o3 o4 o5 : List ℕ) (at a b c d r : ℕ) → Printed (114 ∷ 117 ∷ 110 ∷ 115 ∷ 32 ∷ []) o at o1 a → Printed (decimalOf m) o1 a o2 b →
     Printed (32 ∷ 112 ∷ 97 ∷ 115 ∷ 115 ∷ 101 ∷ 100 ∷ 32 ∷ []) o2 b o3 c → Printed (decimalOf n) o3 c o4 d → Printed lineFeed o4 d o5 r → Printed (summaryText m n) o at o5 r
@@ -341,9 +263,6 @@ text-answered text times out out' n m r e h em few room p =
     let ek : length (midOf 0 (m - 0) times) ≡ length text / 33 = mid-len 0 m times (omega arith) ∙ z ∙ em in
     mathlib.Core.Path.subst (λ (t : List ℕ). Printed t out 0 out' r)
     ((λ i. numbersText (column text 0 (ek i)) (column text 16 (ek i))) ∙ ap (λ (j : ℕ). unlessRefused j (numbersText (column text 0 (length text / 33)) (column text 16 (length text / 33)))) (sym h ∙ e)) p
-
-printed-fits : (bytes before after : List ℕ) (r : ℕ) → Printed bytes before 0 after r → r ≤ length after
-printed-fits bytes before after r p = omega (arith, p .ends, simp length-append at (ap length (p .text)), length-take r after)
 
 pub printed-counts : (bytes before after : List ℕ) (r : ℕ) → Printed bytes before 0 after r → Counts r after
 printed-counts bytes before after r p = let h : r ≤ length after = printed-fits bytes before after r p in (h, sym (length-take-le r after h))

@@ -1,30 +1,20 @@
 -- The band-pass program (document 01, "The band-pass program"): what its input says, and what it prints. Bytes are ASCII. Assumes nothing.
-use mathlib.Core.Path.{_≡_}
-use mathlib.Core.Bool.{Bool, true, false, cond, _&&_}
+use mathlib.Core.Bool.{Bool, cond, _&&_}
 use mathlib.Core.List.{List, [], _∷_, _++_}
 use Prim.Native.Nat.{ℕ, zero, suc, _+_, _*_, _/_}
 use lib.Dec.{leb, ltb, eqb}
-use lib.ListN.{length, take, getD}
-use lib.Ieee.{Float, binary64, ofBits, toBits}
+use lib.ListN.{length, getD}
+use lib.Ieee.{Float, binary64, toBits}
 use lib.Ieee.Scale.{finite}
 use Rattle.laws.specs.Checks.{all, isTime, rising}
 use Rattle.laws.specs.Runs.{runsOf}
-use Rattle.hex.specs.Digits.{wordAt, digitsOf, decimalOf}
-use Rattle.hex.specs.declared.Parsed.{Parsed}
-use Rattle.hex.specs.declared.Parsed.the-variants.{Value, Malformed}
+use Rattle.hex.specs.Digits.{wordAt, digitsOf, decimalOf, isWord, floatAt}
+use Rattle.hex.specs.Printing.{lineFeed, refusedText}
 use Rattle.slices.specs.Calls.{firstFailed}
 use Rattle.filter.specs.Filter.{bandPass}
 use Rattle.filter.specs.Calls.{longRuns}
 
 -- ---- input
-
-abbrev pub isWord : Parsed → Bool
-isWord (Value n) = true
-isWord Malformed = false
-
-abbrev pub bitsOf : Parsed → ℕ
-bitsOf (Value n) = n
-bitsOf Malformed = 0
 
 -- a line from `at` on: the digits of two words, and a line feed
 unfoldable pub isLine : List ℕ → ℕ → Bool
@@ -38,23 +28,12 @@ refusalFrom (suc k) text at = cond (ltb at (length text)) (cond (isLine text at)
 abbrev pub textRefusal : List ℕ → ℕ
 textRefusal text = refusalFrom 4096 text 0
 
--- the double whose bits stand at `at`
-unfoldable pub floatAt : List ℕ → ℕ → Float
-floatAt text at = ofBits binary64 (bitsOf (wordAt text at))
-
--- those of n lines, from `at` on
+-- the doubles of n lines, from the words at `at` on
 unfoldable pub column : List ℕ → ℕ → ℕ → List Float
 column text at zero = []
 column text at (suc n) = floatAt text at ∷ column text (at + 33) n
 
 -- ---- output
-
-abbrev pub lineFeed : List ℕ
-lineFeed = 10 ∷ []
-
--- "refused N"
-unfoldable pub refusedText : ℕ → List ℕ
-refusedText n = (114 ∷ 101 ∷ 102 ∷ 117 ∷ 115 ∷ 101 ∷ 100 ∷ 32 ∷ []) ++ (decimalOf n ++ lineFeed)
 
 unfoldable pub lineText : Float → Float → List ℕ
 lineText t v = digitsOf 16 16 (toBits binary64 t) ++ (digitsOf 16 16 (toBits binary64 v) ++ lineFeed)
@@ -90,10 +69,3 @@ numbersText ts x = unlessRefused (numbersRefusal ts x) (passedText ts (bandPass 
 -- what the program prints for a text
 unfoldable pub answer : List ℕ → List ℕ
 answer text = unlessRefused (textRefusal text) (numbersText (column text 0 (length text / 33)) (column text 16 (length text / 33)))
-
--- ---- how the code prints
-
--- bytes go behind what stands before `at`; `end` is where they end
-pub record Printed (bytes before : List ℕ) (at : ℕ) (after : List ℕ) (end : ℕ) : Type 0 where
-  pub ends : end ≡ at + length bytes
-  pub text : take end after ≡ take at before ++ bytes

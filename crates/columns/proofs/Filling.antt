@@ -12,7 +12,7 @@ use lib.Seq.{take-at, length-take-le}
 use borrow.Author.Tests.{eq-eqb, le-leb}
 use borrow.Rule.Slice.PartMut.{midOf, putMid, same-len-mid}
 use Rattle.laws.specs.Floats.{zero64}
-use Rattle.laws.specs.Loops.{cleared}
+use Rattle.laws.specs.Loops.{cleared, filled-front}
 use Rattle.finality.specs.Sheet.{published}
 use Rattle.slices.specs.Slices.{copied}
 use Rattle.slices.proofs.Laws.{copied-all}
@@ -58,9 +58,6 @@ module _ (n M : ℕ) (o y z : List Float) (h : n ≤ M) (lo : length o ≡ M) (l
       ∙ ap (λ (x : List Float). y ++ x) (append-nil (replicate (M - length y) zero64))
 
 -- the first n entries of a column
-pub column-front : (n M : ℕ) (y : List Float) → length y ≡ n → take n (published M y) ≡ y
-column-front n M y h = take-at y (replicate (M - length y) zero64) n h
-
 pub detrended-length : (nodes : List Float) (n : ℕ) (times raws : List Float) → n ≤ length times → length raws ≡ length times → length (firstDetrended nodes n times raws) ≡ n
 detrended-length nodes n times raws h e =
     let lt : length (take n times) ≡ n = length-take-le n times h in
@@ -138,7 +135,7 @@ module _ (serves : Bool) (nodes : List Float) (n : ℕ) (times raws d d' p p' s 
     detrended = λ _. ed;
     passed = λ _.
         ep ∙ ap (λ (x : List Float). published (length times) (bandPass (take n times) x))
-        (ap (take n) ed ∙ column-front n (length times) (firstDetrended nodes n times raws) (detrended-length nodes n times raws hn er));
+        (ap (take n) ed ∙ filled-front zero64 (length times) n (firstDetrended nodes n times raws) (detrended-length nodes n times raws hn er));
     unfit = λ f. absurd (not-false serves (sym e ∙ h) f);
   }
 

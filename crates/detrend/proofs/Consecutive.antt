@@ -1,7 +1,7 @@
 -- Detrending by the revolutions that `revolutions` gives is the removal of each revolution's fit. Assumes nothing.
 use mathlib.Core.Path.{_≡_, refl, sym, ap, _∙_, subst}
 use mathlib.Core.List.{List, [], _∷_, _++_, append-assoc}
-use mathlib.Core.Bool.{Bool, true, false, cond, _&&_}
+use mathlib.Core.Bool.{Bool, true, false, cond}
 use Prim.Native.Nat.{ℕ, zero, suc, _+_, _-_, _*_, _<_, _≤_}
 use native.Mathlib.Nat.{zero-add, suc-add}
 use native.Mathlib.Omega.{arith}
@@ -14,6 +14,7 @@ use borrow.Rule.Slice.PartMut.{midOf, putMid, put-same, same-len-mid}
 use Rattle.laws.specs.Order.{lt-tr}
 use Rattle.laws.specs.Floats.{_⊖_}
 use Rattle.laws.specs.Checks.{rising}
+use Rattle.laws.specs.Bools.{by, left-true, right-true}
 use Rattle.detrend.specs.Fit.{revolutionOf}
 use Rattle.detrend.specs.Revolutions.{countBefore, revolvedOf, windowsOf, removedOf, Revolution, revolutionsOf, detrendedIn, detrendedBy}
 use Rattle.detrend.proofs.Lists.{length-mid, drop-mid}
@@ -41,18 +42,6 @@ count-on a b (t ∷ ts) h = go (lt t a) refl (count-on a b ts h)
         ∙ ap suc q ∙ sym (suc-add (countBefore a ts) (countBefore b (drop (countBefore a ts) ts)))
     go false e q = sym (zero-add (cond (lt t b) (suc (countBefore b ts)) 0))
 
-and-left : (a b : Bool) → a && b ≡ true → a ≡ true
-and-left true b h = refl
-and-left false b h = h
-
-and-right : (a b : Bool) → a && b ≡ true → b ≡ true
-and-right true b h = h
-and-right false b h = absurd (let z : _≡_ {A = ℕ} 0 1 = cc in omega arith)
-
-by : {P : Type 0} (b : Bool) → (b ≡ true → P) → (b ≡ false → P) → P
-by true f g = f refl
-by false f g = g refl
-
 -- the values after one revolution, whether it has 50 epochs or not
 step-is : (a b : Float) (ns ts vs : List Float) (p c : ℕ) → length ts ≡ length vs → p ≡ countBefore a ts → p + c ≡ countBefore b ts →
     detrendedBy (revolutionsOf ts (a ∷ b ∷ ns)) ts vs ≡ detrendedBy (revolutionsOf ts (b ∷ ns)) ts (putMid p c vs (revolvedOf a b (midOf p c ts) (midOf p c vs)))
@@ -79,7 +68,7 @@ from-node : (a : Float) (ns ts vs : List Float) (p : ℕ) → length ts ≡ leng
 from-node a [] ts vs p h r ep = last-is a ts vs p
 from-node a (b ∷ ns) ts vs p h r ep =
     let c : ℕ = countBefore b (drop p ts) in
-    let ab : T (lt a b) = subst T (sym (and-left (lt a b) (rising (b ∷ ns)) r)) tt in
+    let ab : T (lt a b) = subst T (sym (left-true (lt a b) (rising (b ∷ ns)) r)) tt in
     let ec : p + c ≡ countBefore b ts = sym (count-on a b ts ab ∙ ap (λ (k : ℕ). k + countBefore b (drop k ts)) (sym ep)) in
     let le : p + c ≤ length ts = subst (λ (k : ℕ). k ≤ length ts) (sym ec) (count-le b ts) in
     let x : List Float = revolvedOf a b (midOf p c ts) (midOf p c vs) in
@@ -92,7 +81,7 @@ from-node a (b ∷ ns) ts vs p h r ep =
     ap (take (p + c)) (sym (append-assoc (take p vs) x (drop c (drop p vs)))) ∙ take-at (take p vs ++ x) (drop c (drop p vs)) (p + c) front in
     let left : drop (p + c) v' ≡ drop (p + c) vs = drop-mid (p + c) p c vs x (omega arith) (omega arith) lx in
     step-is a b ns ts vs p c h ep ec
-    ∙ from-node b ns ts v' (p + c) (h ∙ sym lv) (and-right (lt a b) (rising (b ∷ ns)) r) ec
+    ∙ from-node b ns ts v' (p + c) (h ∙ sym lv) (right-true (lt a b) (rising (b ∷ ns)) r) ec
     ∙ (λ i. done i ++ windowsOf b ns (drop (p + c) ts) (left i))
     ∙ append-assoc (take p vs) x (windowsOf b ns (drop (p + c) ts) (drop (p + c) vs))
     ∙ ap (λ (y : List Float). take p vs ++ y)

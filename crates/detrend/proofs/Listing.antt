@@ -1,7 +1,7 @@
 -- Laws of the listing of revolutions in lent lists. Assumes nothing.
 use mathlib.Core.Path.{_≡_, refl, sym, ap, _∙_, subst}
 use mathlib.Core.List.{List, [], _∷_, _++_, map, append-assoc, append-nil}
-use mathlib.Core.Bool.{Bool, true, false, cond, _&&_}
+use mathlib.Core.Bool.{Bool, true, false, cond}
 use Prim.Native.Nat.{ℕ, zero, suc, _+_, _-_, _/_, _<_, _≤_}
 use native.Mathlib.Numerals.{add-one}
 use native.Mathlib.Omega.{arith}
@@ -13,22 +13,15 @@ use lib.Seq.{take-suc-set, drop-set-lt, drop-cons, length-take-le, take-all}
 use borrow.Author.Tests.{le-leb, lt-leb, eqb-true}
 use Rattle.laws.specs.Checks.{all, isTime, rising}
 use Rattle.laws.specs.Floats.{_⊖_, zero64}
-use Rattle.laws.specs.Loops.{head-at, take-set, fill-turn, fill-done}
+use Rattle.laws.specs.Loops.{head-at, take-set, filledUp}
 use Rattle.laws.specs.Order.{lt-tr}
+use Rattle.laws.specs.Bools.{left-true, right-true}
 use Rattle.slices.proofs.Calls.{cond-passes}
 use Rattle.slices.specs.declared.Counted.the-variants.{Counted as Found, Refused as NotCounted}
 use Rattle.detrend.specs.Revolutions.{countBefore, Revolution, revolutionsOf}
-use Rattle.detrend.specs.Calls.{revolutionsRefusal, LeftLists, listed, inPlaces, firstsIn, endsIn, startsIn, periodsIn, Listed, listedUnless}
+use Rattle.detrend.specs.Calls.{revolutionsRefusal, LeftLists, listed, firstsIn, endsIn, startsIn, periodsIn, Listed, listedUnless}
 
 -- ---- counting the times before b of a rising list, by halving
-
-and-left : (a b : Bool) → a && b ≡ true → a ≡ true
-and-left true b h = refl
-and-left false b h = h
-
-and-right : (a b : Bool) → a && b ≡ true → b ≡ true
-and-right true b h = h
-and-right false b h = absurd (let z : _≡_ {A = ℕ} 0 1 = cc in omega arith)
 
 head-before : (b t : Float) (ts : List Float) (m : ℕ) → m < countBefore b (t ∷ ts) → T (lt t b)
 unfolding countBefore
@@ -48,8 +41,8 @@ count-past b [] m h r e = absurd (omega arith)
 count-past b (t ∷ ts) zero h r e = omega (arith, count-more b t ts (subst T (sym e) tt))
 count-past b (t ∷ []) (suc m) h r e = absurd (omega arith)
 count-past b (t ∷ u ∷ ts) (suc m) h r e =
-    let later : m < countBefore b (u ∷ ts) = count-past b (u ∷ ts) m (omega arith) (and-right (lt t u) (rising (u ∷ ts)) r) e in
-    let tu : T (lt t u) = subst T (sym (and-left (lt t u) (rising (u ∷ ts)) r)) tt in
+    let later : m < countBefore b (u ∷ ts) = count-past b (u ∷ ts) m (omega arith) (right-true (lt t u) (rising (u ∷ ts)) r) e in
+    let tu : T (lt t u) = subst T (sym (left-true (lt t u) (rising (u ∷ ts)) r)) tt in
     omega (arith, later, count-more b t (u ∷ ts) (lt-tr t u b tu (head-before b u ts m later)))
 
 -- a time from b on ends the count
@@ -73,19 +66,6 @@ halving-up b ts lo hi h l r e = omega (arith, count-past b ts (lo + (hi - lo) / 
 
 pub halving-down : (b : Float) (ts : List Float) (lo hi : ℕ) → lo < hi → hi ≤ length ts → lt (getD ts (lo + (hi - lo) / 2) nan) b ≡ false → countBefore b ts ≤ lo + (hi - lo) / 2
 halving-down b ts lo hi h l e = count-short b ts (lo + (hi - lo) / 2) (omega arith) e
-
--- ---- a list of whole numbers cleared
-
-pub zeros-turn : (a a₀ : List ℕ) (i : ℕ) → length a ≡ length a₀ → i < length a → take i a ++ replicate (length a₀ - i) 0 ≡ replicate (length a₀) 0 →
-    take (i + 1) (set a i 0) ++ replicate (length a₀ - (i + 1)) 0 ≡ replicate (length a₀) 0
-zeros-turn a a₀ i l h inv =
-    let e : length a₀ - i ≡ suc (length a₀ - (i + 1)) = omega arith in
-    fill-turn a (replicate (length a₀ - i) 0) (replicate (length a₀ - (i + 1)) 0) (replicate (length a₀) 0) i 0 h inv (ap (λ (k : ℕ). replicate k 0) e)
-
-pub zeros-done : (a a₀ : List ℕ) (i : ℕ) → length a ≡ length a₀ → length a ≤ i → take i a ++ replicate (length a₀ - i) 0 ≡ replicate (length a₀) 0 → a ≡ replicate (length a₀) 0
-zeros-done a a₀ i l h inv =
-    let e : length a₀ - i ≡ 0 = omega arith in
-    fill-done a (replicate (length a₀ - i) 0) (replicate (length a₀) 0) i h (ap (λ (k : ℕ). replicate k 0) e) inv
 
 -- ---- a list filled from its front: count places hold what was written, `rest` is to come, and nothing else stands behind
 
@@ -117,7 +97,7 @@ filled-turn {A = A} nil x count rest goal out h f =
     tail (y ∷ ys) = ys
 
 pub filled-all : {A : Type 0} (nil : A) (count places : ℕ) (goal out : List A) → length out ≡ places → count ≤ places → Filled nil count [] goal out →
-    (count ≡ length goal) × (out ≡ inPlaces nil places goal)
+    (count ≡ length goal) × (out ≡ filledUp nil places goal)
 filled-all {A = A} nil count places goal out l h f =
     let g : take count out ≡ goal = sym (append-nil (take count out)) ∙ f .front in
     let e : count ≡ length goal = sym (length-take-le count out (omega arith)) ∙ ap length g in

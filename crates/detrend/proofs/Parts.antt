@@ -11,6 +11,7 @@ use lib.ListN.{length, take, drop, getD, set, length-drop}
 use lib.Seq.{getD-drop, getD-take, drop-drop, take-all}
 use borrow.Rule.Slice.PartMut.{midOf, putMid, put-same, same-len-mid}
 use Rattle.laws.specs.Floats.{_⊖_}
+use Rattle.laws.specs.Bools.{by}
 use Rattle.least_squares.specs.LeastSquares.{solvable, solved}
 use Rattle.least_squares.specs.Kernel.{solvableFor, coefficientsOf, solvedElse}
 use Rattle.least_squares.proofs.Shapes.{kernel-is}
@@ -101,10 +102,6 @@ length-fit b start period [] [] h = refl
 length-fit b start period [] (v ∷ vs) h = absurd (omega arith)
 length-fit b start period (t ∷ ts) [] h = absurd (omega arith)
 length-fit b start period (t ∷ ts) (v ∷ vs) h = ap suc (length-fit b start period ts vs (omega arith))
-
-by : {P : Type 0} (b : Bool) → (b ≡ true → P) → (b ≡ false → P) → P
-by true f g = f refl
-by false f g = g refl
 
 -- lengths stay
 pub length-revolution : (start period : Float) (ts vs : List Float) → length ts ≡ length vs → length (revolutionOf start period ts vs) ≡ length vs

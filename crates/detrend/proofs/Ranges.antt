@@ -18,16 +18,13 @@ use lib.Ieee.Scale.{finite}
 use Rattle.laws.specs.Checks.{all, isTime, rising}
 use Rattle.laws.specs.Loops.{head-at}
 use Rattle.slices.specs.Calls.{firstFailed}
+use Rattle.laws.specs.Bools.{by}
 use Rattle.slices.specs.Slices.{copied}
 use Rattle.slices.proofs.Calls.{cond-passes}
 use Rattle.slices.proofs.Laws.{copied-all}
 use Rattle.detrend.specs.Ranges.{rangesFit, rangeFits}
 use Rattle.detrend.specs.Calls.{detrendNumbers, detrendRefusal}
 use Rattle.detrend.proofs.Lists.{take-mid, mid-same, length-mid}
-
-by : {P : Type 0} (b : Bool) → (b ≡ true → P) → (b ≡ false → P) → P
-by true f g = f refl
-by false f g = g refl
 
 ranges-end : (fs : List ℕ) (n : ℕ) → rangesFit fs [] n ≡ true
 unfolding rangesFit

@@ -12,8 +12,9 @@ use borrow.Rule.Slice.PartMut.{midOf, putMid, same-len-mid}
 use Rattle.laws.specs.Floats.{_⊕_, _⊖_, _⊗_, _⊘_, zero64, one64, two64}
 use Rattle.numbers.specs.declared.SineCosine.{SineCosine}
 use Rattle.numbers.specs.Numbers.{sineCosine}
+use Rattle.numbers.specs.Constants.{angleFrom}
 use Rattle.laws.specs.Loops.{head-at}
-use Rattle.detrend.specs.Fit.{angleOf, rowOf, rowsOf, fittedBy, lessFit, allZero}
+use Rattle.detrend.specs.Fit.{rowOf, rowsOf, fittedBy, lessFit, allZero}
 use Rattle.detrend.specs.Revolutions.{countBefore}
 use Rattle.detrend.proofs.Lists.{put-on, put-none, get-before, get-after, length-mid}
 
@@ -31,7 +32,7 @@ six (a ∷ b ∷ c ∷ d ∷ e ∷ f ∷ []) v0 v1 v2 v3 v4 v5 h = refl
 six (a ∷ b ∷ c ∷ d ∷ e ∷ f ∷ g ∷ l) v0 v1 v2 v3 v4 v5 h = absurd (omega arith)
 
 pub row-written : (row : List Float) (t start period : Float) (once twice : SineCosine) → length row ≡ 6 →
-    once ≡ sineCosine (angleOf start period t) → twice ≡ sineCosine (two64 ⊗ angleOf start period t) →
+    once ≡ sineCosine (angleFrom start period t) → twice ≡ sineCosine (two64 ⊗ angleFrom start period t) →
     set (set (set (set (set (set row 0 one64) 1 ((t ⊖ start) ⊘ period)) 2 (once .cosine)) 3 (once .sine)) 4 (twice .cosine)) 5 (twice .sine) ≡ rowOf start period t
 unfolding rowOf sineCosine
 row-written row t start period once twice h e1 e2 =

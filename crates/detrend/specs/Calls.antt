@@ -6,9 +6,10 @@ use mathlib.Core.List.{List, [], _∷_, _++_, map}
 use lib.Dec.{leb, eqb}
 use lib.Ieee.{Float}
 use lib.Ieee.Scale.{finite}
-use lib.ListN.{length, replicate}
+use lib.ListN.{length}
 use Rattle.laws.specs.Checks.{all, isTime, rising}
 use Rattle.laws.specs.Floats.{zero64}
+use Rattle.laws.specs.Loops.{filledUp}
 use Rattle.slices.specs.Calls.{firstFailed, Left, settled}
 use Rattle.slices.specs.declared.Outcome.{Outcome}
 use Rattle.slices.specs.declared.Outcome.the-variants.{Accepted, Refused}
@@ -68,22 +69,18 @@ pub record LeftLists : Type 0 where
 abbrev pub listed : Answer → List ℕ → List ℕ → List Float → List Float → LeftLists
 listed a fs es ss ps = record { answer = a; firsts = fs; ends = es; starts = ss; periods = ps }
 
--- in the first of so many places, and zeros after them
-abbrev pub inPlaces : {A : Type 0} → A → ℕ → List A → List A
-inPlaces nil places xs = xs ++ replicate (places - length xs) nil
-
 -- the lists of revolutions in so many places each
 abbrev pub firstsIn : ℕ → List Revolution → List ℕ
-firstsIn places rs = inPlaces 0 places (map (λ (r : Revolution). r .first) rs)
+firstsIn places rs = filledUp 0 places (map (λ (r : Revolution). r .first) rs)
 
 abbrev pub endsIn : ℕ → List Revolution → List ℕ
-endsIn places rs = inPlaces 0 places (map (λ (r : Revolution). r .end) rs)
+endsIn places rs = filledUp 0 places (map (λ (r : Revolution). r .end) rs)
 
 abbrev pub startsIn : ℕ → List Revolution → List Float
-startsIn places rs = inPlaces zero64 places (map (λ (r : Revolution). r .start) rs)
+startsIn places rs = filledUp zero64 places (map (λ (r : Revolution). r .start) rs)
 
 abbrev pub periodsIn : ℕ → List Revolution → List Float
-periodsIn places rs = inPlaces zero64 places (map (λ (r : Revolution). r .period) rs)
+periodsIn places rs = filledUp zero64 places (map (λ (r : Revolution). r .period) rs)
 
 -- the four outputs hold the revolutions, of which there are r
 pub record Listed (ts ns : List Float) (r : ℕ) (fs es : List ℕ) (ss ps : List Float) : Type 0 where

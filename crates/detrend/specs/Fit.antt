@@ -5,29 +5,22 @@ use mathlib.Core.Bool.{Bool, cond}
 use mathlib.Core.List.{List, [], _∷_, _++_}
 use lib.Ieee.{Float, nan, eq}
 use lib.ListN.{length, getD}
-use Rattle.laws.specs.Floats.{_⊖_, _⊗_, _⊘_, bits, zero64, one64, two64}
+use Rattle.laws.specs.Floats.{_⊖_, _⊗_, _⊘_, zero64, one64, two64}
 use Rattle.laws.specs.Checks.{all}
 use Rattle.laws.specs.Sums.{sumTo}
 use Rattle.numbers.specs.Numbers.{sine, cosine}
+use Rattle.numbers.specs.Constants.{angleFrom}
 use Rattle.least_squares.specs.LeastSquares.{solvable, solved}
-
--- 2.0 * PI
-abbrev pub fullTurn : Float
-fullTurn = bits 0x4019_21fb_5444_2d18
-
--- the angle in the orbit at t, from the revolution's start
-abbrev pub angleOf : Float → Float → Float → Float
-angleOf start period t = fullTurn ⊗ (t ⊖ start) ⊘ period
 
 -- a row of the fit: a bias, a trend, and cosines and sines of one and two turns a revolution
 unfoldable pub rowOf : Float → Float → Float → List Float
 rowOf start period t =
     one64
     ∷ ((t ⊖ start) ⊘ period)
-    ∷ cosine (angleOf start period t)
-    ∷ sine (angleOf start period t)
-    ∷ cosine (two64 ⊗ angleOf start period t)
-    ∷ sine (two64 ⊗ angleOf start period t)
+    ∷ cosine (angleFrom start period t)
+    ∷ sine (angleFrom start period t)
+    ∷ cosine (two64 ⊗ angleFrom start period t)
+    ∷ sine (two64 ⊗ angleFrom start period t)
     ∷ []
 
 -- the rows of a list of times, one after the other

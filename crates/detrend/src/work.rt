@@ -12,13 +12,15 @@ ghost use Rattle.detrend.specs.Work.{lessRows, Detrended, Window, Remove
 use least_squares;
 use numbers;
 
+const PI: f64 = 3.141592653589793;
+
 // A bias, a trend, and cosines and sines of one and two turns a revolution.
 fn write_row(row: &mut [f64], t: f64, start: f64, period: f64)
     requires { ⌜ length (now row) ≡ 6 ⌝ }
     ensures { λ _. ⌜ now (row .exit) ≡ rowOf start period t ⌝ }
 {
     let since = t - start;
-    let angle = 6.283185307179586 * since / period;
+    let angle = 2.0 * PI * since / period;
     let once = numbers::sine_cosine(angle);
     let twice = numbers::sine_cosine(2.0 * angle);
     row[0] = 1.0;

@@ -2,16 +2,15 @@
 use Prim.Native.Nat.{ℕ, zero, suc, _+_, _*_, _≤_, _<_}
 use mathlib.Core.Path.{_≡_, refl, sym, ap, ap₂, _∙_}
 use mathlib.Core.Bool.{Bool, true, false, cond, not, _&&_}
-use mathlib.Core.List.{List, [], _∷_, _++_, append-nil}
-use native.Mathlib.Omega.{arith}
+use mathlib.Core.List.{List, [], _∷_}
 use borrow.Author.Tests.{le-leb, eq-eqb, not-true, not-false}
-use lib.ListN.{length, take, replicate}
+use lib.ListN.{length}
 use lib.Ieee.{Float}
 use lib.Ieee.Scale.{finite}
-use Rattle.laws.specs.Floats.{_⊗_, _⊘_, zero64}
+use Rattle.laws.specs.Floats.{_⊗_, _⊘_}
 use Rattle.numbers.specs.Numbers.{cosine}
 use Rattle.laws.specs.Checks.{all}
-use Rattle.laws.specs.Loops.{cleared}
+use Rattle.laws.specs.Loops.{cleared, same-cleared}
 use Rattle.laws.specs.Tables.{tri, row, rows, rows-length}
 use Rattle.slices.specs.Calls.{Left, left, handed, settled}
 use Rattle.slices.specs.declared.Outcome.{Outcome}
@@ -58,9 +57,6 @@ one-not x x' c e h ex =
 
 -- ---- left behind: the outputs hold X and Y, as long as they were, and the scratch is cleared
 
-same-cleared : (x y : List Float) → length x ≡ length y → cleared x ≡ cleared y
-same-cleared x y e = ap (λ (n : ℕ). replicate n zero64) e
-
 with-two : (b : Bool) (X Y x y w : List Float) → length X ≡ length x → length Y ≡ length y →
     left (handed Accepted Refused b (X ∷ Y ∷ []) (X ∷ Y ∷ []) [] .answer) (handed Accepted Refused b (X ∷ Y ∷ []) (X ∷ Y ∷ []) [] .outputs) (cleared w)
     ≡ handed Accepted Refused b (X ∷ Y ∷ []) (x ∷ y ∷ []) w
@@ -103,12 +99,6 @@ module _ (N : ℕ) (a b w : List Float) (n : ℕ) (e : n ≡ refusalOf N (twoTab
       let qa = ea ∙ tabulated-rows RecursionA N a (p .high) (f .a) in
       let qb = eb ∙ tabulated-rows RecursionB N b (p .high) (f .b) in
       two-left (rows aOf (N + 1)) (rows bOf (N + 1)) a b w a' b' w' r _ (sym h ∙ e) (rows-length aOf (N + 1) ∙ sym (f .a)) (rows-length bOf (N + 1) ∙ sym (f .b)) ew (er ∙ ap₂ handedTwo qa qb)
-
--- ---- a row begun
-
-pub row-none : (g : ℕ → Float) (out : List Float) (k : ℕ) → take (k + 0) out ≡ take k out ++ row g 0
-unfolding row
-row-none g out k = ap (λ (i : ℕ). take i out) {x = k + 0} {y = k} (omega arith) ∙ sym (append-nil (take k out))
 
 -- ---- tests of numbers
 

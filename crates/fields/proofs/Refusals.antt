@@ -1,20 +1,18 @@
 -- The refusals of module 1, and what holds where none applies. Assumes nothing.
 use Prim.Native.Nat.{ℕ, zero, suc, _+_, _*_, _≤_, _<_}
-use mathlib.Core.Path.{_≡_, refl, sym, ap, subst, _∙_}
+use mathlib.Core.Path.{_≡_, refl, sym, ap, _∙_}
 use mathlib.Core.Bool.{Bool, true, false, cond, _&&_}
 use native.Mathlib.Omega.{arith}
 use borrow.Author.Tests.{le-leb, lt-leb, leb-true, eqb-true}
-use lib.Dec.{T, eqb, leb}
+use lib.Dec.{eqb, leb}
 use Rattle.laws.specs.Tables.{tri}
+use Rattle.laws.specs.Bools.{both-true}
+use Rattle.laws.specs.Checks.{degreeFine}
 use Rattle.slices.proofs.Calls.{cond-passes}
 use Rattle.series.specs.Field.{size, Fits}
-use Rattle.fields.specs.Calls.{degreeFine, twoTables, fieldAnd, fourTables, refusalOf, indexOf}
+use Rattle.fields.specs.Calls.{twoTables, fieldAnd, fourTables, refusalOf, indexOf}
 use Rattle.fields.specs.declared.Index.{Index}
 use Rattle.fields.specs.declared.Index.the-variants as index
-
-and-true : (x y : Bool) → x && y ≡ true → (x ≡ true) × (y ≡ true)
-and-true true y h = (refl, h)
-and-true false y h = absurd (subst T (sym h) tt)
 
 -- ---- the index
 
@@ -37,7 +35,7 @@ sized shape N l r b v e eb er = er ∙ by-degree (degreeFine N) refl
   where
     by-degree : (d : Bool) → degreeFine N ≡ d → _≡_ {A = ℕ} (cond d (cond b (cond v 0 4) 3) 1) (cond d (cond (shape (size N)) (cond v 0 4) 3) 1)
     by-degree false h = refl
-    by-degree true h = ap (λ (x : Bool). cond {A = ℕ} x (cond v 0 4) 3) (eb ∙ ap shape (e (leb-true N 180 (and-true (leb 2 N) (leb N 180) h .1))))
+    by-degree true h = ap (λ (x : Bool). cond {A = ℕ} x (cond v 0 4) 3) (eb ∙ ap shape (e (leb-true N 180 (both-true (leb 2 N) (leb N 180) h .1))))
 
 -- ---- where nothing is refused
 
@@ -52,23 +50,23 @@ passed N n shape values e h =
     let a = cond-passes (degreeFine N) (cond shape (cond values 0 4) 3) 0 (sym e ∙ h) in
     let b = cond-passes shape (cond values 0 4) 2 (a .1) in
     let c = cond-passes values 0 3 (b .1) in
-    let d = and-true (leb 2 N) (leb N 180) (a .0) in
+    let d = both-true (leb 2 N) (leb N 180) (a .0) in
     record { low = leb-true 2 N (d .0); high = leb-true N 180 (d .1); shaped = b .0; valued = c .0 }
 
 pub two-say : (N x y scratch : ℕ) → N ≤ 180 → twoTables (size N) x y scratch ≡ true → Fits N x y scratch
 two-say N x y scratch h e =
-    let a = and-true (eqb x (size N)) (eqb y (size N) && leb (8 * size N) scratch) e in
-    let b = and-true (eqb y (size N)) (leb (8 * size N) scratch) (a .1) in
+    let a = both-true (eqb x (size N)) (eqb y (size N) && leb (8 * size N) scratch) e in
+    let b = both-true (eqb y (size N)) (leb (8 * size N) scratch) (a .1) in
     record { degree = h; a = eqb-true x (size N) (a .0); b = eqb-true y (size N) (b .0); work = leb-true (8 * size N) scratch (b .1) }
 
 pub field-says : (N field x y scratch : ℕ) → N ≤ 180 → fieldAnd (size N) field x y scratch ≡ true → (field ≡ 2 + 2 * size N) × Fits N x y scratch
 field-says N field x y scratch h e =
-    let a = and-true (eqb field (2 + 2 * size N)) (twoTables (size N) x y scratch) e in
+    let a = both-true (eqb field (2 + 2 * size N)) (twoTables (size N) x y scratch) e in
     (eqb-true field (2 + 2 * size N) (a .0), two-say N x y scratch h (a .1))
 
 pub four-say : (N a b p dp scratch : ℕ) → N ≤ 180 → fourTables (size N) a b p dp scratch ≡ true → Fits N a b scratch × Fits N p dp scratch
 four-say N a b p dp scratch h e =
-    let q = and-true (twoTables (size N) a b scratch) (twoTables (size N) p dp scratch) e in
+    let q = both-true (twoTables (size N) a b scratch) (twoTables (size N) p dp scratch) e in
     (two-say N a b scratch h (q .0), two-say N p dp scratch h (q .1))
 
 -- the chains as the code builds them

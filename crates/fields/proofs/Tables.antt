@@ -6,13 +6,12 @@ use mathlib.Core.List.{List, [], _∷_, _++_}
 use native.Mathlib.Omega.{arith}
 use borrow.Author.Tests.{le-leb}
 use borrow.Rule.Slice.PartMut.{putMid}
-use lib.ListN.{length, take, drop, getD, replicate, length-drop, length-append}
+use lib.ListN.{length, take, drop, getD, length-drop, length-append}
 use lib.Seq.{take-all, take-append-le, drop-append-le, drop-at, drop-drop, length-take-le}
 use lib.Ieee.{Float, nan}
 use lib.Ieee.Scale.{finite}
-use Rattle.laws.specs.Floats.{zero64}
 use Rattle.laws.specs.Checks.{all}
-use Rattle.laws.specs.Loops.{cleared}
+use Rattle.laws.specs.Loops.{cleared, same-cleared}
 use Rattle.laws.specs.Tables.{tri, row, rows, row-turn, row-same, rows-length}
 use Rattle.laws.specs.Floats.{_⊗_}
 use Rattle.numbers.specs.Numbers.{sine, cosine}
@@ -36,9 +35,6 @@ use Rattle.fields.specs.declared.PartialsAnswer.{PartialsAnswer}
 use Rattle.fields.specs.declared.PartialsAnswer.the-variants as partials
 use Rattle.fields.proofs.Refusals.{passed, two-say, field-says, four-say}
 use Rattle.fields.proofs.Answers.{two-left, one-left}
-
-same-cleared : (x y : List Float) → length x ≡ length y → cleared x ≡ cleared y
-same-cleared x y e = ap (λ (n : ℕ). replicate n zero64) e
 
 -- ---- `derive`
 

@@ -8,7 +8,7 @@ use lib.ListN.{length, take, drop, getD}
 use lib.Ieee.{Float, nan}
 use lib.Ieee.Scale.{finite}
 use Rattle.laws.specs.Floats.{_⊗_, _⊘_}
-use Rattle.laws.specs.Checks.{all}
+use Rattle.laws.specs.Checks.{all, degreeFine}
 use Rattle.laws.specs.Tables.{tri, rows}
 use Rattle.numbers.specs.Numbers.{sine, cosine}
 use Rattle.slices.specs.Calls.{Left, firstFailed, handed, settled}
@@ -80,9 +80,6 @@ accelerationCall p r lat =
     (cond (finiteNeu (accelerationOf p r lat)) (acceleration.Value (accelerationOf p r lat)) (acceleration.Refused 10)) (acceleration.Refused 4)
 
 -- ---- refusals
-
-abbrev pub degreeFine : ℕ → Bool
-degreeFine N = leb 2 N && leb N 180
 
 -- two lists of l numbers, and scratch of at least 8·l
 abbrev pub twoTables : ℕ → ℕ → ℕ → ℕ → Bool

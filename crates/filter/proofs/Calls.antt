@@ -1,7 +1,7 @@
 -- The tests of the public calls and of the kernel. Assumes nothing.
 use mathlib.Core.Path.{_≡_, refl, sym, ap, _∙_}
 use mathlib.Core.List.{List, [], _∷_}
-use mathlib.Core.Bool.{Bool, true, false, cond, _&&_}
+use mathlib.Core.Bool.{Bool, true, false, cond, _&&_, and-true}
 use Prim.Native.Nat.{ℕ, _+_, _*_, _/_, _%_, _<_, _≤_}
 use native.Mathlib.Omega.{arith}
 use lib.Dec.{leb, eqb}
@@ -12,6 +12,7 @@ use lib.Ieee.Scale.{finite}
 use Rattle.laws.specs.Checks.{all, isTime, rising}
 use Rattle.laws.specs.Floats.{zero64}
 use Rattle.laws.specs.Loops.{cleared}
+use Rattle.laws.specs.Bools.{both-true}
 use Rattle.slices.specs.Calls.{Left, left, handed, settled}
 use Rattle.slices.specs.declared.Outcome.{Outcome}
 use Rattle.slices.proofs.Calls.{cond-passes, call-handed}
@@ -49,10 +50,6 @@ handed-fits y z s b ez e h = rw (sym e ∙ h) (ap (left Accepted (y ∷ [])) ez)
 pub handed-unfit : (y y' z s : List Float) (b : Bool) → z ≡ cleared s → b ≡ all finite y → b ≡ false → y' ≡ cleared y → left (Refused 10) (y' ∷ []) z ≡ handedOut y s
 handed-unfit y y' z s b ez e h ey = rw (sym e ∙ h) (λ i. left (Refused 10) (ey i ∷ []) (ez i))
 
-and-true : (b : Bool) → b ≡ (b && true)
-and-true true = refl
-and-true false = refl
-
 -- what is handed out of y is told by its lengths
 same-handed : (b : Bool) (y old s s' : List Float) → length y ≡ length old → length s' ≡ length s →
     handed Accepted Refused b (y ∷ []) (y ∷ []) s' ≡ handed Accepted Refused b (y ∷ []) (old ∷ []) s
@@ -64,7 +61,7 @@ pub handed-over : (work old s : List Float) (n g : ℕ) → n ≡ g → n ≡ 0 
     l ≡ handedOut y s' → l ≡ settled Accepted Refused g 0 (work ∷ []) (old ∷ []) s
 handed-over work old s n g e h y s' l ey ly ls el =
     el ∙ same-handed (all finite y) y old s s' ly ls ∙ ap (λ (w : List Float). handed Accepted Refused (all finite y) (w ∷ []) (old ∷ []) s) ey
-    ∙ call-handed Accepted Refused (work ∷ []) (old ∷ []) s (all finite y) g 0 (sym h ∙ e) refl (ap (all finite) ey ∙ and-true (all finite work))
+    ∙ call-handed Accepted Refused (work ∷ []) (old ∷ []) s (all finite y) g 0 (sym h ∙ e) refl (ap (all finite) ey ∙ sym (and-true (all finite work)))
 
 pub filter-refused : (cs x : List Float) (places room r1 r2 r3 r4 r5 r6 r7 r8 : ℕ) (b7 b8 : Bool) →
     b7 ≡ all finite cs → b8 ≡ all finite x → r8 ≡ cond b8 0 4 → r7 ≡ cond b7 r8 4 →
@@ -122,10 +119,6 @@ module _ (ts x : List Float) (places room r : ℕ) (e : r ≡ bandRefusal ts x p
   band-room = omega (arith, band-fine .0, band-fine .1 .1)
 
 -- ---- the kernel's guard
-
-both-true : (a b : Bool) → (a && b) ≡ true → (a ≡ true) × (b ≡ true)
-both-true true b h = (refl, h)
-both-true false b h = let z : _≡_ {A = ℕ} 0 1 = cc in absurd (omega arith)
 
 module _ (times values places room : ℕ) (b : Bool) (e : b ≡ bandFits times values places room) (h : b ≡ true) where
   fits-all : (times ≡ values) × ((places ≡ values) × (values ≤ room / 3))

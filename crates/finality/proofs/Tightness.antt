@@ -11,12 +11,12 @@ use lib.ListN.{length}
 use lib.Ieee.{Float, ofBits, ofInt, toSigned, add, sub, mul, div, le, lt}
 use Rattle.laws.specs.Floats.{_⊕_, bits}
 use Rattle.laws.specs.WholeNumbers.{number, ceil, floor}
-use Rattle.laws.specs.Times.{end, reaches}
+use Rattle.laws.specs.Times.{end, reaches, stepTime}
 use Rattle.laws.specs.Checks.{isTime}
 use Rattle.laws.specs.Runs.{splits}
 use Rattle.finality.specs.Tables.{find, rowTime}
 use Rattle.finality.specs.Stages.{timeOf}
-use Rattle.finality.specs.Arcs.{start, steps, stepTime, inside, windowOf}
+use Rattle.finality.specs.Arcs.{start, steps, inside, windowOf}
 use Rattle.finality.specs.Brackets.{covers, bracketed}
 use Rattle.finality.specs.Detrending.{before, from, fromNode, detrend}
 use Rattle.finality.specs.Sheet.{endOf, count, obsTime, Submission, Valid, Grows, fitted, keptOf, kept, orbits, times, sheet}

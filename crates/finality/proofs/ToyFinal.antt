@@ -12,15 +12,15 @@ use lib.Ieee.{Float, binary64, ofBits, ofInt, toSigned, add, sub, mul, div, le, 
 use Rattle.laws.specs.Floats.{bits}
 use Rattle.laws.specs.Lists.{cond-ind}
 use Rattle.laws.specs.WholeNumbers.{number, ceil, floor}
-use Rattle.laws.specs.Times.{end, second}
+use Rattle.laws.specs.Times.{end, second, stepTime}
 use Rattle.laws.specs.Checks.{isTime}
 use Rattle.laws.specs.Runs.{splits, passed}
 use Rattle.finality.specs.Tables.{Table, find}
 use Rattle.finality.specs.Stages.{Stages}
-use Rattle.finality.specs.Arcs.{Arc, start, steps, stepTime, inside, windowOf}
+use Rattle.finality.specs.Arcs.{Arc, start, steps, inside, windowOf}
 use Rattle.finality.specs.Brackets.{covers, bracketed}
 use Rattle.finality.specs.Detrending.{before, from, fromNode, detrend}
-use Rattle.finality.specs.Sheet.{largest, endOf, count, published, Observation, Submission, Valid, Grows, coveredIn, fieldIn, fitted, found, keptOf, kept, epochOf, orbits, sampleOf, times, horizon, countTo, final, sheet}
+use Rattle.finality.specs.Sheet.{largest, endOf, count, published, Observation, Submission, Valid, Grows, coveredIn, fieldIn, fitted, keptOf, kept, epochOf, orbits, sampleOf, times, horizon, countTo, final, sheet, whereFound}
 use Rattle.finality.specs.Kernels.{stagesOf}
 use Rattle.finality.specs.Toy.{spread, toyFit, toy, shorter, longer}
 use Rattle.finality.proofs.Accepted.{valid-of}
@@ -57,10 +57,10 @@ toy-lawful =
 
 -- ---- kept epochs, once the fitted states are known
 pub kept-by : (S : Stages) (s : Submission S) (rows rows' : Table (S .State)) → fitted S s (s .statesC) ≡ rows → fitted S s (s .statesD) ≡ rows'
-    → kept S s ≡ keptOf S (λ o. cond (o .good && coveredIn S s (o .at)) (found S (S .epoch (o .at) (o .observed) (fieldIn S s (o .at))) (find (second (o .at)) rows) (find (second (o .at)) rows') (find (second (o .at)) (s .accC)) (find (second (o .at)) (s .accD))) none) (s .obs)
+    → kept S s ≡ keptOf (λ (o : Observation). cond (o .good && coveredIn S s (o .at)) (whereFound (S .epoch (o .at) (o .observed) (fieldIn S s (o .at))) (find (second (o .at)) rows) (find (second (o .at)) rows') (find (second (o .at)) (s .accC)) (find (second (o .at)) (s .accD))) none) (s .obs)
 unfolding epochOf
 kept-by S s rows rows' e e' =
-    λ i. keptOf S (λ o. cond (o .good && coveredIn S s (o .at)) (found S (S .epoch (o .at) (o .observed) (fieldIn S s (o .at))) (find (second (o .at)) (e i)) (find (second (o .at)) (e' i)) (find (second (o .at)) (s .accC)) (find (second (o .at)) (s .accD))) none) (s .obs)
+    λ i. keptOf (λ (o : Observation). cond (o .good && coveredIn S s (o .at)) (whereFound (S .epoch (o .at) (o .observed) (fieldIn S s (o .at))) (find (second (o .at)) (e i)) (find (second (o .at)) (e' i)) (find (second (o .at)) (s .accC)) (find (second (o .at)) (s .accD))) none) (s .obs)
 
 -- F, once the horizon and the kept epochs are
 final-by : (S : Stages) (s : Submission S) (o : Option Float) (es : List (S .Epoch)) → horizon S s ≡ o → kept S s ≡ es → final S s ≡ countTo o (map (S .time) es)

@@ -1,6 +1,6 @@
 -- Laws of the public call. Assumes nothing.
 use mathlib.Core.Path.{_≡_, refl, sym, ap, subst, _∙_}
-use mathlib.Core.Bool.{Bool, true, false, cond, _&&_}
+use mathlib.Core.Bool.{Bool, true, false, cond, _&&_, false≢true, and-true}
 use mathlib.Core.List.{List, [], _∷_, map}
 use Prim.Native.Nat.{ℕ, zero, suc, _+_, _*_, _-_, _/_, _≤_, _<_}
 use native.Mathlib.Omega.{arith}
@@ -11,22 +11,22 @@ use lib.Ieee.Scale.{finite}
 use lib.ListN.{length, take, drop, length-drop}
 use lib.Seq.{length-take-le}
 use borrow.Author.Tests.{le-leb, eq-eqb}
-use Rattle.laws.specs.Checks.{all, rising, risingSeconds}
+use Rattle.laws.specs.Checks.{all, rising, risingSeconds, degreeFine}
 use Rattle.laws.specs.Lists.{cond-ind}
-use Rattle.laws.specs.Loops.{cleared}
+use Rattle.laws.specs.Loops.{cleared, same-cleared}
+use Rattle.laws.specs.Bools.{both-true}
+use Rattle.laws.specs.Times.{stepTime}
 use Rattle.vectors.specs.declared.Vector.{Vector}
 use Rattle.slices.specs.Slices.{copied}
 use Rattle.slices.specs.Calls.{left, settled}
 use Rattle.slices.proofs.Calls.{call-refused, call-failed, call-handed}
 use Rattle.slices.proofs.Laws.{copied-all}
-use Rattle.lent.specs.Lent.{degreeFine, fieldsFine, few, lengthsFit, statesFit, modelFine, keyedFine}
-use Rattle.lent.proofs.Passed.{both-pass, all-pass, degree-passes, states-pass, lengths-room}
+use Rattle.lent.specs.Lent.{fieldsFine, few, lengthsFit, statesFit, modelFine, keyedFine, frontSize, Front}
+use Rattle.lent.proofs.Passed.{all-pass, degree-passes, states-pass, lengths-room}
 use Rattle.finality.specs.Brackets.{covers}
-use Rattle.least_squares.proofs.Laws.{never}
 use Rattle.integrate.specs.declared.kernel.Arc.{Arc}
-use Rattle.integrate.specs.Steps.{timeOf}
 use Rattle.integrate.specs.Room.{Run, Orbit, flat}
-use Rattle.integrate.specs.Force.{model, frontSize, fullForce}
+use Rattle.integrate.specs.Force.{model, fullForce}
 use Rattle.integrate.specs.Calls.{outFits, arcFits}
 use Rattle.integrate.proofs.Calls.{out-passes, flat-part}
 use Rattle.fit.specs.declared.kernel.Held.{Held}
@@ -54,8 +54,8 @@ passes N field a b ts fs ks ss arc out scratch h =
     let p = all-pass (degreeFine N) ((fieldsFine (length ts) && leb (arc .steps) 5302) && few (length ks))
     (lengthsFit N (length ts) (length field) (length fs) (length a) (length b) scratch && (outFits (arc .steps) out && statesFit (length ks) (length ss)))
     (modelFine field a b ts fs && (arcFits arc && keyedFine ks ss)) (rising ts && risingSeconds ks) h in
-    let l = both-pass (lengthsFit N (length ts) (length field) (length fs) (length a) (length b) scratch) (outFits (arc .steps) out && statesFit (length ks) (length ss)) (p .lengths) in
-    let s = both-pass (outFits (arc .steps) out) (statesFit (length ks) (length ss)) (l .1) in
+    let l = both-true (lengthsFit N (length ts) (length field) (length fs) (length a) (length b) scratch) (outFits (arc .steps) out && statesFit (length ks) (length ss)) (p .lengths) in
+    let s = both-true (outFits (arc .steps) out) (statesFit (length ks) (length ss)) (l .1) in
     let o = out-passes (arc .steps) out (s .0) in
     record {
       degree = degree-passes N (p .degree);
@@ -63,7 +63,7 @@ passes N field a b ts fs ks ss arc out scratch h =
       room = lengths-room N (length ts) (length field) (length fs) (length a) (length b) scratch (l .0);
       each = o .1;
       rows = states-pass (length ks) (length ss) (s .1);
-      order = both-pass (rising ts) (risingSeconds ks) (p .order) .1;
+      order = both-true (rising ts) (risingSeconds ks) (p .order) .1;
     }
 
 -- ---- an arc refused has a number from 6 on
@@ -88,25 +88,14 @@ unfolding fitOf
 fit-late covered full look arc =
     let few : Bool = ltb (length (observed look arc)) (arc .steps / 10) in
     let rest : Fit = fitFrom full arc (observed look arc) (look (arc .t0)) in
-    cond-ind Late (covered (arc .t0) && covered (timeOf (arc .t0) (arc .steps))) (cond few (Refused 7) rest) (Refused 6)
+    cond-ind Late (covered (arc .t0) && covered (stepTime (arc .t0) (arc .steps))) (cond few (Refused 7) rest) (Refused 6)
     (λ t. cond-ind Late few (Refused 7) rest (λ u. late 7 (omega arith)) (λ u. from-late full arc (observed look arc) (look (arc .t0))))
     (λ t. late 6 (omega arith))
 
 -- ---- handing out
 
-and-both : (a b : Bool) → a && b ≡ true → (a ≡ true) × (b ≡ true)
-and-both true b h = (refl, h)
-and-both false b h = absurd (never h)
-
-and-true : (x : Bool) → x ≡ x && true
-and-true true = refl
-and-true false = refl
-
-cleared-same : (x y : List Float) → length x ≡ length y → cleared x ≡ cleared y
-cleared-same x y l = rw l
-
 module _ (x : Float) (N steps base : ℕ) (w out o1 w1 : List Float) (h : N ≤ 180) (k : steps ≤ 5302) (l : frontSize N + 31818 ≤ length w) (q : length out ≡ 6 * (steps + 1))
-    (e : (N ≤ 180 → base ≡ frontSize N) × (base ≤ 131768)) (c : o1 ≡ copied (take (base + 6 * (steps + 1) - base) (drop base w)) out) (cl : w1 ≡ cleared w)
+    (e : Front N base) (c : o1 ≡ copied (take (base + 6 * (steps + 1) - base) (drop base w)) out) (cl : w1 ≡ cleared w)
     (f g t : Bool) (ef : f ≡ finite x) (eg : g ≡ all finite o1) (et : t ≡ f && g) where
   part-is : take (base + 6 * (steps + 1) - base) (drop base w) ≡ take (6 * (steps + 1)) (drop (frontSize N) w)
   part-is = let z : base + 6 * (steps + 1) - base ≡ 6 * (steps + 1) = omega arith in λ i. take (z i) (drop (e .0 h i) w)
@@ -118,11 +107,11 @@ module _ (x : Float) (N steps base : ℕ) (w out o1 w1 : List Float) (h : N ≤ 
   out-is = c ∙ ap (λ (y : List Float). copied y out) part-is ∙ copied-all (take (6 * (steps + 1)) (drop (frontSize N) w)) out (q ∙ sym part-length)
 
   all-is : g ≡ all (all finite) (take (6 * (steps + 1)) (drop (frontSize N) w) ∷ [])
-  all-is = eg ∙ ap (all finite) out-is ∙ and-true (all finite (take (6 * (steps + 1)) (drop (frontSize N) w)))
+  all-is = eg ∙ ap (all finite) out-is ∙ sym (and-true (all finite (take (6 * (steps + 1)) (drop (frontSize N) w))))
 
   pub hand-good : t ≡ true → Handed x (take (6 * (steps + 1)) (drop (frontSize N) w)) out w (Fitted x) o1 w1
   hand-good u =
-      let b = and-both f g (sym et ∙ u) in
+      let b = both-true f g (sym et ∙ u) in
       let fx : finite x ≡ true = sym ef ∙ b .0 in
       record {
         is = (λ i. left (Fitted x) (out-is i ∷ []) (cl i))
@@ -132,12 +121,12 @@ module _ (x : Float) (N steps base : ℕ) (w out o1 w1 : List Float) (h : N ≤ 
   pub hand-bad : t ≡ false → (o2 : List Float) → o2 ≡ cleared o1 → Handed x (take (6 * (steps + 1)) (drop (frontSize N) w)) out w (Refused 10) o2 w1
   hand-bad u o2 eo =
       let new : List Float = take (6 * (steps + 1)) (drop (frontSize N) w) in
-      let same : o2 ≡ cleared out = eo ∙ cleared-same o1 out (ap length out-is ∙ part-length ∙ sym q) in
+      let same : o2 ≡ cleared out = eo ∙ same-cleared o1 out (ap length out-is ∙ part-length ∙ sym q) in
       record { is = (λ i. left (Refused 10) (same i ∷ []) (cl i)) ∙ cases f g ef all-is (sym et ∙ u) }
     where
       cases : (f g : Bool) → f ≡ finite x → g ≡ all (all finite) (take (6 * (steps + 1)) (drop (frontSize N) w) ∷ []) → f && g ≡ false →
           left (Refused 10) (cleared out ∷ []) (cleared w) ≡ settled (Fitted x) Refused 0 (cond (finite x) 0 10) (take (6 * (steps + 1)) (drop (frontSize N) w) ∷ []) (out ∷ []) w
-      cases true true ef eg u = absurd (never (sym u))
+      cases true true ef eg u = absurd (false≢true (sym u))
       cases true false ef eg u = call-handed (Fitted x) Refused (take (6 * (steps + 1)) (drop (frontSize N) w) ∷ []) (out ∷ []) w false 0 (cond (finite x) 0 10) refl (sym (simp (sym ef))) eg
       cases false g ef eg u = call-failed (Fitted x) Refused (take (6 * (steps + 1)) (drop (frontSize N) w) ∷ []) (out ∷ []) w 10 0 (cond (finite x) 0 10) refl (sym (simp (sym ef))) (λ z. omega arith)
 
@@ -173,7 +162,7 @@ module _ (N : ℕ) (field a b ts fs : List Float) (ks : List ℤ) (ss : List Flo
     unfolding fitCall
     fit-failed k e out' s2 eo es =
         let ek : fitOf (covers ts) (fullForce (model N field ts fs) a b) (stateFor ks ss) arc ≡ Refused k = sym (fitted .said) ∙ e in
-        (λ i. left (Refused k) (eo i ∷ []) ((es ∙ cleared-same s1 scratch fit-long) i))
+        (λ i. left (Refused k) (eo i ∷ []) ((es ∙ same-cleared s1 scratch fit-long) i))
         ∙ call-failed _ Refused _ (out ∷ []) scratch k _ _ (sym h ∙ en) (sym (ap numberOf ek)) (subst Late ek (fit-late (covers ts) (fullForce (model N field ts fs) a b) (stateFor ks ss) arc))
 
     pub fit-handed : (x : Float) → answer ≡ Fitted x → (r : Fit) (out' s2 : List Float) → Handed x (take (6 * (arc .steps + 1)) (drop (frontSize N) s1)) out s1 r out' s2 →
@@ -185,5 +174,5 @@ module _ (N : ℕ) (field a b ts fs : List Float) (ks : List ℤ) (ss : List Flo
         let new : take (6 * (arc .steps + 1)) (drop (frontSize N) s1) ≡ flat run (arc .steps + 1) =
         flat-part s1 (frontSize N) run (arc .steps + 1) (fitted .states x e) (omega (arith, fit-long, fit-passed h .room, fit-passed h .few)) in
         hd .is
-        ∙ settled-scratch x (cond (finite x) 0 10) _ (out ∷ []) s1 scratch (cleared-same s1 scratch fit-long)
+        ∙ settled-scratch x (cond (finite x) 0 10) _ (out ∷ []) s1 scratch (same-cleared s1 scratch fit-long)
         ∙ (λ i. settled (Fitted (rmsIn (sym ex i))) Refused ((sym h ∙ en) i) (numberOf (sym ex i)) (new i ∷ []) (out ∷ []) scratch)

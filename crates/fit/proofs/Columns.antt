@@ -13,9 +13,9 @@ use Rattle.fit.specs.Fit.{axis}
 use Rattle.fit.specs.Room.{stepNumber, stepAt, placeAt, runAt}
 use Rattle.fit.specs.Contracts.{Measured, Based, Columned, Apart, Differentiated, Designed, Linearised}
 use Rattle.fit.proofs.Rows.{step-kept}
-use Rattle.integrate.proofs.Places.{by}
 use Rattle.integrate.specs.Room.{Holds3, Only, Orbit, Run}
 use Rattle.laws.specs.Floats.{_⊖_}
+use Rattle.laws.specs.Bools.{by}
 
 pub axis-of : (s : List Float) (at d : ℕ) (v : Vector) → Holds3 s at v → d < 3 → getD s (at + d) nan ≡ axis d v
 axis-of s at zero v h l = let e : at + 0 ≡ at = omega arith in ap (λ (n : ℕ). getD s n nan) e ∙ h .x

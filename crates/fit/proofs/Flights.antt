@@ -1,6 +1,6 @@
 -- A run by the kernel, in the form that a fit uses. Assumes nothing.
 use mathlib.Core.Path.{_≡_, refl, sym, subst, _∙_}
-use mathlib.Core.Bool.{Bool, true, false}
+use mathlib.Core.Bool.{Bool, true, false, false≢true}
 use mathlib.Core.List.{List}
 use Prim.Native.Nat.{ℕ, _+_, _*_, _≤_, _<_}
 use native.Mathlib.Omega.{arith}
@@ -8,13 +8,13 @@ use lib.IntN.{ℤ}
 use lib.Ieee.{Float}
 use lib.ListN.{length}
 use borrow.Author.Tests.{le-leb, lt-leb, eq-eqb, ne-eqb}
-use Rattle.integrate.specs.Force.{frontSize, runFits}
+use Rattle.lent.specs.Lent.{frontSize, Front}
+use Rattle.integrate.specs.Force.{runFits}
 use Rattle.integrate.specs.Room.{Run, Only, Orbit}
 use Rattle.integrate.specs.Work.{Ran}
 use Rattle.integrate.specs.declared.kernel.Arc.{Arc}
 use Rattle.vectors.specs.declared.Vector.{Vector}
 use Rattle.laws.specs.Checks.{risingSeconds}
-use Rattle.least_squares.proofs.Laws.{never}
 use Rattle.fit.specs.declared.kernel.Held.{Held}
 use Rattle.fit.specs.declared.kernel.Fitted.{Fitted as Fit}
 use Rattle.fit.specs.declared.kernel.Fitted.the-variants.{Refused}
@@ -34,7 +34,7 @@ flew N steps base w w' run r k l h e =
 
 module _ (N steps : ℕ) (keys : List ℤ) (states room : ℕ) where
   not-serving : arcServes N steps keys states room ≡ false → Serving N steps keys states room false
-  not-serving e = record { says = sym e; degree = λ h. absurd (never h); few = λ h. absurd (never h); each = λ h. absurd (never h); enough = λ h. absurd (never h); rising = λ h. absurd (never h) }
+  not-serving e = record { says = sym e; degree = λ h. absurd (false≢true h); few = λ h. absurd (false≢true h); each = λ h. absurd (false≢true h); enough = λ h. absurd (false≢true h); rising = λ h. absurd (false≢true h) }
 
   pub serves-degree : 180 < N → Serving N steps keys states room false
   unfolding arcServes
@@ -48,7 +48,7 @@ module _ (N steps : ℕ) (keys : List ℤ) (states room : ℕ) where
   unfolding arcServes
   serves-states g h k = not-serving (simp (le-leb N 180 g, le-leb steps 5302 h, ne-eqb states (6 * length keys) k))
 
-  module _ (g : N ≤ 180) (h : steps ≤ 5302) (k : states ≡ 6 * length keys) (base : ℕ) (e : (N ≤ 180 → base ≡ frontSize N) × (base ≤ 131768)) where
+  module _ (g : N ≤ 180) (h : steps ≤ 5302) (k : states ≡ 6 * length keys) (base : ℕ) (e : Front N base) where
     pub serves-room : room < base + 90173 → Serving N steps keys states room false
     unfolding arcServes
     serves-room l = not-serving (simp (le-leb N 180 g, le-leb steps 5302 h, eq-eqb states (6 * length keys) k, lt-leb (frontSize N + 90173) room (omega (arith, e .0 g))))
@@ -65,12 +65,12 @@ module _ (N steps : ℕ) (keys : List ℤ) (states room : ℕ) where
     }
 
 module _ (covered : Float → Bool) (full : Float → Vector → Vector) (look : Float → Held) (arc : Arc) (s s' : List Float) (N : ℕ) (keys : List ℤ) (states : ℕ) (t : Bool) (g : Serving N (arc .steps) keys states (length s) t) where
-  pub arc-fitted : (base : ℕ) (answer : Fit) → t ≡ true → (N ≤ 180 → base ≡ frontSize N) × (base ≤ 131768) → Fits covered full look arc s s' base answer →
+  pub arc-fitted : (base : ℕ) (answer : Fit) → t ≡ true → Front N base → Fits covered full look arc s s' base answer →
       ArcFit (arcServes N (arc .steps) keys states (length s)) covered full look arc s s' (frontSize N) answer
   arc-fitted base answer h e f = record {
     fits = λ _. subst (λ (n : ℕ). Fits covered full look arc s s' n answer) (e .0 (g .degree h)) f;
-    unfit = λ q. absurd (never (sym q ∙ sym (g .says) ∙ h));
+    unfit = λ q. absurd (false≢true (sym q ∙ sym (g .says) ∙ h));
   }
 
   pub arc-unfit : t ≡ false → ArcFit (arcServes N (arc .steps) keys states (length s)) covered full look arc s s (frontSize N) (Refused 3)
-  arc-unfit h = record { fits = λ q. absurd (never (sym h ∙ g .says ∙ q)); unfit = λ _. (refl, refl) }
+  arc-unfit h = record { fits = λ q. absurd (false≢true (sym h ∙ g .says ∙ q)); unfit = λ _. (refl, refl) }

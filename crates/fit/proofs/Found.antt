@@ -8,9 +8,9 @@ use lib.Ieee.{Float}
 use lib.IntN.{ℤ}
 use lib.ListN.{length}
 use lib.Signed.{ltZ}
+use Rattle.laws.specs.Bools.{by}
 use Rattle.slices.specs.declared.Found.{Found}
 use Rattle.slices.specs.declared.Found.the-variants.{At, Nothing}
-use Rattle.integrate.proofs.Places.{by}
 use Rattle.numbers.specs.Seconds.{wholeSecond}
 use Rattle.slices.specs.Slices.{lookup, lookupFrom}
 

@@ -1,7 +1,7 @@
 -- A fit reads its model and its states at the arc's own times only: where two agree there, the fits are the same.
 use mathlib.Core.Path.{_≡_, refl, sym, ap, _∙_, subst}
 use mathlib.Core.Bool.{Bool, true, false, cond, _&&_}
-use mathlib.Core.List.{List, [], _∷_, _++_}
+use mathlib.Core.List.{List, _++_}
 use Prim.Native.Nat.{ℕ, zero, suc, _+_, _*_, _/_, _%_, _≤_, _<_}
 use native.Mathlib.Omega.{arith}
 use lib.Dec.{ltb}
@@ -20,9 +20,10 @@ use Rattle.fit.proofs.Steps.{within}
 use Rattle.forces.specs.Forces.{empiricalOf, fictitiousOf}
 use Rattle.integrate.specs.Force.{accelerationOf, argumentOf, runOf, strengthsOf}
 use Rattle.integrate.specs.Room.{Run, stateIn}
-use Rattle.integrate.specs.Steps.{Acceleration, stateAt, stepOf, timeOf}
+use Rattle.integrate.specs.Steps.{Acceleration, stateAt, stepOf}
 use Rattle.laws.specs.Floats.{_⊕_, _⊖_, _⊘_, two64}
-use Rattle.laws.specs.Tables.{row}
+use Rattle.laws.specs.Tables.{row-same}
+use Rattle.laws.specs.Times.{stepTime}
 use Rattle.least_squares.specs.LeastSquares.{solvable, solved}
 use Rattle.vectors.specs.Vector.{plus}
 
@@ -36,18 +37,18 @@ step-same : (a a' : Acceleration) (t : Float) (s : State) → AgreeAt a a' t →
 unfolding stepOf
 step-same a a' t s h = let h₀ = h .start in let h₁ = h .middle in let h₂ = h .end in simp (h₀, h₁, h₂)
 
-state-same : (a a' : Acceleration) (t0 : Float) (s : State) (n : ℕ) → ((k : ℕ) → k < n → AgreeAt a a' (timeOf t0 k)) → stateAt a t0 s n ≡ stateAt a' t0 s n
+state-same : (a a' : Acceleration) (t0 : Float) (s : State) (n : ℕ) → ((k : ℕ) → k < n → AgreeAt a a' (stepTime t0 k)) → stateAt a t0 s n ≡ stateAt a' t0 s n
 unfolding stateAt
 state-same a a' t0 s zero h = refl
 state-same a a' t0 s (suc n) h =
-    step-same a a' (timeOf t0 n) (stateAt a t0 s n) (h n (omega arith))
-    ∙ ap (stepOf a' (timeOf t0 n)) (state-same a a' t0 s n (λ k l. h k (omega arith)))
+    step-same a a' (stepTime t0 n) (stateAt a t0 s n) (h n (omega arith))
+    ∙ ap (stepOf a' (stepTime t0 n)) (state-same a a' t0 s n (λ k l. h k (omega arith)))
 
 -- two attractions agree at the times of an arc
 pub record Agree (full full' : Float → Vector → Vector) (arc : Arc) : Type 0 where
-  pub start : (k : ℕ) → k < arc .steps → (x : Vector) → full (timeOf (arc .t0) k) x ≡ full' (timeOf (arc .t0) k) x
-  pub middle : (k : ℕ) → k < arc .steps → (x : Vector) → full (timeOf (arc .t0) k ⊕ two64 ⊘ two64) x ≡ full' (timeOf (arc .t0) k ⊕ two64 ⊘ two64) x
-  pub end : (k : ℕ) → k < arc .steps → (x : Vector) → full (timeOf (arc .t0) k ⊕ two64) x ≡ full' (timeOf (arc .t0) k ⊕ two64) x
+  pub start : (k : ℕ) → k < arc .steps → (x : Vector) → full (stepTime (arc .t0) k) x ≡ full' (stepTime (arc .t0) k) x
+  pub middle : (k : ℕ) → k < arc .steps → (x : Vector) → full (stepTime (arc .t0) k ⊕ two64 ⊘ two64) x ≡ full' (stepTime (arc .t0) k ⊕ two64 ⊘ two64) x
+  pub end : (k : ℕ) → k < arc .steps → (x : Vector) → full (stepTime (arc .t0) k ⊕ two64) x ≡ full' (stepTime (arc .t0) k ⊕ two64) x
 
 module _ (full full' : Float → Vector → Vector) (arc : Arc) (g : Agree full full' arc) where
   run-same : (p : List Float) (n : ℕ) → n ≤ arc .steps → runOf full arc p n ≡ runOf full' arc p n
@@ -56,23 +57,16 @@ module _ (full full' : Float → Vector → Vector) (arc : Arc) (g : Agree full 
       let rest : Float → Vector → Vector → Vector = λ t x v. plus (fictitiousOf x v) (empiricalOf x v (argumentOf arc t) (strengthsOf p)) in
       state-same (accelerationOf full arc (strengthsOf p)) (accelerationOf full' arc (strengthsOf p)) (arc .t0) (stateIn p 0) n
       (λ k h. record {
-        start = λ x v. ap (λ (y : Vector). plus y (rest (timeOf (arc .t0) k) x v)) (g .start k (omega arith) x);
-        middle = λ x v. ap (λ (y : Vector). plus y (rest (timeOf (arc .t0) k ⊕ two64 ⊘ two64) x v)) (g .middle k (omega arith) x);
-        end = λ x v. ap (λ (y : Vector). plus y (rest (timeOf (arc .t0) k ⊕ two64) x v)) (g .end k (omega arith) x);
+        start = λ x v. ap (λ (y : Vector). plus y (rest (stepTime (arc .t0) k) x v)) (g .start k (omega arith) x);
+        middle = λ x v. ap (λ (y : Vector). plus y (rest (stepTime (arc .t0) k ⊕ two64 ⊘ two64) x v)) (g .middle k (omega arith) x);
+        end = λ x v. ap (λ (y : Vector). plus y (rest (stepTime (arc .t0) k ⊕ two64) x v)) (g .end k (omega arith) x);
       })
-
-  tab-same : (f f' : ℕ → Float) (m : ℕ) → ((r : ℕ) → r < m → f r ≡ f' r) → row f m ≡ row f' m
-  unfolding row
-  tab-same f f' zero h = refl
-  tab-same f f' (suc m) h =
-      ap (λ (l : List Float). l ++ (f m ∷ [])) (tab-same f f' m (λ r l. h r (omega arith)))
-      ∙ ap (λ (v : Float). row f' m ++ (v ∷ [])) (h m (omega arith))
 
   module _ (obs : List Observed) (w : Within obs (arc .steps)) where
     misfits-same : (p : List Float) → misfitsAt full arc obs p ≡ misfitsAt full' arc obs p
     unfolding misfitsAt misfitsOf misfitAt
     misfits-same p =
-        tab-same (misfitAt (runOf full arc p) obs) (misfitAt (runOf full' arc p) obs) (3 * length obs)
+        row-same (misfitAt (runOf full arc p) obs) (misfitAt (runOf full' arc p) obs) (3 * length obs)
         (λ r h. ap (λ (s : State). axis (r % 3) (nth obs (r / 3) .place) ⊖ axis (r % 3) (s .position)) (run-same p (nth obs (r / 3) .step) (w (r / 3) (omega arith) .0)))
 
     design-same : (p : List Float) → designAt full arc obs p ≡ designAt full' arc obs p
@@ -102,20 +96,20 @@ module _ (full full' : Float → Vector → Vector) (arc : Arc) (g : Agree full 
     from-same Missing = refl
 
 -- two look-ups agree at every fifth step
-observed-same : (look look' : Float → Held) (t0 : Float) (c : ℕ) → ((k : ℕ) → k < c → look (timeOf t0 (5 * k)) ≡ look' (timeOf t0 (5 * k))) → observedTo look t0 c ≡ observedTo look' t0 c
+observed-same : (look look' : Float → Held) (t0 : Float) (c : ℕ) → ((k : ℕ) → k < c → look (stepTime t0 (5 * k)) ≡ look' (stepTime t0 (5 * k))) → observedTo look t0 c ≡ observedTo look' t0 c
 unfolding observedTo
 observed-same look look' t0 zero h = refl
 observed-same look look' t0 (suc c) h =
-    ap (λ (l : List Observed). l ++ seen (5 * c) (look (timeOf t0 (5 * c)))) (observed-same look look' t0 c (λ k l. h k (omega arith)))
+    ap (λ (l : List Observed). l ++ seen (5 * c) (look (stepTime t0 (5 * c)))) (observed-same look look' t0 c (λ k l. h k (omega arith)))
     ∙ ap (λ (x : Held). observedTo look' t0 c ++ seen (5 * c) x) (h c (omega arith))
 
 -- what a fit reads of two models and two tables is the same
 pub record SameReads (covered covered' : Float → Bool) (full full' : Float → Vector → Vector) (look look' : Float → Held) (arc : Arc) : Type 0 where
   pub first : covered (arc .t0) ≡ covered' (arc .t0)
-  pub last : covered (timeOf (arc .t0) (arc .steps)) ≡ covered' (timeOf (arc .t0) (arc .steps))
+  pub last : covered (stepTime (arc .t0) (arc .steps)) ≡ covered' (stepTime (arc .t0) (arc .steps))
   pub force : Agree full full' arc
   pub start : look (arc .t0) ≡ look' (arc .t0)
-  pub places : (c : ℕ) → c < arc .steps / 5 + 1 → look (timeOf (arc .t0) (5 * c)) ≡ look' (timeOf (arc .t0) (5 * c))
+  pub places : (c : ℕ) → c < arc .steps / 5 + 1 → look (stepTime (arc .t0) (5 * c)) ≡ look' (stepTime (arc .t0) (5 * c))
 
 module _ (covered covered' : Float → Bool) (full full' : Float → Vector → Vector) (look look' : Float → Held) (arc : Arc) (l : arc .steps ≤ 5302) (r : SameReads covered covered' full full' look look' arc) where
   places-same : observed look arc ≡ observed look' arc

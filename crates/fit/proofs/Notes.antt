@@ -19,11 +19,12 @@ use Rattle.fit.specs.Fit.{Observed, nth, seen, observedTo, observed}
 use Rattle.fit.specs.Room.{Observes}
 use Rattle.fit.specs.Contracts.{Stored, Noted, Observing}
 use Rattle.fit.proofs.Rows.{set-only}
-use Rattle.integrate.proofs.Places.{by, only-same, only-then, stays3}
+use Rattle.integrate.proofs.Places.{only-same, only-then, stays3}
 use Rattle.integrate.specs.Room.{Holds3, Only}
-use Rattle.integrate.specs.Steps.{timeOf}
 use Rattle.integrate.specs.Work.{Placed}
 use Rattle.laws.specs.WholeNumbers.{number}
+use Rattle.laws.specs.Bools.{by}
+use Rattle.laws.specs.Times.{stepTime}
 
 pub stored : (s s' : List Float) (at k : ℕ) (v : Vector) (x : Float) → at + 4 ≤ length s → x ≡ number k → Placed (set s at x) s' (at + 1) v → Stored s s' at k v
 stored s s' at k v x h e p = record {
@@ -92,14 +93,14 @@ pub sofar-none : (look : Float → Held) (t0 : Float) (s : List Float) (b : ℕ)
 unfolding observedTo
 sofar-none look t0 s b = record { counted = refl; few = omega arith; all = observes-none s (b + 31818); only = only-same (b + 31818) (b + 36062) s }
 
-pub sofar-more : (look : Float → Held) (t0 : Float) (s s₁ s₂ : List Float) (b c n r : ℕ) → Sofar look t0 s s₁ b c n → Noted s₁ s₂ b n (seen (5 * c) (look (timeOf t0 (5 * c)))) r → Sofar look t0 s s₂ b (c + 1) r
+pub sofar-more : (look : Float → Held) (t0 : Float) (s s₁ s₂ : List Float) (b c n r : ℕ) → Sofar look t0 s s₁ b c n → Noted s₁ s₂ b n (seen (5 * c) (look (stepTime t0 (5 * c)))) r → Sofar look t0 s s₂ b (c + 1) r
 unfolding observedTo
 sofar-more look t0 s s₁ s₂ b c n r f w =
-    let more = seen (5 * c) (look (timeOf t0 (5 * c))) in
+    let more = seen (5 * c) (look (stepTime t0 (5 * c))) in
     let next : observedTo look t0 (c + 1) ≡ observedTo look t0 c ++ more = rw add-one in
     record {
       counted = w .counted ∙ ap (λ (m : ℕ). m + length more) (f .counted) ∙ sym (ap length next ∙ length-append (observedTo look t0 c) more);
-      few = omega (arith, w .counted, f .few, seen-short (5 * c) (look (timeOf t0 (5 * c))));
+      few = omega (arith, w .counted, f .few, seen-short (5 * c) (look (stepTime t0 (5 * c))));
       all = subst (λ (x : List Observed). Observes s₂ (b + 31818) x) (sym next) (w .all (observedTo look t0 c) (sym (f .counted)) (f .all));
       only = only-then (b + 31818) (b + 36062) (b + 31818) (b + 36062) (b + 31818) (b + 36062) s s₁ s₂ (f .only) (w .only) (omega arith) (omega arith) (omega arith) (omega arith);
     }

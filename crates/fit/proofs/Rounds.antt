@@ -24,14 +24,12 @@ use Rattle.fit.specs.Contracts.{Measured, Apart, Linearised, Within, Rou
 use Rattle.fit.proofs.Columns.{axis-of, run-reads, step-past, place-past, apart-then}
 use Rattle.fit.proofs.Steps.{within}
 use Rattle.forces.specs.Forces.{j2Of}
-use Rattle.integrate.proofs.Places.{by, only-same, only-then, stays3}
+use Rattle.integrate.proofs.Places.{only-same, only-then, stays3}
 use Rattle.integrate.specs.Force.{Model, attractionOf, fullForce, runOf}
 use Rattle.integrate.specs.Room.{Holds3, Only, Orbit, Run}
-use Rattle.integrate.specs.Steps.{timeOf}
 use Rattle.laws.specs.Floats.{_⊖_}
 use Rattle.laws.specs.Tables.{row, row-at, row-length}
 use Rattle.laws.specs.WholeNumbers.{number}
-use Rattle.least_squares.proofs.Laws.{never}
 use Rattle.least_squares.specs.Kernel.{Estimated, shaped15}
 use Rattle.least_squares.specs.LeastSquares.{solvable, solved}
 

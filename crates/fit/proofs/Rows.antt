@@ -12,9 +12,10 @@ use lib.Seq.{getD-set-same, getD-set-other}
 use borrow.Author.Tests.{eqb-true, eqb-false, leb-true}
 use Rattle.fit.specs.Room.{stepNumber, stepAt, placeAt, runAt}
 use Rattle.fit.specs.Contracts.{Measured, Based, Columned}
-use Rattle.integrate.proofs.Places.{by, only-same, only-then}
+use Rattle.integrate.proofs.Places.{only-same, only-then}
 use Rattle.integrate.specs.Room.{Only}
 use Rattle.laws.specs.Floats.{_⊖_}
+use Rattle.laws.specs.Bools.{by}
 
 cond-le : (t : Bool) (x y m : ℕ) → (t ≡ true → x ≤ m) → y ≤ m → cond t x y ≤ m
 cond-le true x y m a b = a refl

@@ -1,6 +1,6 @@
 -- The steps of the observations: every fifth, within the arc, and known again from their floats.
 use mathlib.Core.Path.{_≡_, refl, sym, ap, _∙_, subst}
-use mathlib.Core.Bool.{Bool, true, false, _&&_}
+use mathlib.Core.Bool.{Bool, true, _&&_}
 use mathlib.Core.List.{List, [], _∷_, _++_, append-nil}
 use Prim.Native.Nat.{ℕ, zero, suc, _+_, _*_, _/_, _≤_, _<_}
 use native.Mathlib.Omega.{arith}
@@ -15,10 +15,9 @@ use Rattle.fit.specs.declared.kernel.Held.the-variants.{Known, Missing}
 use Rattle.fit.specs.Fit.{Observed, nth, seen, observedTo, observed}
 use Rattle.fit.specs.Room.{stepNumber}
 use Rattle.fit.specs.Contracts.{Within}
-use Rattle.integrate.proofs.Places.{by}
-use Rattle.integrate.specs.Steps.{timeOf}
 use Rattle.laws.specs.WholeNumbers.{number}
-use Rattle.least_squares.proofs.Laws.{never}
+use Rattle.laws.specs.Bools.{by, left-true, right-true}
+use Rattle.laws.specs.Times.{stepTime}
 
 pub record Fifth (k c : ℕ) : Type 0 where
   pub n : ℕ
@@ -44,7 +43,7 @@ more c obs Missing f j h =
 fifths : (look : Float → Held) (t0 : Float) (c : ℕ) → (j : ℕ) → j < length (observedTo look t0 c) → Fifth (nth (observedTo look t0 c) j .step) c
 unfolding observedTo
 fifths look t0 zero j h = absurd (omega arith)
-fifths look t0 (suc c) j h = more c (observedTo look t0 c) (look (timeOf t0 (5 * c))) (fifths look t0 c) j h
+fifths look t0 (suc c) j h = more c (observedTo look t0 c) (look (stepTime t0 (5 * c))) (fifths look t0 c) j h
 
 -- whether f holds at each number below n
 unfoldable allTo : (ℕ → Bool) → ℕ → Bool
@@ -56,21 +55,13 @@ known : allTo (λ (c : ℕ). eqb (stepNumber (number (5 * c))) (5 * c)) 1061 ≡
 unfolding allTo stepNumber number ofInt lt toUnsigned odd units round span climb size
 known = refl
 
-and-l : (a b : Bool) → (a && b) ≡ true → a ≡ true
-and-l true b e = refl
-and-l false b e = e
-
-and-r : (a b : Bool) → (a && b) ≡ true → b ≡ true
-and-r true b e = e
-and-r false b e = absurd (never e)
-
 all-at : (f : ℕ → Bool) (n c : ℕ) → allTo f n ≡ true → c < n → f c ≡ true
 unfolding allTo
 all-at f zero c e h = absurd (omega arith)
 all-at f (suc n) c e h =
     by (eqb c n)
-    (λ t. ap f (eqb-true c n t) ∙ and-r (allTo f n) (f n) e)
-    (λ t. all-at f n c (and-l (allTo f n) (f n) e) (omega (arith, eqb-false c n t)))
+    (λ t. ap f (eqb-true c n t) ∙ right-true (allTo f n) (f n) e)
+    (λ t. all-at f n c (left-true (allTo f n) (f n) e) (omega (arith, eqb-false c n t)))
 
 pub step-known : (c : ℕ) → c < 1061 → stepNumber (number (5 * c)) ≡ 5 * c
 step-known c h = eqb-true _ _ (all-at (λ (d : ℕ). eqb (stepNumber (number (5 * d))) (5 * d)) 1061 c known h)

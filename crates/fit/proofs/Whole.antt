@@ -23,11 +23,12 @@ use Rattle.fit.specs.Contracts.{Measured, Apart, Within, Rounded, Finish
 use Rattle.fit.proofs.Columns.{run-reads, step-past, place-past, apart-then}
 use Rattle.fit.proofs.Rounds.{misfit-list, full-is}
 use Rattle.fit.proofs.Steps.{within}
-use Rattle.integrate.proofs.Places.{by, only-same, only-then, stays3}
+use Rattle.integrate.proofs.Places.{only-same, only-then, stays3}
 use Rattle.integrate.specs.Force.{Model, attractionOf, fullForce, runOf}
 use Rattle.integrate.specs.Room.{Only, Orbit, Run}
-use Rattle.integrate.specs.Steps.{timeOf}
 use Rattle.laws.specs.Floats.{_⊖_}
+use Rattle.laws.specs.Bools.{by}
+use Rattle.laws.specs.Times.{stepTime}
 
 pub orbit-stays : (a e b m : ℕ) (s s' : List Float) (run : Run) → Only a e s s' → b + 6 * m ≤ a → Orbit s b run m → Orbit s' b run m
 orbit-stays a e b m s s' run o h w = record {
@@ -125,12 +126,12 @@ module _ (covered : Float → Bool) (full : Float → Vector → Vector) (look :
   unfolding fitOf
   first-uncovered h = record { said = sym (simp h); states = λ x e. no-rms x 6 e; only = only-same 0 (b + 90173) s }
 
-  pub last-uncovered : (t : Float) → t ≡ timeOf (arc .t0) (arc .steps) → covered (arc .t0) ≡ true → covered t ≡ false → Fits covered full look arc s s b (Refused 6)
+  pub last-uncovered : (t : Float) → t ≡ stepTime (arc .t0) (arc .steps) → covered (arc .t0) ≡ true → covered t ≡ false → Fits covered full look arc s s b (Refused 6)
   unfolding fitOf
   last-uncovered t e g h = record { said = sym (simp (g, ap covered (sym e) ∙ h)); states = λ x f. no-rms x 6 f; only = only-same 0 (b + 90173) s }
 
-  module _ (t : Float) (et : t ≡ timeOf (arc .t0) (arc .steps)) (g : covered (arc .t0) ≡ true) (h : covered t ≡ true) (ls : arc .steps ≤ 5302) (s₁ : List Float) (n : ℕ) (ob : Observing s s₁ b (observed look arc) n) where
-    ends : covered (timeOf (arc .t0) (arc .steps)) ≡ true
+  module _ (t : Float) (et : t ≡ stepTime (arc .t0) (arc .steps)) (g : covered (arc .t0) ≡ true) (h : covered t ≡ true) (ls : arc .steps ≤ 5302) (s₁ : List Float) (n : ℕ) (ob : Observing s s₁ b (observed look arc) n) where
+    ends : covered (stepTime (arc .t0) (arc .steps)) ≡ true
     ends = ap covered (sym et) ∙ h
 
     pub few : n < arc .steps / 10 → Fits covered full look arc s s₁ b (Refused 7)

@@ -7,6 +7,7 @@ use lib.IntN.{ℤ}
 use Prim.Native.Nat.{ℕ, _+_, _*_, _%_, _≤_, _<_}
 use lib.Ieee.{Float, nan}
 use lib.ListN.{length, getD}
+use Rattle.lent.specs.Lent.{frontSize}
 use Rattle.least_squares.specs.declared.kernel.Estimate.{Estimate}
 use Rattle.vectors.specs.declared.Vector.{Vector}
 use Rattle.integrate.specs.declared.kernel.State.{State}
@@ -15,7 +16,6 @@ use Rattle.fit.specs.declared.kernel.Held.{Held}
 use Rattle.fit.specs.declared.kernel.Fitted.{Fitted as Fit}
 use Rattle.fit.specs.declared.kernel.Fitted.the-variants.{Fitted, Refused}
 use Rattle.laws.specs.Checks.{risingSeconds}
-use Rattle.integrate.specs.Force.{frontSize}
 use Rattle.fit.specs.Fit.{Observed, axis, nth, startOf, regular, improved, rmsAt, fittedFrom, fitOf, orbitOf}
 use Rattle.fit.specs.Room.{Observes, stepNumber, stepAt, placeAt, runAt}
 use Rattle.integrate.specs.Force.{runOf}

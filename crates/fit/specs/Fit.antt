@@ -20,13 +20,14 @@ use Rattle.fit.specs.declared.kernel.Fitted.the-variants.{Fitted, Refuse
 use Rattle.forces.specs.Forces.{j2Of}
 use Rattle.integrate.specs.Force.{runOf}
 use Rattle.integrate.specs.Room.{Run, stateIn}
-use Rattle.integrate.specs.Steps.{timeOf}
 use Rattle.numbers.specs.Seconds.{wholeSecond}
+use Rattle.numbers.specs.Constants.{decimal}
 use Rattle.slices.specs.Slices.{lookup}
-use Rattle.laws.specs.Floats.{_⊕_, _⊖_, _⊗_, _⊘_, one64, zero64, bits}
+use Rattle.laws.specs.Floats.{_⊕_, _⊖_, _⊗_, _⊘_, one64, zero64}
 use Rattle.laws.specs.Sums.{sumTo}
 use Rattle.laws.specs.Tables.{row}
 use Rattle.laws.specs.WholeNumbers.{number}
+use Rattle.laws.specs.Times.{stepTime}
 use Rattle.least_squares.specs.LeastSquares.{solvable, solved}
 
 -- ---- what a fit reads
@@ -52,7 +53,7 @@ seen k Missing = []
 -- the positions held at steps 0, 5, 10 and so on, c steps in all
 unfoldable pub observedTo : (Float → Held) → Float → ℕ → List Observed
 observedTo look t0 zero = []
-observedTo look t0 (suc c) = observedTo look t0 c ++ seen (5 * c) (look (timeOf t0 (5 * c)))
+observedTo look t0 (suc c) = observedTo look t0 c ++ seen (5 * c) (look (stepTime t0 (5 * c)))
 
 -- those of an arc
 unfoldable pub observed : (Float → Held) → Arc → List Observed
@@ -63,9 +64,9 @@ observed look arc = observedTo look (arc .t0) (arc .steps / 5 + 1)
 unfoldable pub startOf : State → List Float
 startOf s = s .position .x ∷ s .position .y ∷ s .position .z ∷ s .velocity .x ∷ s .velocity .y ∷ s .velocity .z ∷ replicate 9 zero64
 
--- by how much a parameter is moved for its partial derivatives: 1, but for the velocity 1e-3, whose bits stand here
+-- by how much a parameter is moved for its partial derivatives: 1, but for the velocity 1e-3
 unfoldable pub scaleOf : ℕ → Float
-scaleOf i = cond (ltb i 3) one64 (cond (ltb i 6) (bits 0x3f50624dd2f1a9fc) one64)
+scaleOf i = cond (ltb i 3) one64 (cond (ltb i 6) (decimal 1 3) one64)
 
 -- parameter i moved by its scale
 unfoldable pub movedOf : List Float → ℕ → List Float
@@ -137,7 +138,7 @@ module _ (full : Float → Vector → Vector) (arc : Arc) (obs : List Observed) 
 -- the answer: an rms, or document 01's number of the refusal
 unfoldable pub fitOf : (Float → Bool) → (Float → Vector → Vector) → (Float → Held) → Arc → Fit
 fitOf covered full look arc =
-    cond (covered (arc .t0) && covered (timeOf (arc .t0) (arc .steps)))
+    cond (covered (arc .t0) && covered (stepTime (arc .t0) (arc .steps)))
     (cond (ltb (length (observed look arc)) (arc .steps / 10)) (Refused 7) (fitFrom full arc (observed look arc) (look (arc .t0))))
     (Refused 6)
 

@@ -11,13 +11,14 @@ ghost use mathlib.Core.List.{List, _++_};
 ghost use Prim.Native.Nat.{ℕ, _+_, _*_, _/_, _≤_, _<_};
 ghost use lib.Ieee.{Float, nan};
 ghost use lib.ListN.{length, getD, replicate};
+ghost use Rattle.laws.specs.Times.{stepTime};
 ghost use Rattle.laws.specs.Checks.{risingSeconds};
 ghost use Rattle.numbers.specs.Seconds.{wholeSecond};
 ghost use Rattle.slices.specs.Slices.{lookup};
 ghost use Rattle.finality.specs.Brackets.{covers};
-ghost use Rattle.integrate.specs.Steps.{timeOf};
 ghost use Rattle.integrate.specs.Room.{Only, Orbit};
-ghost use Rattle.integrate.specs.Force.{model, frontSize, fullForce, attractionOf, runOf};
+ghost use Rattle.lent.specs.Lent.{frontSize};
+ghost use Rattle.integrate.specs.Force.{model, fullForce, attractionOf, runOf};
 ghost use Rattle.integrate.specs.declared.kernel.Force.the-variants.{Full, J2};
 ghost use Rattle.fit.specs.Fit.{stateFor, seen, observed, startOf, scaleOf, movedOf, updatedOf, rmsOf};
 ghost use Rattle.fit.specs.Room.{stepNumber, stepAt, placeAt, runAt};
@@ -225,7 +226,7 @@ fn note(
     n: usize,
 ) -> usize
     requires { ⌜ (risingSeconds (now keys) ≡ true) × (length (now states) ≡ 6 * length (now keys)) × (n ≤ c) × (c < 1061) × (base + 90173 ≤ length (now s)) ⌝ }
-    ensures { λ r. ⌜ Noted (now (s .entry)) (now (s .exit)) base n (seen (5 * c) (stateFor (now (keys .entry)) (now (states .entry)) (timeOf t0 (5 * c)))) r ⌝ }
+    ensures { λ r. ⌜ Noted (now (s .entry)) (now (s .exit)) base n (seen (5 * c) (stateFor (now (keys .entry)) (now (states .entry)) (stepTime t0 (5 * c)))) r ⌝ }
 {
     let held = state_for(keys, states, integrate::kernel::time(t0, 5 * c));
     match held {
@@ -524,7 +525,7 @@ fn arc_fits(degree: usize, steps: usize, keys: &[i64], states: usize, room: usiz
     if states != 6 * keys.len() {
         return false;
     }
-    let base = integrate::kernel::front_size(degree);
+    let base = lent::front_size(degree);
     if base + 90173 > room {
         return false;
     }
@@ -547,7 +548,7 @@ pub fn fit_arc(
     ensures { λ r. ⌜ ArcFit (arcServes degree (arc .steps) (now (keys .entry)) (length (now (states .entry))) (length (now (s .entry)))) (covers (now (times .entry))) (fullForce (model degree (now (field .entry)) (now (times .entry)) (now (added .entry))) (now (a .entry)) (now (b .entry))) (stateFor (now (keys .entry)) (now (states .entry))) arc (now (s .entry)) (now (s .exit)) (frontSize degree) r ⌝ }
 {
     if arc_fits(degree, arc.steps, keys, states.len(), s.len()) {
-        let base = integrate::kernel::front_size(degree);
+        let base = lent::front_size(degree);
         return fit_within(
             degree,
             field,

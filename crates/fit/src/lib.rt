@@ -7,7 +7,7 @@ ghost use Prim.Native.Nat.{_+_, _*_, _≤_};
 ghost use lib.ListN.{length, take, drop};
 ghost use Rattle.slices.specs.Calls.{left};
 ghost use Rattle.slices.specs.Slices.{copied};
-ghost use Rattle.integrate.specs.Force.{frontSize};
+ghost use Rattle.lent.specs.Lent.{frontSize};
 ghost use Rattle.fit.specs.Calls.{refusal as refusalOf, fitCall};
 ghost use Rattle.fit.specs.Handing.{Handed};
 
@@ -60,7 +60,7 @@ fn hand_out(
     requires { ⌜ (degree ≤ 180) × (steps ≤ 5302) × (frontSize degree + 31818 ≤ length (now scratch)) × (length (now out) ≡ 6 * (steps + 1)) ⌝ }
     ensures { λ r. ⌜ Handed x (take (6 * (steps + 1)) (drop (frontSize degree) (now (scratch .entry)))) (now (out .entry)) (now (scratch .entry)) r (now (out .exit)) (now (scratch .exit)) ⌝ }
 {
-    let base = integrate::kernel::front_size(degree);
+    let base = lent::front_size(degree);
     let end = base + 6 * (steps + 1);
     slices::copy(&scratch[base..end], out);
     slices::clear(scratch);

@@ -1,6 +1,6 @@
 -- The call `gravity`: its tests, the field copied into a prepared scratch, what is left behind. Assumes nothing.
-use mathlib.Core.Path.{_≡_, refl, sym, ap, ap₂, _∙_, subst}
-use mathlib.Core.Bool.{Bool, true, false, cond, _&&_}
+use mathlib.Core.Path.{_≡_, sym, ap, ap₂, _∙_, subst}
+use mathlib.Core.Bool.{Bool, true, cond, _&&_}
 use mathlib.Core.List.{List, [], _∷_, _++_}
 use Prim.Native.Nat.{ℕ, _+_, _*_, _-_, _<_, _≤_}
 use native.Mathlib.Omega.{arith}
@@ -12,6 +12,7 @@ use lib.Seq.{take-all, drop-drop, length-take-le}
 use lib.Ieee.{Float, nan}
 use Rattle.laws.specs.Floats.{zero64}
 use Rattle.laws.specs.Loops.{cleared}
+use Rattle.laws.specs.Bools.{both-true}
 use Rattle.slices.specs.Slices.{copied}
 use Rattle.slices.specs.Calls.{Left, left, settled}
 use Rattle.slices.proofs.Calls.{cond-passes, call-refused}
@@ -39,10 +40,6 @@ gravity-high N f a b w v g h = rw (le-leb 2 N g, lt-leb N 180 h)
 pub gravity-tested : (N f a b w : ℕ) (v x : Bool) (r y : ℕ) → 2 ≤ N → N ≤ 180 → x ≡ lengthsFine N f a b w → y ≡ cond v 0 4 → r ≡ cond x y 3 → r ≡ gravityRefusal N f a b w v
 unfolding gravityRefusal
 gravity-tested N f a b w v x r y g h e k l = l ∙ rw (le-leb 2 N g, le-leb N 180 h, e, k)
-
-both-true : (a b : Bool) → (a && b) ≡ true → (a ≡ true) × (b ≡ true)
-both-true true b h = (refl, h)
-both-true false b h = absurd (let z : _≡_ {A = ℕ} 0 1 = ap (λ (x : Bool). cond x 1 0) h in omega arith)
 
 pub gravity-fits : (N f a b w : ℕ) (v : Bool) (n : ℕ) → n ≡ gravityRefusal N f a b w v → n ≡ 0 → (f ≡ 2 + 2 * size N) × Fits N a b w
 unfolding gravityRefusal lengthsFine

@@ -1,15 +1,15 @@
 -- What the public calls answer. Assumes nothing: definitions only.
-use Prim.Native.Nat.{ℕ, _+_, _*_}
+use Prim.Native.Nat.{ℕ, _+_}
 use mathlib.Core.Bool.{Bool, true, cond, _&&_}
 use mathlib.Core.Option.{Option, none, some}
-use mathlib.Core.List.{List, [], _∷_}
-use lib.Dec.{leb, eqb}
+use mathlib.Core.List.{List, []}
 use lib.ListN.{length, take, drop, getD, replicate}
 use lib.Ieee.{Float, nan}
 use lib.Ieee.Scale.{finite}
+use Rattle.fields.specs.Calls.{fieldAnd, refusalOf}
 use Rattle.laws.specs.Floats.{zero64}
 use Rattle.laws.specs.Checks.{all, isTime}
-use Rattle.slices.specs.Calls.{Left, firstFailed, settled}
+use Rattle.slices.specs.Calls.{Left, settled}
 use Rattle.series.specs.Field.{size}
 use Rattle.slices.specs.declared.Outcome.the-variants.{Accepted, Refused}
 use Rattle.vectors.specs.declared.Vector.{Vector}
@@ -96,14 +96,13 @@ gravityOfField N field a b x =
 
 -- the lengths of the field, the Legendre tables and the scratch
 unfoldable pub lengthsFine : ℕ → ℕ → ℕ → ℕ → ℕ → Bool
-lengthsFine N field a b scratch = eqb field (2 + 2 * size N) && (eqb a (size N) && (eqb b (size N) && leb (8 * size N) scratch))
+lengthsFine N field a b scratch = fieldAnd (size N) field a b scratch
 
 unfoldable pub valuesFine : List Float → List Float → List Float → Vector → Bool
 valuesFine field a b x = all finite field && (all finite a && (all finite b && finiteVector x))
 
 unfoldable pub gravityRefusal : ℕ → ℕ → ℕ → ℕ → ℕ → Bool → ℕ
-gravityRefusal N field a b scratch values =
-    firstFailed ((leb 2 N && leb N 180, 1) ∷ (lengthsFine N field a b scratch, 3) ∷ (values, 4) ∷ [])
+gravityRefusal N field a b scratch values = refusalOf N (lengthsFine N field a b scratch) values
 
 abbrev pub gravityCall : ℕ → List Float → List Float → List Float → Vector → List Float → Left Answer
 gravityCall N field a b x scratch =

@@ -10,7 +10,7 @@ use Rattle.numbers.specs.Numbers.{sineCosine, power}
 use Rattle.numbers.specs.declared.SineCosine.{SineCosine}
 use Rattle.vectors.specs.Vector.{plus, minus, times, inner, norm, cross}
 use Rattle.vectors.specs.declared.Vector.{Vector}
-use Rattle.numbers.specs.Constants.{decimal, earthGM, earthRadius, sunGM, moonGM, rotation, flattening}
+use Rattle.numbers.specs.Constants.{decimal, earthGM, earthRadius, sunGM, moonGM, rotation, j2}
 use Rattle.sky.specs.Sky.{sunMoon}
 use Rattle.series.specs.Field.{partialsWith, partialsBy}
 use Rattle.tide.specs.Tide.{placeOf, solidTide}
@@ -81,7 +81,7 @@ j2Of x =
     let r2 = inner x x in
     let k = earthGM ⊘ (r2 ⊗ sqrt binary64 r2) in
     let z2 = x .z ⊗ x .z ⊘ r2 in
-    let j = decimal 15 1 ⊗ flattening ⊗ earthRadius ⊗ earthRadius ⊘ r2 in
+    let j = decimal 15 1 ⊗ j2 ⊗ earthRadius ⊗ earthRadius ⊘ r2 in
     record {
       x = neg k ⊗ x .x ⊗ (one64 ⊕ j ⊗ (one64 ⊖ number 5 ⊗ z2));
       y = neg k ⊗ x .y ⊗ (one64 ⊕ j ⊗ (one64 ⊖ number 5 ⊗ z2));

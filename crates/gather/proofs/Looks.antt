@@ -1,26 +1,21 @@
 -- The look-ups of one observation, and slots that stay. Assumes nothing.
-use mathlib.Core.Path.{_≡_, refl, sym, ap, _∙_, subst}
-use mathlib.Core.Bool.{Bool, true, false, _&&_}
+use mathlib.Core.Path.{_≡_, refl, ap, _∙_, subst}
+use mathlib.Core.Bool.{true}
 use mathlib.Core.Option.{Option, none, some}
 use mathlib.Core.List.{List, [], _∷_}
-use Prim.Native.Nat.{ℕ, zero, suc, _+_, _*_, _/_, _^_, _≤_, _<_, min}
-use native.Mathlib.Nat.{zero-div}
+use Prim.Native.Nat.{ℕ, zero, suc, _+_, _*_, _≤_, _<_}
 use native.Mathlib.Omega.{arith}
-use lib.Dec.{T}
-use lib.IntN.{ℤ, pos, negℤ}
-use lib.Ieee.{Float, nan, inf, fin, up, down, toSigned, toUnsigned}
+use lib.IntN.{ℤ, pos}
+use lib.Ieee.{Float, nan}
 use lib.ListN.{length, getD}
 use borrow.Author.Tests.{le-leb}
-use Rattle.laws.specs.Floats.{zero⁺}
-use Rattle.laws.specs.Signed.{order-of-le}
 use Rattle.laws.specs.Checks.{all, isTime, isKey, time-says}
-use Rattle.laws.specs.Times.{Time, second, natural, natural-bound}
+use Rattle.laws.specs.Times.{Time, second, natural, natural-bound, second-is}
+use Rattle.laws.specs.Bools.{by, holds, left-true, right-true}
 use Rattle.numbers.specs.Seconds.{isHeld, wholeSecond}
 use Rattle.finality.specs.Tables.{Table, find}
 use Rattle.integrate.specs.Room.{Only}
 use Rattle.integrate.specs.declared.kernel.State.{State}
-use Rattle.integrate.proofs.Places.{by}
-use Rattle.integrate.proofs.Front.{never}
 use Rattle.fit.specs.declared.kernel.Held.{Held}
 use Rattle.windows.specs.Stage.{heldOf}
 use Rattle.windows.specs.Windows.{slotAt}
@@ -35,47 +30,24 @@ use Rattle.gather.specs.Gather.{Given, Stand, foundOf, Found}
 
 -- ---- the whole second of a time is a key
 
-second-natural : (t : Float) → Time t → second t ≡ pos (natural t)
-unfolding natural toUnsigned toSigned
-second-natural nan h = absurd (h .is-finite)
-second-natural (inf s) h = absurd (h .is-finite)
-second-natural (fin true m e) h =
-    let z : m * up e ≡ 0 = zeroed (order-of-le zero⁺ (fin true m e) tt tt (h .from-zero)) in
-    ap (λ (w : ℕ). negℤ (pos (min (w / down e) (2 ^ 63)))) z ∙ ap (λ (w : ℕ). negℤ (pos (min w (2 ^ 63)))) (zero-div (down e))
-  where
-    zeroed : 0 * down e + m * up e * 1 ≤ 0 * 1 + 0 * down e → m * up e ≡ 0
-    zeroed g = omega arith
-second-natural (fin false m e) h = refl
-
 key-number : (n : ℕ) → n ≤ 2147483648 → isKey (pos n) ≡ true
 unfolding isKey
 key-number n h = rw (le-leb 0 n (omega arith), le-leb n 2147483648 h)
 
-true-holds : (b : Bool) → b ≡ true → T b
-true-holds b e = subst T (sym e) tt
-
 pub key-second : (t : Float) → isTime t ≡ true → isKey (wholeSecond t) ≡ true
 unfolding wholeSecond
 key-second t h =
-    let at : Time t = time-says t (true-holds (isTime t) h) in
+    let at : Time t = time-says t (holds (isTime t) h) in
     by (isHeld t)
-    (λ e. rw e (ap isKey (second-natural t at) ∙ key-number (natural t) (natural-bound t at)))
+    (λ e. rw e (ap isKey (second-is t at) ∙ key-number (natural t) (natural-bound t at)))
     (λ e. rw e (key-number 0 (omega arith)))
 
 -- ---- a time of the list
 
 pub time-at : (ts : List Float) (i : ℕ) → all isTime ts ≡ true → i < length ts → isTime (getD ts i nan) ≡ true
 time-at [] i h l = absurd (omega arith)
-time-at (t ∷ ts) zero h l = first (isTime t) (all isTime ts) h
-  where
-    first : (a b : Bool) → (a && b) ≡ true → a ≡ true
-    first true b h = refl
-    first false b h = absurd (never h)
-time-at (t ∷ ts) (suc i) h l = time-at ts i (rest (isTime t) (all isTime ts) h) (omega arith)
-  where
-    rest : (a b : Bool) → (a && b) ≡ true → b ≡ true
-    rest true b h = h
-    rest false b h = absurd (never h)
+time-at (t ∷ ts) zero h l = left-true (isTime t) (all isTime ts) h
+time-at (t ∷ ts) (suc i) h l = time-at ts i (right-true (isTime t) (all isTime ts) h) (omega arith)
 
 -- ---- what was found
 

@@ -1,6 +1,6 @@
 -- Whether the slices serve, and what is done where they do. Assumes nothing.
 use mathlib.Core.Path.{_≡_, refl, sym, ap, _∙_, subst}
-use mathlib.Core.Bool.{Bool, true, false, _&&_}
+use mathlib.Core.Bool.{Bool, true, false, _&&_, false≢true}
 use mathlib.Core.List.{List}
 use Prim.Native.Nat.{ℕ, _≤_}
 use native.Mathlib.Omega.{arith}
@@ -9,11 +9,10 @@ use lib.IntN.{ℤ}
 use lib.Ieee.{Float}
 use lib.ListN.{length, replicate, length-replicate}
 use borrow.Author.Tests.{leb-true, le-leb, eqb-true, eq-eqb}
+use Rattle.lent.specs.Lent.{frontSize, Front}
 use Rattle.laws.specs.Floats.{zero64}
 use Rattle.laws.specs.Checks.{all, isTime, risingSeconds}
-use Rattle.integrate.specs.Force.{frontSize}
-use Rattle.integrate.proofs.Places.{by}
-use Rattle.integrate.proofs.Front.{never}
+use Rattle.laws.specs.Bools.{by, both-true}
 use Rattle.sighting.specs.Work.{Opened}
 use Rattle.gather.specs.Gather.{Given, gatherServes, SoFar, Done, Gathered}
 use Rattle.gather.proofs.Looks.{stand-stays}
@@ -42,10 +41,6 @@ pub record Serving (N : ℕ) (p q : List ℤ) (ts : List Float) (v b o w n : ℕ
   pub good : b ≡ length ts
   pub outtimes : o ≡ length ts
   pub outraws : w ≡ length ts
-
-both-true : (a b : Bool) → (a && b) ≡ true → (a ≡ true) × (b ≡ true)
-both-true true b h = (refl, h)
-both-true false b h = absurd (never h)
 
 pub serving : (N : ℕ) (p q : List ℤ) (ts : List Float) (values good outtimes outraws room : ℕ) → gatherServes N p q ts values good outtimes outraws room ≡ true → Serving N p q ts values good outtimes outraws room
 unfolding gatherServes
@@ -91,7 +86,7 @@ serves-where N p q ts values good outtimes outraws room s =
 
 module _ (g : Given) (ts rs s : List Float) (base : ℕ)
     (h : gatherServes (g .model .degree) (g .accC .keys) (g .accD .keys) (g .times) (length (g .values)) (length (g .good)) (length ts) (length rs) (length s) ≡ true)
-    (eb : (g .model .degree ≤ 180 → base ≡ frontSize (g .model .degree)) × (base ≤ 131768)) where
+    (eb : Front (g .model .degree) base) where
   serve : Serving (g .model .degree) (g .accC .keys) (g .accD .keys) (g .times) (length (g .values)) (length (g .good)) (length ts) (length rs) (length s)
   serve = serving (g .model .degree) (g .accC .keys) (g .accD .keys) (g .times) (length (g .values)) (length (g .good)) (length ts) (length rs) (length s) h
 
@@ -128,8 +123,8 @@ module _ (g : Given) (ok serves : Bool) (e : ok ≡ serves) (ts rs s : List Floa
   gathered ts' rs' s' r h d = record {
     long = d .long;
     is = λ k x y sc sd. d .is x y (record { ofC = sc; ofD = sd });
-    unfit = λ k. absurd (never (sym k ∙ sym e ∙ h));
+    unfit = λ k. absurd (false≢true (sym k ∙ sym e ∙ h));
   }
 
   pub not-gathered : ok ≡ false → Gathered g serves ts rs s ts rs s 0
-  not-gathered h = record { long = refl; is = λ k. absurd (never (sym h ∙ e ∙ k)); unfit = λ k. (refl, refl, refl, refl) }
+  not-gathered h = record { long = refl; is = λ k. absurd (false≢true (sym h ∙ e ∙ k)); unfit = λ k. (refl, refl, refl, refl) }

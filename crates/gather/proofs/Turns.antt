@@ -1,6 +1,6 @@
 -- One turn of the loop over the observations, its beginning and its end. Assumes nothing.
 use mathlib.Core.Path.{_≡_, refl, sym, ap, _∙_, subst}
-use mathlib.Core.Bool.{Bool, true, false}
+use mathlib.Core.Bool.{true, false}
 use mathlib.Core.Option.{Option, none, some}
 use mathlib.Core.List.{List, [], _∷_, _++_, map, append-nil}
 use Prim.Native.Nat.{ℕ, _+_, _-_, _≤_, _<_}
@@ -9,23 +9,21 @@ use lib.Ieee.{Float, nan}
 use lib.ListN.{length, getD, set, replicate, length-append, length-set}
 use Rattle.laws.specs.Floats.{zero64}
 use Rattle.laws.specs.Checks.{isTime}
+use Rattle.laws.specs.Bools.{by, clash}
+use Rattle.laws.specs.Loops.{filled-none}
 use Rattle.finality.specs.Tables.{Table}
-use Rattle.finality.specs.Sheet.{Observation, published}
+use Rattle.finality.specs.Sheet.{Observation, published, keep}
 use Rattle.epochs.specs.Epochs.{time, residual}
 use Rattle.epochs.specs.declared.Epoch.{Epoch}
 use Rattle.integrate.specs.declared.kernel.State.{State}
-use Rattle.integrate.proofs.Places.{by, only-same}
-use Rattle.integrate.proofs.Front.{never}
-use Rattle.sighting.specs.Kept.{epochBy, observation, observations, keep}
+use Rattle.integrate.proofs.Places.{only-same}
+use Rattle.sighting.specs.Kept.{epochBy, observation, observations}
 use Rattle.sighting.specs.Work.{madeOf, Tried}
 use Rattle.sighting.specs.declared.Sighting.{Sighting}
 use Rattle.sighting.specs.declared.Made.{Made}
-use Rattle.sighting.proofs.Kept.{seen, keptUpTo, kept-more, kept-few, kept-all, kept-none, set-more, replicate-like}
+use Rattle.sighting.proofs.Kept.{seen, keptUpTo, kept-more, kept-few, kept-all, kept-none, set-more}
 use Rattle.gather.specs.Gather.{Given, epochIn, Stand, Listed, Found, Added, Able, SoFar, Done}
 use Rattle.gather.proofs.Looks.{time-at, stand-stays, stand-found}
-
-clash : {X : Type 0} (b : Bool) → b ≡ true → b ≡ false → X
-clash b h e = absurd (never (sym e ∙ h))
 
 -- ---- what was made is stored
 
@@ -119,8 +117,8 @@ begins g base ts rs s n m a en em et er = record {
   only = only-same 0 base s;
   is = λ c d st. subst (λ (es : List Epoch). Listed (length (g .times)) es ts rs 0) (sym (kept-none (epochIn g c d) (g .times) (g .values) (g .good))) (record {
     count = refl;
-    times = et ∙ replicate-like zero64 n (length (g .times)) en;
-    raws = er ∙ replicate-like zero64 m (length (g .times)) em;
+    times = et ∙ filled-none zero64 n (length (g .times)) en;
+    raws = er ∙ filled-none zero64 m (length (g .times)) em;
   });
 }
 

@@ -9,20 +9,21 @@ use lib.Dec.{leb, eqb}
 use lib.IntN.{ℤ}
 use lib.Ieee.{Float}
 use lib.ListN.{length, take, set}
+use Rattle.lent.specs.Lent.{frontSize}
 use Rattle.laws.specs.Checks.{all, isTime, risingSeconds}
 use Rattle.numbers.specs.Seconds.{wholeSecond}
 use Rattle.finality.specs.Tables.{Table, find}
-use Rattle.finality.specs.Sheet.{Observation, published}
+use Rattle.finality.specs.Sheet.{Observation, published, keptOf}
 use Rattle.epochs.specs.Epochs.{time, residual}
 use Rattle.epochs.specs.declared.Epoch.{Epoch}
-use Rattle.integrate.specs.Force.{Model, frontSize}
+use Rattle.integrate.specs.Force.{Model}
 use Rattle.integrate.specs.Room.{Only}
 use Rattle.integrate.specs.declared.kernel.State.{State}
 use Rattle.fit.specs.declared.kernel.Held.{Held}
 use Rattle.fit.specs.declared.kernel.Held.the-variants.{Known, Missing}
 use Rattle.windows.specs.Windows.{slotAt}
 use Rattle.shelf.specs.Shelf.{joined, Shelved}
-use Rattle.sighting.specs.Kept.{Keyed, numbers, epochBy, observations, keptOf}
+use Rattle.sighting.specs.Kept.{Keyed, numbers, epochBy, observations}
 use Rattle.sighting.specs.Work.{givenState, sightingOf, Usable}
 use Rattle.sighting.specs.declared.StateFound.{StateFound}
 use Rattle.sighting.specs.declared.Sighting.{Sighting}

@@ -6,7 +6,8 @@ ghost use Prim.Native.Nat.{_+_, _≤_, _<_};
 ghost use lib.Ieee.{Float};
 ghost use lib.ListN.{length};
 ghost use Rattle.laws.specs.Checks.{risingSeconds};
-ghost use Rattle.integrate.specs.Force.{model, frontSize};
+ghost use Rattle.lent.specs.Lent.{frontSize};
+ghost use Rattle.integrate.specs.Force.{model};
 ghost use Rattle.sighting.specs.Kept.{keyed};
 ghost use Rattle.gather.specs.Gather.{given, gatherServes, foundOf, Found, Added, Able, SoFar, Done, Gathered};
 
@@ -187,7 +188,7 @@ fn gather_all(
     requires { ⌜ gatherServes degree (now cacckeys) (now dacckeys) (now obstimes) (length (now obsvalues)) (length (now good)) (length (now outtimes)) (length (now outraws)) (length (now s)) ≡ true ⌝ }
     ensures { λ r. ⌜ Done (given (model degree (now (field .entry)) (now (times .entry)) (now (added .entry))) (now (a .entry)) (now (b .entry)) (keyed (now (cacckeys .entry)) (now (caccs .entry))) (keyed (now (dacckeys .entry)) (now (daccs .entry))) windows (now (obstimes .entry)) (now (obsvalues .entry)) (now (good .entry))) (frontSize degree) (now (s .entry)) (now (s .exit)) (now (outtimes .exit)) (now (outraws .exit)) r ⌝ }
 {
-    let base = integrate::kernel::front_size(degree);
+    let base = lent::front_size(degree);
     slices::clear(outtimes);
     slices::clear(outraws);
     sighting::open(degree, base, s);
@@ -227,7 +228,7 @@ fn serves(
     ensures { λ r. ⌜ r ≡ gatherServes degree (now (cacckeys .entry)) (now (dacckeys .entry)) (now (obstimes .entry)) values good outtimes outraws room ⌝ }
 {
     let m = obstimes.len();
-    let front = slices::both(degree <= 180, integrate::kernel::front_size(degree) <= room);
+    let front = slices::both(degree <= 180, lent::front_size(degree) <= room);
     let keys = slices::both(slices::rising_keys(cacckeys), slices::rising_keys(dacckeys));
     let lengths = slices::both(
         slices::both(values == m, good == m),

@@ -1,6 +1,6 @@
 -- Laws of digits, as the loops and tests give their premises. Assumes nothing.
 use mathlib.Core.Path.{_≡_, refl, sym, ap, _∙_}
-use mathlib.Core.Bool.{Bool, true, false, not, _&&_, false≢true, Bool·beq}
+use mathlib.Core.Bool.{Bool, true, false, not, _&&_, false≢true}
 use mathlib.Core.List.{List, [], _∷_, _++_, append-assoc, append-nil}
 use Prim.Native.Nat.{ℕ, zero, suc, _+_, _-_, _*_, _/_, _%_, _^_, _<_, _≤_}
 use native.Mathlib.Nat.{lt-of-lt-of-le, add-mul, one-mul, mul-assoc, pow-zero, pow-succ', le-refl, le-trans, mul-le-mul-left, mul-le-mul-right, mul-one, div-mul-le-self, div-lt-iff-lt-mul}
@@ -8,16 +8,18 @@ use native.Mathlib.Numerals.{add-one}
 use native.Mathlib.Omega.{arith}
 use borrow.Rule.Slice.PartMut.{midOf, postOf, putMid, post-is, mid-len}
 use borrow.Author.Tests.{ltb-true, lt-ltb, le-ltb, le-leb, lt-leb, eq-eqb, ne-eqb}
-use lib.Ieee.{Float, nan, inf, fin, binary64, up, down, isNan, ofBits, nanBits, toBits, eq, ne}
+use lib.Ieee.{Float, nan, inf, fin, binary64, isNan, ofBits, nanBits, toBits, ne}
 use lib.Ieee.Bits.{nanBits-above, nanBits-is}
 use lib.Dec.{T, ltb, eqb}
 use lib.ListN.{length, take, drop, getD, set, length-set, length-append, length-drop, drop-of-length-le}
 use lib.Seq.{take-all, length-take-le, drop-cons, getD-set-same, drop-set-lt}
 use Rattle.laws.specs.Checks.{all}
 use Rattle.laws.specs.Loops.{head-at}
+use Rattle.laws.specs.Bools.{left-true, right-true}
+use Rattle.laws.specs.SameBits.{ne-isNan}
 use Rattle.hex.specs.declared.Parsed.{Parsed}
 use Rattle.hex.specs.declared.Parsed.the-variants.{Value, Malformed}
-use Rattle.hex.specs.Digits.{digitOf, glyphOf, isDigit, valueFrom, digitsOf, valued, spelledIn, wordAt, written, unpadded, counted, decimalAt, placesIn, placesOf, Put}
+use Rattle.hex.specs.Digits.{digitOf, glyphOf, isDigit, valueFrom, digitsOf, valued, spelledIn, wordAt, written, unpadded, counted, decimalAt, placesIn, placesOf, Put, isWord}
 
 -- ---- reading
 
@@ -113,15 +115,15 @@ unfolding digitsOf
 write-done base rest zero out goal h inv = inv
 write-done base rest (suc i) out goal h inv = absurd (omega arith)
 
+-- ---- words
+
+pub word-true : (w p : Parsed) (n : ℕ) → w ≡ p → w ≡ Value n → true ≡ isWord p
+word-true w p n e h = ap isWord (sym h ∙ e)
+
+pub word-false : (w p : Parsed) → w ≡ p → w ≡ Malformed → false ≡ isWord p
+word-false w p e h = ap isWord (sym h ∙ e)
+
 -- ---- 16 hexadecimal digits fit 64 bits
-
-pub true-left : (a b : Bool) → (a && b) ≡ true → a ≡ true
-true-left true b e = refl
-true-left false b e = e
-
-pub true-right : (a b : Bool) → (a && b) ≡ true → b ≡ true
-true-right true b e = e
-true-right false b e = absurd (false≢true e)
 
 step-up : (base before d : ℕ) → d < base → before * base + d + 1 ≤ (before + 1) * base
 step-up base before d h = let e : (before + 1) * base ≡ before * base + base = add-mul before 1 base ∙ rw one-mul in rw e (omega arith)
@@ -130,8 +132,8 @@ pub bounded : (base before : ℕ) (bs : List ℕ) → all (isDigit base) bs ≡ 
 unfolding valueFrom isDigit
 bounded base before [] a = rw (pow-zero, mul-one) (omega arith)
 bounded base before (b ∷ bs) a =
-    let d : ltb (digitOf b) base ≡ true = true-left (ltb (digitOf b) base) (all (isDigit base) bs) a in
-    let r : all (isDigit base) bs ≡ true = true-right (ltb (digitOf b) base) (all (isDigit base) bs) a in
+    let d : ltb (digitOf b) base ≡ true = left-true (ltb (digitOf b) base) (all (isDigit base) bs) a in
+    let r : all (isDigit base) bs ≡ true = right-true (ltb (digitOf b) base) (all (isDigit base) bs) a in
     let k : before * base + digitOf b + 1 ≤ (before + 1) * base = step-up base before (digitOf b) (ltb-true (digitOf b) base d) in
     let g : valueFrom base (before * base + digitOf b) bs < (before * base + digitOf b + 1) * base ^ length bs = bounded base (before * base + digitOf b) bs r in
     let m : (before * base + digitOf b + 1) * base ^ length bs ≤ (before + 1) * base * base ^ length bs = mul-le-mul-right (base ^ length bs) k in
@@ -269,22 +271,12 @@ no-nan-bits b h =
     let t : nanBits binary64 b ≡ false = nanBits-above binary64 b ∙ le-ltb 9218868437227405312 (b % 9223372036854775808) h in
     rw t tt
 
-same-sign : (s : Bool) → Bool·beq s s ≡ true
-same-sign true = refl
-same-sign false = refl
-
-unequal-nan : (x : Float) → ne x x ≡ isNan x
-unfolding ne eq isNan
-unequal-nan nan = refl
-unequal-nan (inf s) = rw (same-sign s)
-unequal-nan (fin s m e) = rw (eq-eqb (m * up e * down e) (m * up e * down e) refl, same-sign s)
-
 nan-pattern : toBits binary64 nan ≡ 9221120237041090560
 unfolding toBits
 nan-pattern = refl
 
 pub pattern-nan : (x : Float) → ne x x ≡ true → 9221120237041090560 ≡ toBits binary64 x
-pattern-nan x h = let e : x ≡ nan = is-nan x (sym (unequal-nan x) ∙ h) in rw e (sym nan-pattern)
+pattern-nan x h = let e : x ≡ nan = is-nan x (sym (ne-isNan x) ∙ h) in rw e (sym nan-pattern)
 
 pub pattern-no-nan : (x : Float) → ne x x ≡ false → T (not (isNan x))
-pattern-no-nan x h = let e : isNan x ≡ false = sym (unequal-nan x) ∙ h in rw e tt
+pattern-no-nan x h = let e : isNan x ≡ false = sym (ne-isNan x) ∙ h in rw e tt

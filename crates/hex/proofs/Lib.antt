@@ -1,3 +1,4 @@
 -- What the proofs use, and what the definitions mean.
-mod Laws
+pub mod Laws
 pub mod Meaning
+pub mod Printing

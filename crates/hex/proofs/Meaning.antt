@@ -1,29 +1,24 @@
 -- What the definitions mean: printing and reading undo each other, for words and for counts, and a lower-case digit is none. Assumes nothing.
 use mathlib.Core.Path.{_≡_, refl, sym, ap, _∙_}
-use mathlib.Core.Logic.{_⊎_, inl, inr, ⊎-elim}
+use mathlib.Core.Logic.{_⊎_, ⊎-elim}
 use mathlib.Core.Bool.{Bool, true, false, not, _&&_}
 use mathlib.Core.List.{List, [], _∷_, _++_, append-assoc, append-nil}
 use Prim.Native.Nat.{ℕ, zero, suc, _+_, _-_, _*_, _/_, _%_, _^_, _<_, _≤_}
 use native.Mathlib.Nat.{le-refl, le-trans, mul-one, one-mul, mul-assoc, mul-le-mul-right, one-le-pow, pow-succ', pow-le-pow-right, le-div-iff-mul-le, mod-lt, div-add-mod', div-lt-iff-lt-mul, pow-zero, pow-suc, mod-eq-of-lt, add-zero, add-suc, suc-add, zero-add}
 use native.Mathlib.Omega.{arith}
-use borrow.Author.Tests.{ltb-true, ltb-false, lt-ltb, le-ltb, le-leb, eqb-true, eqb-false, not-true, ne-eqb}
+use borrow.Author.Tests.{ltb-true, lt-ltb, le-ltb, le-leb, eqb-true, eqb-false, not-true, ne-eqb}
 use lib.Dec.{ltb, eqb}
 use lib.Arith.{digits-div, digits-mod}
 use lib.ListN.{length, take, drop, getD}
 use lib.Seq.{take-at, drop-at, length-take-le}
 use Rattle.laws.specs.Checks.{all}
+use Rattle.laws.specs.Bools.{left-true, right-true}
+use Rattle.laws.specs.Signed.{lt-or-ge}
 use Rattle.hex.specs.declared.Parsed.the-variants.{Value}
 use Rattle.hex.specs.Digits.{digitOf, glyphOf, isDigit, valueFrom, valueOf, digitsOf, valued, wordAt, part, written, unpadded, counted, placesIn, placesOf, decimalOf}
-use Rattle.hex.proofs.Laws.{digits-length, true-left, true-right, places-small, bounded}
+use Rattle.hex.proofs.Laws.{digits-length, places-small, bounded}
 
 -- ---- one digit
-
-split-by : (a b : ℕ) (t : Bool) → ltb a b ≡ t → (a < b) ⊎ (b ≤ a)
-split-by a b true e = inl (ltb-true a b e)
-split-by a b false e = inr (ltb-false a b e)
-
-split : (a b : ℕ) → (a < b) ⊎ (b ≤ a)
-split a b = split-by a b (ltb a b) refl
 
 low-digit : (d : ℕ) → d < 10 → digitOf (48 + d) ≡ d
 unfolding digitOf
@@ -55,7 +50,7 @@ pub digit-of-glyph : (d : ℕ) → d < 16 → digitOf (glyphOf d) ≡ d
 digit-of-glyph d k = ⊎-elim
     (λ (h : d < 10). rw (glyph-low d h) (low-digit d h))
     (λ (h : 10 ≤ d). rw (glyph-high d h) (high-digit d h k))
-    (split d 10)
+    (lt-or-ge d 10)
 
 digit-49 : (b : ℕ) → 48 ≤ b → b < 58 → digitOf b ≡ b - 48
 unfolding digitOf
@@ -95,16 +90,16 @@ glyph-of-digit b h = ⊎-elim
     (λ (n : 65 ≤ b). ⊎-elim
     (λ (o : b < 71). let e : digitOf b ≡ b - 55 = digit-65 b n o in glyph-high (digitOf b) (omega arith) ∙ omega arith)
     (λ (o : 71 ≤ b). absurd (let e : digitOf b ≡ 16 = none-above b o in omega arith))
-    (split b 71))
-    (split b 65))
-    (split b 58))
-    (split b 48)
+    (lt-or-ge b 71))
+    (lt-or-ge b 65))
+    (lt-or-ge b 58))
+    (lt-or-ge b 48)
 
 -- ---- many
 
 all-append : (f : ℕ → Bool) (xs ys : List ℕ) → all f xs ≡ true → all f ys ≡ true → all f (xs ++ ys) ≡ true
 all-append f [] ys a b = b
-all-append f (x ∷ xs) ys a b = rw (true-left (f x) (all f xs) a, all-append f xs ys (true-right (f x) (all f xs) a) b)
+all-append f (x ∷ xs) ys a b = rw (left-true (f x) (all f xs) a, all-append f xs ys (right-true (f x) (all f xs) a) b)
 
 value-append : (base before : ℕ) (xs ys : List ℕ) → valueFrom base before (xs ++ ys) ≡ valueFrom base (valueFrom base before xs) ys
 unfolding valueFrom
@@ -139,8 +134,8 @@ module _ (base : ℕ) (two : 1 < base) (most : base ≤ 16) where
   unfolding digitsOf valueFrom isDigit
   digits-of-value k before [] a = rw (add-zero k) (sym (append-nil (digitsOf base k before)))
   digits-of-value k before (b ∷ bs) a =
-      let d : digitOf b < base = ltb-true (digitOf b) base (true-left (ltb (digitOf b) base) (all (isDigit base) bs) a) in
-      let r : all (isDigit base) bs ≡ true = true-right (ltb (digitOf b) base) (all (isDigit base) bs) a in
+      let d : digitOf b < base = ltb-true (digitOf b) base (left-true (ltb (digitOf b) base) (all (isDigit base) bs) a) in
+      let r : all (isDigit base) bs ≡ true = right-true (ltb (digitOf b) base) (all (isDigit base) bs) a in
       let s : k + suc (length bs) ≡ suc k + length bs = add-suc k (length bs) ∙ sym (suc-add k (length bs)) in
       let g : glyphOf (digitOf b) ≡ b = glyph-of-digit b (omega arith) in
       rw s
@@ -184,8 +179,8 @@ unfolding wordAt digitsOf
 read-word-prints text at n e =
     let p = part text at 16 in
     let r = read-if (eqb (length p) 16 && all (isDigit 16) p) (valueOf 16 p) n e in
-    let l : length p ≡ 16 = eqb-true (length p) 16 (true-left (eqb (length p) 16) (all (isDigit 16) p) (r .0)) in
-    let a : all (isDigit 16) p ≡ true = true-right (eqb (length p) 16) (all (isDigit 16) p) (r .0) in
+    let l : length p ≡ 16 = eqb-true (length p) 16 (left-true (eqb (length p) 16) (all (isDigit 16) p) (r .0)) in
+    let a : all (isDigit 16) p ≡ true = right-true (eqb (length p) 16) (all (isDigit 16) p) (r .0) in
     let d : digitsOf 16 (0 + length p) (valueOf 16 p) ≡ p = digits-of-value 16 (omega arith) (omega arith) 0 0 p a in
     sym (rw (zero-add, l, r .1) at d)
 
@@ -207,7 +202,7 @@ places-hold (suc k) n h = ⊎-elim
     (λ (l : 10 ≤ n).
     let q : n / 10 < 10 ^ suc k = div-lt-iff-lt-mul {k = 10} (omega arith) .1 (rw (pow-suc 10 (suc k)) at h) in
     rw (le-ltb n 10 l, pow-suc 10 (placesIn k (n / 10))) (div-lt-iff-lt-mul {k = 10} (omega arith) .0 (places-hold k (n / 10) q)))
-    (split n 10)
+    (lt-or-ge n 10)
 
 places-some : (k n : ℕ) → 0 < placesIn k n
 unfolding placesIn
@@ -215,7 +210,7 @@ places-some zero n = omega arith
 places-some (suc k) n = ⊎-elim
     (λ (h : n < 10). rw (lt-ltb n 10 h) (omega arith))
     (λ (h : 10 ≤ n). rw (le-ltb n 10 h) (omega arith))
-    (split n 10)
+    (lt-or-ge n 10)
 
 head-append : (xs ys : List ℕ) → 0 < length xs → getD (xs ++ ys) 0 0 ≡ getD xs 0 0
 head-append [] ys h = absurd (omega arith)
@@ -235,7 +230,7 @@ leading (suc k) n p h = ⊎-elim
     let q : n / 10 < 10 ^ suc k = div-lt-iff-lt-mul {k = 10} (omega arith) .1 (rw (pow-suc 10 (suc k)) at h) in
     let s : 0 < length (digitsOf 10 (placesIn k (n / 10)) (n / 10)) = rw (digits-length 10 (placesIn k (n / 10)) (n / 10)) (places-some k (n / 10)) in
     rw (le-ltb n 10 l, head-append (digitsOf 10 (placesIn k (n / 10)) (n / 10)) (glyphOf (n % 10) ∷ []) s) (leading k (n / 10) (omega arith) q))
-    (split n 10)
+    (lt-or-ge n 10)
 
 unpadded-if : (xs : List ℕ) → 0 < length xs → (getD xs 0 0 ≡ 48 → ⊥) → unpadded xs ≡ true
 unfolding unpadded
@@ -294,19 +289,19 @@ first-counts : (b : ℕ) → digitOf b < 10 → (b ≡ 48 → ⊥) → 0 < digit
 first-counts b h k = ⊎-elim
     (λ (l : digitOf b < 1). absurd (k (sym (glyph-of-digit b (omega arith)) ∙ glyph-low (digitOf b) h ∙ omega arith)))
     (λ (l : 1 ≤ digitOf b). l)
-    (split (digitOf b) 1)
+    (lt-or-ge (digitOf b) 1)
 
 few : (p n : ℕ) → 10 ^ p ≤ n → n < 18446744073709551616 → p ≤ 19
 few p n l h = ⊎-elim
     (λ (g : p < 20). omega arith)
     (λ (g : 20 ≤ p). absurd (let m : 10 ^ 20 ≤ 10 ^ p = pow-le-pow-right (omega arith) g in let t : 10 ^ 20 ≤ n = le-trans m l in omega arith))
-    (split p 20)
+    (lt-or-ge p 20)
 
 long-places : (b c : ℕ) (bs : List ℕ) (n : ℕ) → all (isDigit 10) (b ∷ c ∷ bs) ≡ true → (b ≡ 48 → ⊥) → valueOf 10 (b ∷ c ∷ bs) ≡ n → n < 18446744073709551616 →
     placesOf n ≡ length (b ∷ c ∷ bs)
 unfolding valueFrom isDigit
 long-places b c bs n a k v h =
-    let d : digitOf b < 10 = ltb-true (digitOf b) 10 (true-left (ltb (digitOf b) 10) (all (isDigit 10) (c ∷ bs)) a) in
+    let d : digitOf b < 10 = ltb-true (digitOf b) 10 (left-true (ltb (digitOf b) 10) (all (isDigit 10) (c ∷ bs)) a) in
     let o : 0 < digitOf b = first-counts b d k in
     let w : (0 * 10 + digitOf b) * 10 ^ length (c ∷ bs) ≤ valueOf 10 (b ∷ c ∷ bs) = value-lower 10 (0 * 10 + digitOf b) (c ∷ bs) in
     let g : 1 ≤ 0 * 10 + digitOf b = omega arith in
@@ -320,16 +315,16 @@ unfolding counted unpadded isDigit valueFrom
 read-count-prints [] n e = absurd (let z : _≡_ {A = ℕ} 0 1 = cc in omega arith)
 read-count-prints (b ∷ []) n e =
     let r = read-if (true && all (isDigit 10) (b ∷ []) && ltb (valueOf 10 (b ∷ [])) 18446744073709551616) (valueOf 10 (b ∷ [])) n e in
-    let a : all (isDigit 10) (b ∷ []) ≡ true = true-left (all (isDigit 10) (b ∷ [])) (ltb (valueOf 10 (b ∷ [])) 18446744073709551616) (r .0) in
-    let d : digitOf b < 10 = ltb-true (digitOf b) 10 (true-left (ltb (digitOf b) 10) true a) in
+    let a : all (isDigit 10) (b ∷ []) ≡ true = left-true (all (isDigit 10) (b ∷ [])) (ltb (valueOf 10 (b ∷ [])) 18446744073709551616) (r .0) in
+    let d : digitOf b < 10 = ltb-true (digitOf b) 10 (left-true (ltb (digitOf b) 10) true a) in
     let v : 0 * 10 + digitOf b ≡ n = r .1 in
     digits-printed (b ∷ []) n a (r .1) (places-small 19 n (omega arith))
 read-count-prints (b ∷ c ∷ bs) n e =
     let xs = b ∷ c ∷ bs in
     let r = read-if (not (eqb b 48) && all (isDigit 10) xs && ltb (valueOf 10 xs) 18446744073709551616) (valueOf 10 xs) n e in
-    let t : (not (eqb b 48) && all (isDigit 10) xs) ≡ true = true-left (not (eqb b 48) && all (isDigit 10) xs) (ltb (valueOf 10 xs) 18446744073709551616) (r .0) in
-    let q : ltb (valueOf 10 xs) 18446744073709551616 ≡ true = true-right (not (eqb b 48) && all (isDigit 10) xs) (ltb (valueOf 10 xs) 18446744073709551616) (r .0) in
-    let a : all (isDigit 10) xs ≡ true = true-right (not (eqb b 48)) (all (isDigit 10) xs) t in
-    let f : eqb b 48 ≡ false = not-true (eqb b 48) (true-left (not (eqb b 48)) (all (isDigit 10) xs) t) in
+    let t : (not (eqb b 48) && all (isDigit 10) xs) ≡ true = left-true (not (eqb b 48) && all (isDigit 10) xs) (ltb (valueOf 10 xs) 18446744073709551616) (r .0) in
+    let q : ltb (valueOf 10 xs) 18446744073709551616 ≡ true = right-true (not (eqb b 48) && all (isDigit 10) xs) (ltb (valueOf 10 xs) 18446744073709551616) (r .0) in
+    let a : all (isDigit 10) xs ≡ true = right-true (not (eqb b 48)) (all (isDigit 10) xs) t in
+    let f : eqb b 48 ≡ false = not-true (eqb b 48) (left-true (not (eqb b 48)) (all (isDigit 10) xs) t) in
     let s : valueOf 10 xs < 18446744073709551616 = ltb-true (valueOf 10 xs) 18446744073709551616 q in
     digits-printed xs n a (r .1) (long-places b c bs n a (eqb-false b 48 f) (r .1) (rw (r .1) at s))

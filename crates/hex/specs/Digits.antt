@@ -5,6 +5,7 @@ use mathlib.Core.Bool.{Bool, true, false, cond, not, _&&_}
 use mathlib.Core.List.{List, [], _∷_, _++_}
 use lib.Dec.{leb, ltb, eqb}
 use lib.ListN.{length, take, drop}
+use lib.Ieee.{Float, binary64, ofBits}
 use Rattle.laws.specs.Checks.{all}
 use Rattle.hex.specs.declared.Parsed.{Parsed}
 use Rattle.hex.specs.declared.Parsed.the-variants.{Value, Malformed}
@@ -50,6 +51,18 @@ part text at k = take k (drop at text)
 -- 16 hexadecimal digits from `at` on
 unfoldable pub wordAt : List ℕ → ℕ → Parsed
 wordAt text at = valued (eqb (length (part text at 16)) 16 && all (isDigit 16) (part text at 16)) (valueOf 16 (part text at 16))
+
+abbrev pub isWord : Parsed → Bool
+isWord (Value n) = true
+isWord Malformed = false
+
+abbrev pub bitsOf : Parsed → ℕ
+bitsOf (Value n) = n
+bitsOf Malformed = 0
+
+-- the double whose bits stand at `at`
+unfoldable pub floatAt : List ℕ → ℕ → Float
+floatAt text at = ofBits binary64 (bitsOf (wordAt text at))
 
 -- a list with others in the place of those from `at` on; itself where they do not fit
 unfoldable pub written : List ℕ → ℕ → List ℕ → List ℕ

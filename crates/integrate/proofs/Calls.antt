@@ -1,6 +1,6 @@
 -- Laws of the public call. Assumes nothing.
 use mathlib.Core.Path.{_≡_, refl, sym, ap, subst, _∙_}
-use mathlib.Core.Bool.{Bool, true, false, cond, _&&_}
+use mathlib.Core.Bool.{Bool, true, false, cond, _&&_, and-true}
 use mathlib.Core.List.{List, [], _∷_, _++_}
 use Prim.Native.Nat.{ℕ, zero, suc, _+_, _*_, _-_, _≤_, _<_}
 use native.Mathlib.Omega.{arith}
@@ -11,21 +11,22 @@ use lib.ListN.{length, take, drop, getD, length-append, length-drop}
 use lib.Seq.{ext-getD, getD-take, getD-drop, length-take-le, take-add, drop-drop}
 use borrow.Author.Tests.{leb-true, lt-leb, le-leb, eqb-true}
 use Rattle.laws.specs.Floats.{bits}
-use Rattle.laws.specs.Checks.{all, isTime, rising, latest}
+use Rattle.laws.specs.Checks.{all, isTime, rising, latest, degreeFine}
 use Rattle.laws.specs.Loops.{cleared}
+use Rattle.laws.specs.Bools.{both-true}
 use Rattle.slices.specs.Slices.{copied}
 use Rattle.slices.specs.Calls.{left}
 use Rattle.slices.specs.declared.Outcome.{Outcome}
 use Rattle.slices.specs.declared.Outcome.the-variants.{Accepted, Refused}
 use Rattle.slices.proofs.Calls.{call-refused, call-handed}
 use Rattle.slices.proofs.Laws.{copied-all}
-use Rattle.lent.specs.Lent.{degreeFine, fieldsFine, lengthsFit, modelFine}
-use Rattle.lent.proofs.Passed.{both-pass, all-pass, degree-passes, lengths-room}
+use Rattle.lent.specs.Lent.{fieldsFine, lengthsFit, modelFine, frontSize, Front}
+use Rattle.lent.proofs.Passed.{all-pass, degree-passes, lengths-room}
 use Rattle.integrate.specs.declared.kernel.Arc.{Arc}
 use Rattle.integrate.specs.declared.kernel.State.{State}
 use Rattle.integrate.specs.declared.kernel.Force.{Force}
 use Rattle.integrate.specs.Room.{Run, Orbit, six, flat}
-use Rattle.integrate.specs.Force.{model, frontSize, attractionOf, runOf, runFits}
+use Rattle.integrate.specs.Force.{model, attractionOf, runOf, runFits}
 use Rattle.integrate.specs.Work.{Ran, Listed}
 use Rattle.integrate.specs.Calls.{isStart, outFits, arcFits, refusal, integrateCall}
 
@@ -42,7 +43,7 @@ out-within steps out h = rw (le-leb steps 5302 h)
 pub out-passes : (steps out : ℕ) → outFits steps out ≡ true → (steps ≤ 5302) × (out ≡ 6 * (steps + 1))
 unfolding outFits
 out-passes steps out h =
-    let p = both-pass (leb steps 5302) (eqb out (6 * (steps + 1))) h in
+    let p = both-true (leb steps 5302) (eqb out (6 * (steps + 1))) h in
     (leb-true steps 5302 (p .0), eqb-true out (6 * (steps + 1)) (p .1))
 
 pub arc-is : (arc : Arc) (s n f t r : Bool) → s ≡ isStart (arc .t0) → n ≡ isTime (arc .node) → t ≡ s && n → f ≡ finite (arc .period) → r ≡ t && f → r ≡ arcFits arc
@@ -62,7 +63,7 @@ unfolding refusal
 passes N field a b ts fs arc q out scratch h =
     let p = all-pass (degreeFine N) (fieldsFine (length ts) && leb (arc .steps) 5302) (lengthsFit N (length ts) (length field) (length fs) (length a) (length b) scratch && outFits (arc .steps) out)
     (modelFine field a b ts fs && (arcFits arc && all finite q)) (rising ts) h in
-    let l = both-pass (lengthsFit N (length ts) (length field) (length fs) (length a) (length b) scratch) (outFits (arc .steps) out) (p .lengths) in
+    let l = both-true (lengthsFit N (length ts) (length field) (length fs) (length a) (length b) scratch) (outFits (arc .steps) out) (p .lengths) in
     let o = out-passes (arc .steps) out (l .1) in
     record {
       degree = degree-passes N (p .degree);
@@ -111,7 +112,7 @@ unfolding runFits
 ran-long N steps w w' run h k l r = r .flown (simp (le-leb N 180 h, le-leb steps 5302 k, le-leb (frontSize N + 31818) (length w) l)) .only .long
 
 pub states-are : (N steps base : ℕ) (w w' out out' : List Float) (run : Run) → N ≤ 180 → steps ≤ 5302 → frontSize N + 31818 ≤ length w → length out ≡ 6 * (steps + 1) →
-    Ran (runFits N steps (length w)) w w' (frontSize N) steps run → (N ≤ 180 → base ≡ frontSize N) × (base ≤ 131768) →
+    Ran (runFits N steps (length w)) w w' (frontSize N) steps run → Front N base →
     out' ≡ copied (take (base + 6 * (steps + 1) - base) (drop base w')) out → Listed run (steps + 1) out' w w'
 unfolding runFits
 states-are N steps base w w' out out' run h k l q r e c =
@@ -141,11 +142,7 @@ module _ (force : Force) (N : ℕ) (field a b ts fs : List Float) (arc : Arc) (p
     clear-is = let l = eo .long in es ∙ rw l
 
     finite-is : t ≡ all (all finite) (flat (runOf (attractionOf force (model N field ts fs) a b) arc p) (arc .steps + 1) ∷ [])
-    finite-is = et ∙ ap (all finite) (eo .states) ∙ and-true (all finite (flat (runOf (attractionOf force (model N field ts fs) a b) arc p) (arc .steps + 1)))
-      where
-        and-true : (x : Bool) → x ≡ x && true
-        and-true true = refl
-        and-true false = refl
+    finite-is = et ∙ ap (all finite) (eo .states) ∙ sym (and-true (all finite (flat (runOf (attractionOf force (model N field ts fs) a b) arc p) (arc .steps + 1))))
 
     pub integrate-accepted : t ≡ true → left Accepted (out' ∷ []) scratch'' ≡ integrateCall force N field a b ts fs arc p out scratch
     unfolding integrateCall

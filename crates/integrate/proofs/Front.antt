@@ -1,6 +1,6 @@
 -- Laws of the numbers before the states: the field at a time, written over that of another. Assumes nothing.
-use mathlib.Core.Path.{_≡_, refl, sym, ap, _∙_, subst}
-use mathlib.Core.Bool.{Bool, true, false, cond, not, _&&_}
+use mathlib.Core.Path.{_≡_, sym, ap, _∙_, subst}
+use mathlib.Core.Bool.{Bool, true, false, cond, not, _&&_, false≢true}
 use mathlib.Core.List.{List, [], _++_, append-assoc}
 use Prim.Native.Nat.{ℕ, _+_, _*_, _-_, _/_, _≤_, _<_}
 use native.Mathlib.Decide.{decLe}
@@ -11,46 +11,32 @@ use lib.ListN.{length, take, drop, getD, replicate, length-append, length-drop, 
 use lib.Seq.{take-at, drop-at, take-all, getD-append-add, getD-drop, getD-take, ext-getD, length-take-le}
 use borrow.Author.Tests.{leb-true}
 use borrow.Rule.Slice.PartMut.{midOf, putMid}
+use Rattle.lent.specs.Lent.{fieldSize, frontSize}
 use Rattle.laws.specs.Floats.{zero64}
 use Rattle.laws.specs.Loops.{cleared}
 use Rattle.laws.specs.Tables.{tri}
-use Rattle.model.specs.Field.{cosines, sines, size}
-use Rattle.model.specs.Model.{fieldAt, kindAt, weight, bracket}
+use Rattle.laws.specs.Bools.{by, left-true, right-true}
+use Rattle.model.specs.Field.{cosines, sines}
+use Rattle.model.specs.Model.{fieldAt, kindAt}
 use Rattle.model.specs.Calls.{atFits, atLeft}
-use Rattle.model.proofs.Blend.{kind-length}
+use Rattle.model.proofs.Checks.{kind-long}
 use Rattle.series.specs.Prepared.{prepared}
 use Rattle.series.proofs.Published.{prepared-length as long}
-use Rattle.integrate.specs.Force.{Model, model, frontSize, frontAt}
+use Rattle.integrate.specs.Force.{Model, model, frontAt}
 use Rattle.integrate.specs.Room.{Only}
-use Rattle.integrate.proofs.Places.{by}
-
-pub never : false ≡ true → ⊥
-never e = let z : _≡_ {A = ℕ} 0 1 = cc in omega arith
 
 -- a number that equals itself is none
 pub eq-no-nan : (x : Float) → eq x x ≡ true → T (not (isNan x))
 unfolding eq isNan
-eq-no-nan nan h = absurd (never h)
+eq-no-nan nan h = absurd (false≢true h)
 eq-no-nan (inf s) h = tt
 eq-no-nan (fin s m e) h = tt
-
-pub and-second : (a b : Bool) → a && b ≡ true → b ≡ true
-and-second true b h = h
-and-second false b h = absurd (never h)
-
-and-first : (a b : Bool) → a && b ≡ true → a ≡ true
-and-first true b h = refl
-and-first false b h = absurd (never h)
 
 -- ---- the field written over another
 
 fits-room : (N f n a o : ℕ) → atFits N f n a o ≡ true → 2 * tri (N + 1) ≤ o
 unfolding atFits
-fits-room N f n a o h = leb-true (2 * tri (N + 1)) o (and-second (leb N 180 && eqb f (size N) && leb 2 n && leb n (a / size N)) (leb (2 * tri (N + 1)) o) h)
-
-pub kind-long : (N k : ℕ) (field ts fs : List Float) (t : Float) → length (kindAt N k field ts fs t) ≡ tri (N + 1)
-unfolding kindAt
-kind-long N k field ts fs t = kind-length N k field fs (weight ts t (bracket ts t)) (bracket ts t)
+fits-room N f n a o h = leb-true (2 * tri (N + 1)) o (right-true (leb N 180 && eqb f (fieldSize N) && leb 2 n && leb n (a / fieldSize N)) (leb (2 * tri (N + 1)) o) h)
 
 field-length : (N : ℕ) (field ts fs : List Float) (t : Float) → length (fieldAt N field ts fs t) ≡ 2 * tri (N + 1)
 field-length N field ts fs t =
@@ -94,7 +80,7 @@ pub prepared-length : (N : ℕ) (w : List Float) → length (prepared N w) ≡ l
 unfolding prepared
 prepared-length N w =
     by (leb N 180 && leb (8 * tri (N + 1)) (length w))
-    (λ h. long N w (leb-true N 180 (and-first (leb N 180) _ h)) (leb-true (8 * tri (N + 1)) (length w) (and-second (leb N 180) _ h)))
+    (λ h. long N w (leb-true N 180 (left-true (leb N 180) _ h)) (leb-true (8 * tri (N + 1)) (length w) (right-true (leb N 180) _ h)))
     (λ h. simp h)
 
 pub front-length : (M : Model) (t : Float) → length (frontAt M t) ≡ frontSize (M .degree)

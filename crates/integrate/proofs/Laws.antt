@@ -1,6 +1,6 @@
 -- Laws of the force and of one step. Assumes nothing.
 use mathlib.Core.Path.{_≡_, refl, sym, ap, _∙_, subst}
-use mathlib.Core.Bool.{Bool, true, false}
+use mathlib.Core.Bool.{Bool, true, false, false≢true}
 use mathlib.Core.List.{List}
 use Prim.Native.Nat.{ℕ, _+_, _*_, _-_, _≤_, _<_}
 use native.Mathlib.Decide.{decLe}
@@ -12,9 +12,11 @@ use lib.ListN.{length, take, drop, getD, replicate}
 use borrow.Rule.Slice.PartMut.{midOf, putMid, mid-len}
 use lib.Seq.{length-take-le}
 use borrow.Author.Tests.{le-leb, lt-leb, leb-true}
+use Rattle.lent.specs.Lent.{frontSize}
 use Rattle.laws.specs.Floats.{_⊕_, _⊘_, two64, zero64}
 use Rattle.laws.specs.Loops.{cleared}
 use Rattle.laws.specs.WholeNumbers.{number}
+use Rattle.laws.specs.Times.{stepTime, step}
 use Rattle.vectors.specs.Vector.{plus}
 use Rattle.vectors.specs.declared.Vector.{Vector}
 use Rattle.forces.specs.declared.kernel.Moment.{Moment}
@@ -29,12 +31,12 @@ use Rattle.integrate.specs.declared.kernel.Force.{Force}
 use Rattle.integrate.specs.declared.kernel.Force.the-variants.{Full, J2}
 use Rattle.series.specs.Prepared.{prepared}
 use Rattle.forces.specs.Forces.{gravityWith}
-use Rattle.integrate.specs.Steps.{Acceleration, step, alongOf, weighedOf, stepOf, timeOf, stateAt}
-use Rattle.integrate.specs.Force.{Model, model, frontSize, frontAt, fullForce, attractionOf, argumentOf, accelerationOf, strengthsOf, runOf, runFits}
+use Rattle.integrate.specs.Steps.{Acceleration, alongOf, weighedOf, stepOf, stateAt}
+use Rattle.integrate.specs.Force.{Model, model, frontAt, fullForce, attractionOf, argumentOf, accelerationOf, strengthsOf, runOf, runFits}
 use Rattle.integrate.specs.Room.{stateIn, Run, Only, Holds3, Orbit}
 use Rattle.integrate.specs.Work.{Ready, ReadyFor, Refreshed, Pulled, Pushed, Moved, Stored, Advanced, Begun, Flown, Fitting, Ran}
 use Rattle.integrate.proofs.Places.{only-same, only-then, orbit-first}
-use Rattle.integrate.proofs.Front.{never, at-length, at-again, prepared-length, front-length, put-front, put-only, take-only}
+use Rattle.integrate.proofs.Front.{at-length, at-again, prepared-length, front-length, put-front, put-only, take-only}
 
 -- ---- the instant
 
@@ -184,8 +186,8 @@ ready-kept : (M : Model) (a e : ℕ) (w w' : List Float) (known : Instant) → O
 ready-kept M a e w w' known o h l r = record { front = take-only (frontSize (M .degree)) a e w w' o h l ∙ r .front; sky = r .sky }
 
 pub advanced : (force : Force) (M : Model) (w w1 w2 : List Float) (base k : ℕ) (known : Instant) (a : Acceleration) (t0 t : Float) (s : State) (r : Stepped) →
-    k < 5302 → base ≡ frontSize (M .degree) → base + 31818 ≤ length w → t ≡ timeOf t0 k → Moved force M w w1 known (stepOf a t s) r → Stored w1 w2 (base + 6 * (k + 1)) (r .state) →
-    Advanced force M w w2 base k known (stepOf a (timeOf t0 k) s) r
+    k < 5302 → base ≡ frontSize (M .degree) → base + 31818 ≤ length w → t ≡ stepTime t0 k → Moved force M w w1 known (stepOf a t s) r → Stored w1 w2 (base + 6 * (k + 1)) (r .state) →
+    Advanced force M w w2 base k known (stepOf a (stepTime t0 k) s) r
 advanced force M w w1 w2 base k known a t0 t s r lk eb lw et m p =
     record {
       ready = λ g f. ready-kept M (base + 6 * (k + 1)) (base + 6 * (k + 1) + 6) w1 w2 (r .known) (p .only) (omega arith) (omega (arith, m .only .long)) (m .ready g f);
@@ -221,12 +223,12 @@ flown-first force M w w1 w2 base known a t0 start eb lw g p = (
 )
 
 pub flown-more : (force : Force) (M : Model) (w w' : List Float) (base k : ℕ) (known : Instant) (a : Acceleration) (t0 : Float) (start s : State) (r : Stepped) →
-    s ≡ stateAt a t0 start k → Orbit w base (stateAt a t0 start) (k + 1) → ReadyFor force M w known → Advanced force M w w' base k known (stepOf a (timeOf t0 k) s) r →
+    s ≡ stateAt a t0 start k → Orbit w base (stateAt a t0 start) (k + 1) → ReadyFor force M w known → Advanced force M w w' base k known (stepOf a (stepTime t0 k) s) r →
     (r .state ≡ stateAt a t0 start (k + 1)) × Orbit w' base (stateAt a t0 start) (k + 1 + 1) × ReadyFor force M w' (r .known)
 unfolding stateAt
 flown-more force M w w' base k known a t0 start s r es o g h =
     let run : Run = stateAt a t0 start in
-    let e : r .state ≡ stateAt a t0 start (k + 1) = h .state g ∙ ap (stepOf a (timeOf t0 k)) es ∙ ap (stateAt a t0 start) (sym (add-one k)) in (
+    let e : r .state ≡ stateAt a t0 start (k + 1) = h .state g ∙ ap (stepOf a (stepTime t0 k)) es ∙ ap (stateAt a t0 start) (sym (add-one k)) in (
       e,
       record {
         position = λ i l. elim (decLe (k + 1) i) [
@@ -245,11 +247,11 @@ flown-more force M w w' base k known a t0 start s r es o g h =
 
 pub fits-degree : (N steps room : ℕ) → 180 < N → Fitting N steps room false
 unfolding runFits
-fits-degree N steps room h = record { says = simp (lt-leb N 180 h); degree = λ e. absurd (never e); few = λ e. absurd (never e); enough = λ e. absurd (never e) }
+fits-degree N steps room h = record { says = simp (lt-leb N 180 h); degree = λ e. absurd (false≢true e); few = λ e. absurd (false≢true e); enough = λ e. absurd (false≢true e) }
 
 pub fits-steps : (N steps room : ℕ) → N ≤ 180 → 5302 < steps → Fitting N steps room false
 unfolding runFits
-fits-steps N steps room g h = record { says = simp (le-leb N 180 g, lt-leb steps 5302 h); degree = λ e. absurd (never e); few = λ e. absurd (never e); enough = λ e. absurd (never e) }
+fits-steps N steps room g h = record { says = simp (le-leb N 180 g, lt-leb steps 5302 h); degree = λ e. absurd (false≢true e); few = λ e. absurd (false≢true e); enough = λ e. absurd (false≢true e) }
 
 pub fits-room : (N steps room base : ℕ) → N ≤ 180 → steps ≤ 5302 → base ≡ frontSize N → Fitting N steps room (leb (base + 31818) room)
 unfolding runFits
@@ -269,8 +271,8 @@ module _ (force : Force) (N : ℕ) (field ts fs a b p w w' : List Float) (arc : 
     flown = λ _. subst (λ (x : List Float). Flown w w' (frontSize N) (arc .steps) (stateAt (accelerationOf (attractionOf force (model N field ts fs) a b) arc x) (arc .t0) (stateIn p 0))) ee
         (subst (λ (x : State). Flown w w' (frontSize N) (arc .steps) (stateAt (accelerationOf (attractionOf force (model N field ts fs) a b) arc e) (arc .t0) x)) es
         (subst (λ (n : ℕ). Flown w w' n (arc .steps) (stateAt (accelerationOf (attractionOf force (model N field ts fs) a b) arc e) (arc .t0) s)) eb f));
-    kept = λ q. absurd (never (sym q ∙ sym (g .says) ∙ h));
+    kept = λ q. absurd (false≢true (sym q ∙ sym (g .says) ∙ h));
   }
 
   pub not-ran : t ≡ false → Ran (runFits N (arc .steps) (length w)) w w (frontSize N) (arc .steps) (runOf (attractionOf force (model N field ts fs) a b) arc p)
-  not-ran h = record { flown = λ q. absurd (never (sym h ∙ g .says ∙ q)); kept = λ _. refl }
+  not-ran h = record { flown = λ q. absurd (false≢true (sym h ∙ g .says ∙ q)); kept = λ _. refl }

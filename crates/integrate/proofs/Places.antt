@@ -1,6 +1,6 @@
 -- Laws of what stands where in a list of numbers. Assumes nothing.
 use mathlib.Core.Path.{_≡_, refl, sym, ap, _∙_, subst}
-use mathlib.Core.Bool.{Bool, true, false, cond}
+use mathlib.Core.Bool.{cond}
 use mathlib.Core.List.{List, [], _∷_, _++_}
 use Prim.Native.Nat.{ℕ, zero, suc, _+_, _*_, _-_, _/_, _%_, _≤_, _<_}
 use native.Mathlib.Omega.{arith}
@@ -9,16 +9,13 @@ use lib.Ieee.{Float, nan}
 use lib.ListN.{length, getD, set, length-set, List·getD-eq-default}
 use lib.Seq.{getD-set-same, getD-set-other}
 use borrow.Author.Tests.{eqb-true, eqb-false}
+use Rattle.laws.specs.Bools.{by}
 use Rattle.vectors.specs.declared.Vector.{Vector}
 use Rattle.integrate.specs.declared.kernel.State.{State}
 use Rattle.integrate.specs.Room.{Run, stateIn, Only, Holds3, Orbit}
 use Rattle.integrate.specs.Work.{Placed, Stored}
 
 -- a case on a test, with the equation in each case
-pub by : {P : Type 0} (b : Bool) → (b ≡ true → P) → (b ≡ false → P) → P
-by true f g = f refl
-by false f g = g refl
-
 pub only-same : (a e : ℕ) (s : List Float) → Only a e s s
 only-same a e s = record { long = refl; same = λ k h. refl }
 

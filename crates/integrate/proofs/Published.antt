@@ -12,7 +12,8 @@ use lib.Ieee.{Float}
 use lib.Ieee.Scale.{finite}
 use lib.ListN.{length, replicate, length-replicate}
 use Rattle.laws.specs.Floats.{zero64}
-use Rattle.laws.specs.Checks.{all, rising}
+use Rattle.laws.specs.Bools.{both-true}
+use Rattle.laws.specs.Checks.{all, rising, degreeFine}
 use Rattle.laws.specs.Tables.{tri, rows}
 use Rattle.vectors.specs.Vector.{plus}
 use Rattle.vectors.specs.declared.Vector.{Vector}
@@ -22,24 +23,25 @@ use Rattle.series.proofs.Published.{prepared-prepared}
 use Rattle.tide.specs.Gravity.{gravityOf}
 use Rattle.forces.specs.Forces.{gravityWith, tidesOf}
 use Rattle.forces.proofs.Published.{front-published}
-use Rattle.model.specs.Field.{gm, radius, cosines, sines, size}
+use Rattle.model.specs.Field.{gm, radius, cosines, sines}
 use Rattle.model.specs.Model.{kindAt}
 use Rattle.model.specs.Calls.{atFits}
-use Rattle.lent.specs.Lent.{degreeFine, fieldsFine, lengthsFit, modelFine}
-use Rattle.lent.proofs.Passed.{both-pass, all-pass, degree-passes, lengths-pass}
+use Rattle.model.proofs.Checks.{kind-long}
+use Rattle.lent.specs.Lent.{fieldSize, frontSize, fieldsFine, lengthsFit, modelFine}
+use Rattle.lent.proofs.Passed.{all-pass, degree-passes, lengths-pass}
 use Rattle.integrate.specs.declared.kernel.Arc.{Arc}
 use Rattle.integrate.specs.declared.kernel.Force.the-variants.{Full}
 use Rattle.integrate.specs.Room.{Run}
-use Rattle.integrate.specs.Force.{Model, model, frontSize, frontAt, gravityAt, fullForce, attractionOf, runOf}
+use Rattle.integrate.specs.Force.{Model, model, frontAt, gravityAt, fullForce, attractionOf, runOf}
 use Rattle.integrate.specs.Calls.{outFits, arcFits, refusal}
-use Rattle.integrate.proofs.Front.{kind-long, fitting, prepared-length}
+use Rattle.integrate.proofs.Front.{fitting, prepared-length}
 
 -- the lengths of an accepted model: a degree up to 180, two or more added fields, each of the static field's length
 pub record Sized (M : Model) : Type 0 where
   pub degree : M .degree ≤ 180
-  pub static : length (M .field) ≡ size (M .degree)
+  pub static : length (M .field) ≡ fieldSize (M .degree)
   pub fields : 2 ≤ length (M .times)
-  pub added : length (M .added) ≡ length (M .times) * size (M .degree)
+  pub added : length (M .added) ≡ length (M .times) * fieldSize (M .degree)
 
 -- acceptance by `integrate` gives them
 pub accepted-sized : (N : ℕ) (field a b ts fs : List Float) (arc : Arc) (p : List Float) (out scratch : ℕ) → refusal N field a b ts fs arc p out scratch ≡ 0 → Sized (model N field ts fs)
@@ -47,9 +49,9 @@ unfolding refusal
 accepted-sized N field a b ts fs arc q out scratch h =
     let p = all-pass (degreeFine N) (fieldsFine (length ts) && leb (arc .steps) 5302) (lengthsFit N (length ts) (length field) (length fs) (length a) (length b) scratch && outFits (arc .steps) out)
     (modelFine field a b ts fs && (arcFits arc && all finite q)) (rising ts) h in
-    let l = lengths-pass N (length ts) (length field) (length fs) (length a) (length b) scratch (both-pass (lengthsFit N (length ts) (length field) (length fs) (length a) (length b) scratch) (outFits (arc .steps) out) (p .lengths) .0) in
-    let n = both-pass (fieldsFine (length ts)) (leb (arc .steps) 5302) (p .counts) .0 in
-    record { degree = degree-passes N (p .degree); static = l .static; fields = leb-true 2 (length ts) (both-pass (leb 2 (length ts)) (leb (length ts) 32) n .0); added = l .added }
+    let l = lengths-pass N (length ts) (length field) (length fs) (length a) (length b) scratch (both-true (lengthsFit N (length ts) (length field) (length fs) (length a) (length b) scratch) (outFits (arc .steps) out) (p .lengths) .0) in
+    let n = both-true (fieldsFine (length ts)) (leb (arc .steps) 5302) (p .counts) .0 in
+    record { degree = degree-passes N (p .degree); static = l .static; fields = leb-true 2 (length ts) (both-true (leb 2 (length ts)) (leb (length ts) 32) n .0); added = l .added }
 
 -- the gravity of the published series of the field at t: the static field and the added ones, blended
 abbrev pub publishedAt : Model → Float → Vector → Vector
@@ -65,10 +67,10 @@ module _ (M : Model) (sized : Sized M) where
       let N : ℕ = M .degree in
       let n : ℕ = length (M .times) in
       let w : ℕ = length (prepared N (replicate (frontSize N) zero64)) in
-      let pos : 0 < size N = omega arith in
-      let q : length (M .added) / size N ≡ n = ap (λ (i : ℕ). i / size N) (sized .added) ∙ mul-div-cancel n pos in
+      let pos : 0 < fieldSize N = omega arith in
+      let q : length (M .added) / fieldSize N ≡ n = ap (λ (i : ℕ). i / fieldSize N) (sized .added) ∙ mul-div-cancel n pos in
       let room : 2 * tri (N + 1) ≤ w = omega (arith, prepared-length N (replicate (frontSize N) zero64), length-replicate (frontSize N) zero64) in
-      rw (le-leb N 180 (sized .degree), eq-eqb (length (M .field)) (size N) (sized .static), le-leb 2 n (sized .fields), le-leb n (length (M .added) / size N) (omega (arith, q)), le-leb (2 * tri (N + 1)) w room) refl
+      rw (le-leb N 180 (sized .degree), eq-eqb (length (M .field)) (fieldSize N) (sized .static), le-leb 2 n (sized .fields), le-leb n (length (M .added) / fieldSize N) (omega (arith, q)), le-leb (2 * tri (N + 1)) w room) refl
 
   -- the gravity that a run and an epoch take
   pub gravity-published : (t : Float) (x : Vector) → gravityAt M (rows aOf (M .degree + 1)) (rows bOf (M .degree + 1)) t x ≡ publishedAt M t x

@@ -7,9 +7,9 @@ use lib.Dec.{leb, eqb}
 use lib.Ieee.{Float, le, neg}
 use lib.Ieee.Scale.{finite}
 use lib.ListN.{length}
-use Rattle.laws.specs.Checks.{all, isTime, rising, latest}
+use Rattle.laws.specs.Checks.{all, isTime, rising, latest, degreeFine}
 use Rattle.slices.specs.Calls.{Left, settled}
-use Rattle.lent.specs.Lent.{firstOf, degreeFine, fieldsFine, lengthsFit, modelFine}
+use Rattle.lent.specs.Lent.{firstOf, fieldsFine, lengthsFit, modelFine}
 use Rattle.slices.specs.declared.Outcome.{Outcome}
 use Rattle.slices.specs.declared.Outcome.the-variants.{Accepted, Refused}
 use Rattle.integrate.specs.declared.kernel.Arc.{Arc}

@@ -1,14 +1,15 @@
 -- The force that a run integrates (document 01, module 4; the closure of the source's `fit_orbit`): the attraction, by the full model with tides or by point mass and J₂,
 -- then the fictitious and the empirical accelerations. Assumes nothing.
-use Prim.Native.Nat.{ℕ, _+_, _*_}
+use Prim.Native.Nat.{ℕ, _+_}
 use mathlib.Core.Bool.{Bool, _&&_}
 use mathlib.Core.List.{List}
 use lib.Dec.{leb}
 use lib.Ieee.{Float, nan}
 use lib.ListN.{getD, replicate}
-use Rattle.laws.specs.Floats.{_⊖_, _⊗_, _⊘_, zero64, two64}
-use Rattle.laws.specs.Tables.{tri, row}
-use Rattle.numbers.specs.Numbers.{π}
+use Rattle.lent.specs.Lent.{frontSize}
+use Rattle.laws.specs.Floats.{zero64}
+use Rattle.laws.specs.Tables.{row}
+use Rattle.numbers.specs.Constants.{angleFrom}
 use Rattle.vectors.specs.Vector.{plus}
 use Rattle.vectors.specs.declared.Vector.{Vector}
 use Rattle.forces.specs.Forces.{j2Of, fictitiousOf, empiricalOf, tidesOf}
@@ -32,11 +33,7 @@ pub record Model : Type 0 where
 abbrev pub model : ℕ → List Float → List Float → List Float → Model
 model N field times added = record { degree = N; field = field; times = times; added = added }
 
--- the numbers before the states of a run: the field at one time, and what the degree alone gives
-abbrev pub frontSize : ℕ → ℕ
-frontSize N = 8 * tri (N + 1)
-
--- these numbers at time t, covered or not
+-- the numbers before the states of a run at time t, covered or not
 unfoldable pub frontAt : Model → Float → List Float
 frontAt M t = atLeft (M .degree) (M .field) (M .times) (M .added) t (prepared (M .degree) (replicate (frontSize (M .degree)) zero64))
 
@@ -54,7 +51,7 @@ attractionOf J2 M a b t x = j2Of x
 
 -- the angle from the node at a time
 unfoldable pub argumentOf : Arc → Float → Float
-argumentOf arc t = two64 ⊗ π ⊗ (t ⊖ arc .node) ⊘ arc .period
+argumentOf arc t = angleFrom (arc .node) (arc .period) t
 
 -- with nine empirical parameters e
 unfoldable pub accelerationOf : (Float → Vector → Vector) → Arc → List Float → Acceleration

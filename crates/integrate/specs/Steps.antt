@@ -1,18 +1,15 @@
 -- The classical Runge–Kutta rule for ẍ = a(t, x, v) in steps of 2 s (document 01, module 4; the source's `integrate`), and the state after k steps. Assumes nothing.
 use Prim.Native.Nat.{ℕ, zero, suc}
 use lib.Ieee.{Float}
-use Rattle.laws.specs.Floats.{_⊕_, _⊗_, _⊘_, two64}
+use Rattle.laws.specs.Floats.{_⊕_, _⊘_, two64}
 use Rattle.laws.specs.WholeNumbers.{number}
+use Rattle.laws.specs.Times.{step, stepTime}
 use Rattle.vectors.specs.Vector.{plus, times}
 use Rattle.vectors.specs.declared.Vector.{Vector}
 use Rattle.integrate.specs.declared.kernel.State.{State}
 
 abbrev pub Acceleration : Type 0
 Acceleration = Float → Vector → Vector → Vector
-
--- the length of a step
-abbrev pub step : Float
-step = two64
 
 -- a + b·k
 unfoldable pub alongOf : Vector → Vector → Float → Vector
@@ -43,11 +40,7 @@ stepOf a t s =
       velocity = alongOf v (weighedOf a1 a2 a3 a4) (h ⊘ number 6);
     }
 
--- the time of step k
-unfoldable pub timeOf : Float → ℕ → Float
-timeOf t0 k = t0 ⊕ number k ⊗ step
-
 -- the state after k steps from s at t0
 unfoldable pub stateAt : Acceleration → Float → State → ℕ → State
 stateAt a t0 s zero = s
-stateAt a t0 s (suc k) = stepOf a (timeOf t0 k) (stateAt a t0 s k)
+stateAt a t0 s (suc k) = stepOf a (stepTime t0 k) (stateAt a t0 s k)

@@ -5,6 +5,7 @@ use mathlib.Core.List.{List}
 use Prim.Native.Nat.{ℕ, _+_, _*_, _≤_, _<_}
 use lib.Ieee.{Float, nan}
 use lib.ListN.{length, take, getD}
+use Rattle.lent.specs.Lent.{frontSize}
 use Rattle.vectors.specs.declared.Vector.{Vector}
 use Rattle.forces.specs.Forces.{momentOf}
 use Rattle.integrate.specs.declared.kernel.State.{State}
@@ -14,7 +15,7 @@ use Rattle.integrate.specs.declared.kernel.Stepped.{Stepped}
 use Rattle.integrate.specs.declared.kernel.Force.{Force}
 use Rattle.integrate.specs.declared.kernel.Force.the-variants.{Full}
 use Rattle.integrate.specs.Steps.{Acceleration, stepOf}
-use Rattle.integrate.specs.Force.{Model, frontSize, frontAt, fullForce, runFits}
+use Rattle.integrate.specs.Force.{Model, frontAt, fullForce, runFits}
 use Rattle.integrate.specs.Room.{Run, Only, Holds3, Orbit, flat}
 
 -- the numbers before the states are those of an instant, and so are Sun, Moon and tide

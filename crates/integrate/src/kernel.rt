@@ -4,13 +4,15 @@ ghost use mathlib.Core.Bool.{true};
 ghost use Prim.Native.Nat.{ℕ, _+_, _*_, _≤_, _<_};
 ghost use lib.ListN.{length, getD};
 ghost use lib.Ieee.{nan};
+ghost use Rattle.laws.specs.Times.{stepTime};
 ghost use Rattle.laws.specs.Loops.{cleared};
 ghost use Rattle.laws.specs.Tables.{tri};
 ghost use Rattle.forces.specs.Forces.{momentOf};
 ghost use Rattle.model.specs.Calls.{atLeft};
 ghost use Rattle.series.specs.Prepared.{prepared};
-ghost use Rattle.integrate.specs.Steps.{alongOf, weighedOf, stepOf, timeOf, stateAt};
-ghost use Rattle.integrate.specs.Force.{model, frontSize, attractionOf, argumentOf, accelerationOf, strengthsOf, runOf, runFits};
+ghost use Rattle.integrate.specs.Steps.{alongOf, weighedOf, stepOf, stateAt};
+ghost use Rattle.lent.specs.Lent.{frontSize};
+ghost use Rattle.integrate.specs.Force.{model, attractionOf, argumentOf, accelerationOf, strengthsOf, runOf, runFits};
 ghost use Rattle.integrate.specs.Room.{stateIn, Only};
 ghost use Rattle.integrate.specs.Work.{Ready, Refreshed, Pulled, Pushed, Moved, Placed, Stored, Advanced, Begun, Flown, Fitting, Ran};
 
@@ -368,7 +370,7 @@ fn step(
 
 // The time of step k.
 pub fn time(t0: f64, k: usize) -> f64
-    ensures { λ r. ⌜ r ≡ timeOf t0 k ⌝ }
+    ensures { λ r. ⌜ r ≡ stepTime t0 k ⌝ }
 {
     t0 + std::num::nearest_u64_to_f64(k as u64) * STEP
 }
@@ -443,7 +445,7 @@ fn advance(
     w: &mut [f64],
 ) -> Stepped
     requires { ⌜ (k < 5302) × (base ≡ frontSize degree) × (base ≤ 131768) × (base + 31818 ≤ length (now w)) ⌝ }
-    ensures { λ r. ⌜ Advanced force (model degree (now (field .entry)) (now (times .entry)) (now (added .entry))) (now (w .entry)) (now (w .exit)) base k known (stepOf (accelerationOf (attractionOf force (model degree (now (field .entry)) (now (times .entry)) (now (added .entry))) (now (a .entry)) (now (b .entry))) arc e) (timeOf (arc .t0) k) s) r ⌝ }
+    ensures { λ r. ⌜ Advanced force (model degree (now (field .entry)) (now (times .entry)) (now (added .entry))) (now (w .entry)) (now (w .exit)) base k known (stepOf (accelerationOf (attractionOf force (model degree (now (field .entry)) (now (times .entry)) (now (added .entry))) (now (a .entry)) (now (b .entry))) arc e) (stepTime (arc .t0) k) s) r ⌝ }
 {
     let t = time(arc.t0, k);
     let next = step(
@@ -539,16 +541,6 @@ fn base_of(degree: usize) -> usize
 {
     let n = degree + 1;
     8 * (n * (n + 1) / 2)
-}
-
-// The same for any degree up to 180.
-pub fn front_size(degree: usize) -> usize
-    ensures { λ r. ⌜ (degree ≤ 180 → r ≡ frontSize degree) × (r ≤ 131768) ⌝ }
-{
-    if degree > 180 {
-        return 0;
-    }
-    base_of(degree)
 }
 
 // The nine empirical parameters behind a state's six numbers.

@@ -7,7 +7,8 @@ ghost use Prim.Native.Nat.{_+_, _*_, _≤_};
 ghost use lib.ListN.{length};
 ghost use Rattle.slices.specs.Calls.{left};
 ghost use Rattle.integrate.specs.Work.{Listed};
-ghost use Rattle.integrate.specs.Force.{model, frontSize, attractionOf, runOf};
+ghost use Rattle.lent.specs.Lent.{frontSize};
+ghost use Rattle.integrate.specs.Force.{model, attractionOf, runOf};
 ghost use Rattle.integrate.specs.Calls.{isStart, outFits, arcFits, refusal as refusalOf, integrateCall};
 
 // From −2^31 to 2^31, both included.
@@ -94,7 +95,7 @@ fn states_of(
     ensures { λ _. ⌜ Listed (runOf (attractionOf force (model degree (now (field .entry)) (now (times .entry)) (now (added .entry))) (now (a .entry)) (now (b .entry))) arc p) (arc .steps + 1) (now (out .exit)) (now (scratch .entry)) (now (scratch .exit)) ⌝ }
 {
     kernel::run(force, degree, field, a, b, times, added, arc, p, scratch);
-    let base = kernel::front_size(degree);
+    let base = lent::front_size(degree);
     let end = base + 6 * (arc.steps + 1);
     slices::copy(&scratch[base..end], out);
 }

@@ -2,7 +2,8 @@
 use mathlib.Core.Path.{_≡_, refl, subst}
 use mathlib.Core.Bool.{Bool, true, false, _&&_}
 use mathlib.Core.List.{List, [], _∷_}
-use lib.Dec.{T, ltb, ltb→lt, lt→ltb}
+use Prim.Native.Nat.{ℕ}
+use lib.Dec.{T, leb, ltb, ltb→lt, lt→ltb}
 use lib.IntN.{ℤ, pos, negsuc}
 use lib.Signed.{ltZ, leZ}
 use native.Mathlib.Omega.{arith}
@@ -31,6 +32,10 @@ isTime t = le zero64 t && le t latest
 -- a key: a whole second from 0 to 2^31
 unfoldable pub isKey : ℤ → Bool
 isKey k = leZ (pos 0) k && leZ k (pos 2147483648)
+
+-- a degree of a field: from 2 to 180
+abbrev pub degreeFine : ℕ → Bool
+degreeFine N = leb 2 N && leb N 180
 
 -- each below the next
 abbrev pub ascending {ℓ} : {A : Type ℓ} → (A → A → Bool) → List A → Bool

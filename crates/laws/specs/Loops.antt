@@ -1,14 +1,14 @@
 -- What one turn of a loop does to a list: filled, cleared or tested from the front. Stated as invariants, tests and `ensures` give them. Assumes nothing.
 use mathlib.Core.Path.{_≡_, refl, sym, ap, _∙_}
-use mathlib.Core.List.{List, [], _∷_, _++_, append-nil}
+use mathlib.Core.List.{List, [], _∷_, _++_, append-nil, append-assoc}
 use mathlib.Core.Bool.{Bool, true, false, not, _&&_}
 use Prim.Native.Nat.{ℕ, suc, _+_, _-_, _<_, _≤_}
 use native.Mathlib.Numerals.{add-one}
 use native.Mathlib.Nat.{le-refl}
 use native.Mathlib.Omega.{arith}
 use borrow.Author.Tests.{not-true, not-false}
-use lib.ListN.{length, take, drop, getD, set, replicate, drop-of-length-le}
-use lib.Seq.{take-suc-set, drop-set-lt, drop-cons, append-snoc, take-all}
+use lib.ListN.{length, take, drop, getD, set, replicate, drop-of-length-le, length-append, length-replicate}
+use lib.Seq.{take-suc-set, drop-set-lt, drop-cons, append-snoc, take-all, take-at, set-at}
 use lib.Ieee.{Float}
 use Rattle.laws.specs.Floats.{zero64}
 use Rattle.laws.specs.Checks.{all, ascending}
@@ -16,6 +16,36 @@ use Rattle.laws.specs.Checks.{all, ascending}
 -- +0.0 in each place of a list
 abbrev pub cleared : List Float → List Float
 cleared x = replicate (length x) zero64
+
+pub same-cleared : (x y : List Float) → length x ≡ length y → cleared x ≡ cleared y
+same-cleared x y e = ap (λ (n : ℕ). replicate n zero64) e
+
+-- ---- values at the front of m places, z in the rest
+
+replicate-step {ℓ} : {A : Type ℓ} (n i : ℕ) (a : A) → i < n → replicate (n - i) a ≡ a ∷ replicate (n - (i + 1)) a
+replicate-step n i a h = let e : n - i ≡ suc (n - (i + 1)) = omega arith in rw e
+
+replicate-none {ℓ} : {A : Type ℓ} (n i : ℕ) (a : A) → n ≤ i → replicate (n - i) a ≡ []
+replicate-none n i a h = let e : n - i ≡ 0 = omega arith in ap (λ (k : ℕ). replicate k a) e
+
+abbrev pub filledUp {ℓ} : {A : Type ℓ} → A → ℕ → List A → List A
+filledUp z m xs = xs ++ replicate (m - length xs) z
+
+pub filled-length {ℓ} : {A : Type ℓ} (z : A) (m : ℕ) (xs : List A) → length xs ≤ m → length (filledUp z m xs) ≡ m
+filled-length z m xs h = length-append xs (replicate (m - length xs) z) ∙ omega (arith, length-replicate (m - length xs) z)
+
+pub filled-front {ℓ} : {A : Type ℓ} (z : A) (m n : ℕ) (xs : List A) → length xs ≡ n → take n (filledUp z m xs) ≡ xs
+filled-front z m n xs e = take-at xs (replicate (m - length xs) z) n e
+
+pub filled-none {ℓ} : {A : Type ℓ} (z : A) (n m : ℕ) → n ≡ m → replicate n z ≡ filledUp z m []
+filled-none z n m e = let g : n ≡ m - 0 = omega arith in ap (λ (k : ℕ). replicate k z) g
+
+-- one more at the place after the last
+pub filled-set {ℓ} : {A : Type ℓ} (z v : A) (m n : ℕ) (xs : List A) → n ≡ length xs → n < m → set (filledUp z m xs) n v ≡ filledUp z m (xs ++ (v ∷ []))
+filled-set {A = A} z v m n xs e h =
+    let g : m - length (xs ++ (v ∷ [])) ≡ m - (length xs + 1) = omega (arith, length-append xs (v ∷ [])) in
+    ap (λ (l : List A). set (xs ++ l) n v) (replicate-step m (length xs) z (omega arith)) ∙ set-at xs z (replicate (m - (length xs + 1)) z) v n (sym e)
+    ∙ sym (append-assoc xs (v ∷ []) (replicate (m - (length xs + 1)) z)) ∙ ap (λ (k : ℕ). (xs ++ (v ∷ [])) ++ replicate k z) (sym g)
 
 -- ---- a loop that goes up
 
@@ -50,18 +80,12 @@ copy-turn d x out out₀ k l l₀ h inv = fill-turn out (drop k x) (drop (k + 1)
 pub copy-done {ℓ} : {A : Type ℓ} (x out out₀ : List A) (k : ℕ) → length out ≡ length out₀ → length out₀ ≡ length x → length x ≤ k → take k out ++ drop k x ≡ x → out ≡ x
 copy-done x out out₀ k l l₀ h inv = fill-done out (drop k x) x k (omega arith) (drop-of-length-le x h) inv
 
-replicate-step {ℓ} : {A : Type ℓ} (n i : ℕ) (a : A) → i < n → replicate (n - i) a ≡ a ∷ replicate (n - (i + 1)) a
-replicate-step n i a h = let e : n - i ≡ suc (n - (i + 1)) = omega arith in rw e
+pub clear-turn {ℓ} : {A : Type ℓ} (z : A) (a a₀ : List A) (i : ℕ) → length a ≡ length a₀ → i < length a → take i a ++ replicate (length a₀ - i) z ≡ replicate (length a₀) z →
+    take (i + 1) (set a i z) ++ replicate (length a₀ - (i + 1)) z ≡ replicate (length a₀) z
+clear-turn z a a₀ i l h inv = fill-turn a _ (replicate (length a₀ - (i + 1)) z) _ i z h inv (replicate-step (length a₀) i z (omega arith))
 
-replicate-none {ℓ} : {A : Type ℓ} (n i : ℕ) (a : A) → n ≤ i → replicate (n - i) a ≡ []
-replicate-none n i a h = let e : n - i ≡ 0 = omega arith in ap (λ (k : ℕ). replicate k a) e
-
-pub clear-turn : (a a₀ : List Float) (i : ℕ) → length a ≡ length a₀ → i < length a → take i a ++ replicate (length a₀ - i) zero64 ≡ cleared a₀ →
-    take (i + 1) (set a i zero64) ++ replicate (length a₀ - (i + 1)) zero64 ≡ cleared a₀
-clear-turn a a₀ i l h inv = fill-turn a _ (replicate (length a₀ - (i + 1)) zero64) _ i zero64 h inv (replicate-step (length a₀) i zero64 (omega arith))
-
-pub clear-done : (a a₀ : List Float) (i : ℕ) → length a ≡ length a₀ → length a ≤ i → take i a ++ replicate (length a₀ - i) zero64 ≡ cleared a₀ → a ≡ cleared a₀
-clear-done a a₀ i l h inv = fill-done a _ _ i h (replicate-none (length a₀) i zero64 (omega arith)) inv
+pub clear-done {ℓ} : {A : Type ℓ} (z : A) (a a₀ : List A) (i : ℕ) → length a ≡ length a₀ → length a ≤ i → take i a ++ replicate (length a₀ - i) z ≡ replicate (length a₀) z → a ≡ replicate (length a₀) z
+clear-done z a a₀ i l h inv = fill-done a _ _ i h (replicate-none (length a₀) i z (omega arith)) inv
 
 -- ---- testing each element
 

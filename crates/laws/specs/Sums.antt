@@ -21,7 +21,7 @@ unfolding sumTo
 sum-more f n s v p q = ap₂ (λ (a b : Float). a ⊕ b) p q ∙ ap (sumTo f) (sym (add-one n))
 
 -- equal terms have equal sums
-pub sum-same : (f g : ℕ → Float) (n : ℕ) → ((i : ℕ) → i < n → f i ≡ g i) → sumTo f n ≡ sumTo g n
+pub sum-same : {f g : ℕ → Float} (n : ℕ) → ((i : ℕ) → i < n → f i ≡ g i) → sumTo f n ≡ sumTo g n
 unfolding sumTo
-sum-same f g zero h = refl
-sum-same f g (suc n) h = ap₂ (λ (a b : Float). a ⊕ b) (sum-same f g n (λ i l. h i (omega arith))) (h n (omega arith))
+sum-same zero h = refl
+sum-same (suc n) h = ap₂ (λ (a b : Float). a ⊕ b) (sum-same n (λ i l. h i (omega arith))) (h n (omega arith))

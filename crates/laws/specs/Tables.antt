@@ -1,8 +1,8 @@
 -- Triangular tables as lists: the value at degree n and order m ≤ n stands at n(n + 1)/2 + m. Assumes nothing.
 use mathlib.Core.Path.{_≡_, refl, sym, ap, ap₂, _∙_}
-use mathlib.Core.List.{List, [], _∷_, _++_, append-assoc}
+use mathlib.Core.List.{List, [], _∷_, _++_, append-assoc, append-nil}
 use Prim.Native.Nat.{ℕ, zero, suc, _+_, _-_, _*_, _/_, _<_, _≤_}
-use native.Mathlib.Nat.{mul-add, mul-comm, mul-le-mul, add-assoc}
+use native.Mathlib.Nat.{add-zero, mul-add, mul-comm, mul-le-mul, add-assoc}
 use native.Mathlib.Numerals.{add-one}
 use native.Mathlib.Decide.{decLe}
 use native.Mathlib.Omega.{arith}
@@ -18,7 +18,7 @@ unfoldable pub tri : ℕ → ℕ
 tri n = n * (n + 1) / 2
 
 -- the first k values of f
-unfoldable pub row : (ℕ → Float) → ℕ → List Float
+unfoldable pub row : {A : Type 0} → (ℕ → A) → ℕ → List A
 row f zero = []
 row f (suc k) = row f k ++ (f k ∷ [])
 
@@ -46,7 +46,7 @@ square-small n h = mul-le-mul {n₂ = 181} {m₂ = 182} h (omega arith)
 
 -- ---- lengths and places
 
-pub row-length : (f : ℕ → Float) (k : ℕ) → length (row f k) ≡ k
+pub row-length : {A : Type 0} (f : ℕ → A) (k : ℕ) → length (row f k) ≡ k
 unfolding row
 row-length f zero = refl
 row-length f (suc k) = length-append (row f k) (f k ∷ []) ∙ ap (λ (n : ℕ). n + 1) (row-length f k) ∙ add-one k
@@ -84,12 +84,17 @@ rows-at f (suc k) n m h l =
     ]
 
 -- tables of equal values are equal
-pub row-same : (f g : ℕ → Float) (k : ℕ) → ((m : ℕ) → m < k → f m ≡ g m) → row f k ≡ row g k
+pub row-same : {A : Type 0} (f g : ℕ → A) (k : ℕ) → ((m : ℕ) → m < k → f m ≡ g m) → row f k ≡ row g k
 unfolding row
 row-same f g zero h = refl
-row-same f g (suc k) h = ap₂ (λ (l : List Float) (x : Float). l ++ (x ∷ [])) (row-same f g k (λ m l. h m (omega arith))) (h k (omega arith))
+row-same {A = A} f g (suc k) h = ap₂ (λ (l : List A) (x : A). l ++ (x ∷ [])) (row-same f g k (λ m l. h m (omega arith))) (h k (omega arith))
 
 -- ---- a loop that fills a list from the front
+
+-- a row that begins at k has no value yet
+pub row-none : (g : ℕ → Float) (out : List Float) (k : ℕ) → take (k + 0) out ≡ take k out ++ row g 0
+unfolding row
+row-none g out k = ap (λ (i : ℕ). take i out) (add-zero k) ∙ sym (append-nil (take k out))
 
 -- a value more in a row that begins at k
 pub row-turn : (g : ℕ → Float) (p out : List Float) (k m : ℕ) (v : Float) → take (k + m) out ≡ p ++ row g m → k + m < length out → v ≡ g m →

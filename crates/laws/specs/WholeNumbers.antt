@@ -210,7 +210,7 @@ pub record Floored (x : Float) (most least : ℕ) : Type 0 where
   pub bottom : N ≤ least
   pub largest : (y : Float) (Q M : ℕ) → Is y Q M → T (le y x) → Q + N ≤ P + M
 
-under-div : (a c k : ℕ) → 0 < c → a ≤ k * c → a / c ≤ k
+pub under-div : (a c k : ℕ) → 0 < c → a ≤ k * c → a / c ≤ k
 under-div a c k C h = le-of-suc-le-suc (div-lt-iff-lt-mul {k = c} {x = a} {y = suc k} C .1 (omega (arith, native.Mathlib.Nat.suc-mul k c)))
 
 at-least : (x : Float) (m : ℕ) (e : ℤ) (K : ℕ) → T (le x (fin true m e)) → Is x 0 K → m * up e ≤ K * down e
@@ -233,8 +233,8 @@ below-minus y Q M m e i h =
     let v : p y * down e + M * down e * d y ≡ Q * down e * d y + n y * down e = simp (mul-assoc, mul-comm, mul-left-comm) (simp (add-mul, mul-assoc, mul-comm, mul-left-comm) at (ap (λ (k : ℕ). k * down e) (i .value))) in
     native.Mathlib.Nat.le-of-mul-le-mul-right {k = d y} (omega (arith, o, v, add-mul (Q * down e) (m * up e) (d y))) (d-pos y)
 
-less : (Q M c : ℕ) → (Q - M) * c ≡ Q * c - M * c
-less Q M c = mul-comm (Q - M) c ∙ native.Mathlib.Nat.mul-sub c Q M ∙ ap (λ (v : ℕ). v - c * M) (mul-comm c Q) ∙ ap (λ (v : ℕ). Q * c - v) (mul-comm c M)
+pub less-mul : (Q M c : ℕ) → (Q - M) * c ≡ Q * c - M * c
+less-mul Q M c = mul-comm (Q - M) c ∙ native.Mathlib.Nat.mul-sub c Q M ∙ ap (λ (v : ℕ). v - c * M) (mul-comm c Q) ∙ ap (λ (v : ℕ). Q * c - v) (mul-comm c M)
 
 -- the floor of a value between -least and most
 pub floor-whole : (lo x hi : Float) (most least : ℕ) → T (finite x) → T (le lo x) → T (le x hi) → Is lo 0 least → Is hi most 0 → most ≤ 2 ^ 53 → least ≤ 2 ^ 53 → Floored x most least
@@ -252,7 +252,7 @@ floor-whole lo (fin true m e) hi a b q h k i j u v =
       largest = λ y Q M g l.
           let w = below-minus y Q M m e g l in
           let low : Q ≤ M = native.Mathlib.Nat.le-of-mul-le-mul-right {k = down e} (omega (arith, w)) (down-pos e) in
-          let z : ceilDiv (m * up e) (down e) ≤ M - Q = ceilDiv-le (m * up e) (down e) (M - Q) (down-pos e) (omega (arith, w, less M Q (down e))) in
+          let z : ceilDiv (m * up e) (down e) ≤ M - Q = ceilDiv-le (m * up e) (down e) (M - Q) (down-pos e) (omega (arith, w, less-mul M Q (down e))) in
           omega (arith, low, z);
     }
 floor-whole lo (fin false m e) hi a b q h k i j u v =
@@ -264,7 +264,7 @@ floor-whole lo (fin false m e) hi a b q h k i j u v =
       top = c;
       bottom = Prim.Native.Nat.zero-le;
       largest = λ y Q M g l.
-          let z : Q - M ≤ m * up e / down e = native.Mathlib.Nat.le-div-iff-mul-le (down-pos e) .1 (omega (arith, below-plus y Q M m e g l, less Q M (down e))) in
+          let z : Q - M ≤ m * up e / down e = native.Mathlib.Nat.le-div-iff-mul-le (down-pos e) .1 (omega (arith, below-plus y Q M m e g l, less-mul Q M (down e))) in
           omega (arith, z);
     }
 

@@ -12,6 +12,7 @@ use borrow.Author.Tests.{leb-true, eqb-true, not-true, not-false}
 use Rattle.laws.specs.Checks.{all}
 use Rattle.laws.specs.Loops.{cleared}
 use Rattle.laws.specs.Tables.{row-length}
+use Rattle.laws.specs.Bools.{right-true}
 use Rattle.slices.specs.Calls.{left, firstFailed}
 use Rattle.slices.specs.declared.Outcome.{Outcome}
 use Rattle.slices.specs.declared.Outcome.the-variants.{Accepted, Refused}
@@ -19,7 +20,6 @@ use Rattle.slices.proofs.Calls.{cond-passes, call-refused, call-failed, call-ha
 use Rattle.least_squares.specs.LeastSquares.{solvable, solved, residualsOf, residualAt, coefficientAt}
 use Rattle.least_squares.specs.Kernel.{solvableFor, coefficientsOf, solvedElse}
 use Rattle.least_squares.specs.Calls.{upTo, laterTests, refusal, failure, leastSquaresCall}
-use Rattle.least_squares.proofs.Laws.{by, never}
 use Rattle.least_squares.proofs.Shapes.{kernel-is}
 
 -- ---- the tests
@@ -28,13 +28,9 @@ pub up-to-is : (n k : ℕ) (r : Bool) → r ≡ leb 1 k && leb k n → r ≡ upT
 unfolding upTo
 up-to-is n k r e = e
 
-and-second : (a b : Bool) → a && b ≡ true → b ≡ true
-and-second true b h = h
-and-second false b h = absurd (never h)
-
 up-to-says : (n k : ℕ) → upTo n k ≡ true → k ≤ n
 unfolding upTo
-up-to-says n k h = leb-true k n (and-second (leb 1 k) (leb k n) h)
+up-to-says n k h = leb-true k n (right-true (leb 1 k) (leb k n) h)
 
 pub few-columns : (p : ℕ) (u : Bool) → u ≡ upTo 15 p → u ≡ true → p ≤ 15
 few-columns p u e h = up-to-says 15 p (sym e ∙ h)

@@ -1,20 +1,19 @@
 -- Laws of the kernel for fifteen columns. Assumes nothing.
 use mathlib.Core.Path.{_≡_, refl, sym, ap, _∙_}
-use mathlib.Core.Bool.{Bool, true, false, cond, _&&_}
+use mathlib.Core.Bool.{Bool, true, false, cond, _&&_, false≢true}
 use mathlib.Core.List.{List}
 use Prim.Native.Nat.{ℕ, _*_}
 use lib.Dec.{ltb, eqb}
 use lib.Ieee.{Float}
 use lib.ListN.{length}
 use borrow.Author.Tests.{eqb-true}
-use Rattle.least_squares.proofs.Laws.{never}
 use Rattle.laws.specs.Tables.{row}
 use Rattle.least_squares.specs.Elimination.{fine, stage, view}
 use Rattle.least_squares.specs.Kernel.{Estimated, shaped15}
 use Rattle.least_squares.specs.LeastSquares.{coefficientAt, equations, solvable, solved}
 
 kept : (t b : Bool) → cond t false b ≡ true → b ≡ true
-kept true b h = absurd (never h)
+kept true b h = absurd (false≢true h)
 kept false b h = h
 
 pub shaped-is : (r n : ℕ) → shaped15 r n ≡ true → r ≡ n * 15
@@ -31,4 +30,4 @@ estimated rows y t ht e n hn f hf s hs b hb = record {
 }
 
 pub refused : (rows y : List Float) (t : Bool) → t ≡ shaped15 (length rows) (length y) → t ≡ false → (b : List Float) → Estimated rows y (record { fine = false; beta = b })
-refused rows y t ht e b = record { said = simp (sym ht ∙ e); values = λ g. absurd (never g) }
+refused rows y t ht e b = record { said = simp (sym ht ∙ e); values = λ g. absurd (false≢true g) }

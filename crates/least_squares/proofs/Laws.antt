@@ -13,15 +13,12 @@ use lib.Seq.{getD-at, getD-set-same, getD-set-other, ext-getD, take-suc-set, tak
 use borrow.Author.Tests.{lt-ltb, le-ltb, eq-eqb, ne-eqb, ltb-true, ltb-false, eqb-true, eqb-false}
 use Rattle.laws.specs.Floats.{_⊖_, _⊗_, _⊘_, zero64}
 use Rattle.laws.specs.Tables.{row, row-at, row-length}
+use Rattle.laws.specs.Bools.{by}
 use Rattle.least_squares.specs.Elimination.{Matrix, augmented, eliminated, fine, flatten, largest, pivotRow, reaches, reduced, singular, stage, swapped, tooSmall, turn, view}
 use Rattle.least_squares.specs.LeastSquares.{normalAt, equations}
 use Rattle.numbers.specs.Numbers.{magnitude}
 
 -- a case on a test, with the equation in each case
-pub by : {P : Type 0} (b : Bool) → (b ≡ true → P) → (b ≡ false → P) → P
-by true f g = f refl
-by false f g = g refl
-
 -- the list l is the matrix m
 pub record Holds (l : List Float) (m : Matrix) : Type 0 where
   pub long : length l ≡ 240
@@ -270,9 +267,6 @@ fine-not p l c (suc n) h s =
 
 pub length-flatten : (m : Matrix) → length (flatten m) ≡ 240
 length-flatten m = flat-holds m .long
-
-pub never : false ≡ true → ⊥
-never e = let z : _≡_ {A = ℕ} 0 1 = cc in omega arith
 
 -- an element of a flat list of n rows of p, and the row's end
 pub row-end : (r n p : ℕ) → r < n → r * p + p ≤ n * p

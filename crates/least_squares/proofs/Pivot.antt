@@ -1,38 +1,32 @@
 -- The chosen pivot is the last of the largest, NaN counting as largest. Assumes nothing.
-use mathlib.Core.Path.{_≡_, refl, sym, ap, subst, _∙_}
-use mathlib.Core.Bool.{Bool, true, false, cond, not}
+use mathlib.Core.Path.{_≡_, sym, ap, subst, _∙_}
+use mathlib.Core.Bool.{true, false, cond, not, false≢true}
 use mathlib.Core.List.{List}
 use Prim.Native.Nat.{ℕ, zero, suc, _+_, _-_, _≤_, _<_}
 use native.Mathlib.Decide.{decLe}
 use native.Mathlib.Omega.{arith}
 use lib.Dec.{T}
 use lib.Ieee.{Float, nan, inf, fin, le, ne}
+use lib.Ieee.Bits.{is-true}
 use Rattle.laws.specs.Signed.{real}
 use Rattle.laws.specs.Order.{le-tr, le-rfl, le-total, lt→le, nle→lt}
+use Rattle.laws.specs.Bools.{by, holds}
 use Rattle.numbers.specs.Numbers.{magnitude}
 use Rattle.least_squares.specs.Elimination.{Matrix, view, reaches, largest, pivotRow}
-use Rattle.least_squares.proofs.Laws.{by, never}
 
 -- ---- the order that NaN tops is total
 
 number : (x : Float) → ne x x ≡ false → T (real x)
 unfolding ne
-number nan h = absurd (never (sym h))
+number nan h = absurd (false≢true (sym h))
 number (inf s) h = tt
 number (fin s m e) h = tt
 
-holds : (b : Bool) → b ≡ true → T b
-holds b e = subst T (sym e) tt
-
-says : (b : Bool) → T b → b ≡ true
-says true t = refl
-says false t = absurd t
-
 pub reaches-self : (x : Float) → T (reaches x x)
 unfolding reaches
-reaches-self x = by (ne x x) (λ e. rw e tt) (λ e. rw (e, says (le x x) (le-rfl x (number x e))) tt)
+reaches-self x = by (ne x x) (λ e. rw e tt) (λ e. rw (e, is-true (le x x) (le-rfl x (number x e))) tt)
 
--- what it says of numbers
+-- what it is-true of numbers
 reached : (x y : Float) → ne x x ≡ false → T (reaches x y) → (ne y y ≡ false) × T (le y x)
 unfolding reaches
 reached x y e h = by (ne y y) (λ f. absurd (rw (e, f) at h)) (λ f. (f, rw (e, f) at h))

@@ -1,14 +1,14 @@
 -- Laws of the kernel of least squares. Assumes nothing.
 use mathlib.Core.Path.{_≡_, refl, sym, ap, _∙_}
-use mathlib.Core.Bool.{Bool, true, false, cond}
+use mathlib.Core.Bool.{Bool, true, false, cond, false≢true}
 use mathlib.Core.List.{List}
 use Prim.Native.Nat.{ℕ, _*_, _≤_, _<_}
 use lib.Dec.{ltb, eqb}
 use lib.Ieee.{Float}
 use lib.ListN.{length}
 use borrow.Author.Tests.{lt-ltb, le-ltb, eq-eqb, ne-eqb, ltb-true, ltb-false, eqb-true, eqb-false}
-use Rattle.least_squares.proofs.Laws.{by, never}
 use Rattle.laws.specs.Tables.{row}
+use Rattle.laws.specs.Bools.{by}
 use Rattle.least_squares.specs.Elimination.{fine, stage, view}
 use Rattle.least_squares.specs.Kernel.{coefficientsOf, shapeFits, solvableFor, solvedElse}
 use Rattle.least_squares.specs.LeastSquares.{coefficientAt, equations, solvable, solved}
@@ -36,10 +36,10 @@ pub shape-true : (rows y : List Float) (p nb : ℕ) → shapeFits rows y p nb �
 unfolding shapeFits
 shape-true rows y p nb h =
     by (ltb 15 p)
-    (λ e. absurd (never (sym (simp e) ∙ h)))
+    (λ e. absurd (false≢true (sym (simp e) ∙ h)))
     (λ e. by (eqb (length rows) (length y * p))
     (λ f. let g : eqb nb p ≡ true = sym (simp (e, f)) ∙ h in (eqb-true _ _ f, ltb-false 15 p e, eqb-true nb p g))
-    (λ f. absurd (never (sym (simp (e, f)) ∙ h))))
+    (λ f. absurd (false≢true (sym (simp (e, f)) ∙ h))))
 
 -- a shape that fits
 pub shape-is : (rows y : List Float) (p nb : ℕ) → length rows ≡ length y * p → p ≤ 15 → nb ≡ p → shapeFits rows y p nb ≡ true

@@ -6,9 +6,10 @@ use mathlib.Core.List.{List}
 use lib.Dec.{ltb, eqb}
 use lib.Ieee.{Float, nan, lt, le, ne}
 use lib.ListN.{getD}
-use Rattle.laws.specs.Floats.{_⊖_, _⊗_, _⊘_, bits, zero64}
+use Rattle.laws.specs.Floats.{_⊖_, _⊗_, _⊘_, zero64}
 use Rattle.laws.specs.Tables.{row}
 use Rattle.numbers.specs.Numbers.{magnitude}
+use Rattle.numbers.specs.Constants.{decimal}
 
 abbrev pub Matrix : Type 0
 Matrix = ℕ → ℕ → Float
@@ -51,7 +52,7 @@ pivotRow p c l = largest (view l) c (p - (c + 1))
 
 -- the test that refuses a pivot: its magnitude is below 1e-12. A NaN passes
 unfoldable pub tooSmall : Float → Bool
-tooSmall x = lt (magnitude x) (bits 0x3d719799812dea11)
+tooSmall x = lt (magnitude x) (decimal 1 12)
 
 -- column c's turn: its pivot's row comes to row c, and the column is cleared from the others
 unfoldable pub turn : ℕ → ℕ → List Float → List Float

@@ -1,5 +1,5 @@
 -- What the tests say where they pass. Assumes nothing.
-use mathlib.Core.Path.{_≡_, refl, sym, ap, _∙_}
+use mathlib.Core.Path.{_≡_, ap}
 use mathlib.Core.Bool.{Bool, true, false, cond, _&&_}
 use mathlib.Core.List.{List}
 use Prim.Native.Nat.{ℕ, _+_, _-_, _*_, _≤_, _<_}
@@ -9,16 +9,10 @@ use lib.Dec.{leb, eqb}
 use lib.IntN.{ℤ}
 use lib.Ieee.{Float}
 use borrow.Author.Tests.{leb-true, le-leb, lt-leb, eqb-true}
-use Rattle.laws.specs.Checks.{rising, risingSeconds}
+use Rattle.laws.specs.Checks.{rising, risingSeconds, degreeFine}
+use Rattle.laws.specs.Bools.{both-true}
 use Rattle.slices.proofs.Calls.{cond-passes}
-use Rattle.lent.specs.Lent.{kind, size, few, frontSize, firstOf, degreeFine, countsFine, modelFits, statesFit, leastScratch, scratchFits, lengthsFit, wholeScratchFits, rise}
-
-no : {X : Type 0} → false ≡ true → X
-no e = absurd (let z : _≡_ {A = ℕ} 0 1 = cc in omega arith)
-
-pub both-pass : (a b : Bool) → (a && b) ≡ true → (a ≡ true) × (b ≡ true)
-both-pass true b h = (refl, h)
-both-pass false b h = no h
+use Rattle.lent.specs.Lent.{kind, fieldSize, few, firstOf, countsFine, modelFits, statesFit, leastScratch, scratchFits, lengthsFit, wholeScratchFits, rise}
 
 -- all of five tests
 pub record AllPass (d k n v o : Bool) : Type 0 where
@@ -38,7 +32,7 @@ all-pass d k n v o h =
     record { degree = a .0; counts = b .0; lengths = e .0; values = f .0; order = g .0 }
 
 pub degree-passes : (N : ℕ) → degreeFine N ≡ true → N ≤ 180
-degree-passes N h = leb-true N 180 (both-pass (leb 2 N) (leb N 180) h .1)
+degree-passes N h = leb-true N 180 (both-true (leb 2 N) (leb N 180) h .1)
 
 pub record Few (c d p q : ℕ) : Type 0 where
   pub statesC : c ≤ 200000
@@ -49,14 +43,14 @@ pub record Few (c d p q : ℕ) : Type 0 where
 pub counts-pass : (fields c d accC accD : ℕ) → countsFine fields c d accC accD ≡ true → Few c d accC accD
 unfolding countsFine
 counts-pass fields c d accC accD h =
-    let all = both-pass (leb 2 fields && leb fields 32) ((few c && few d) && (few accC && few accD)) h .1 in
-    let states = both-pass (few c && few d) (few accC && few accD) all .0 in
-    let accs = both-pass (few c && few d) (few accC && few accD) all .1 in
+    let all = both-true (leb 2 fields && leb fields 32) ((few c && few d) && (few accC && few accD)) h .1 in
+    let states = both-true (few c && few d) (few accC && few accD) all .0 in
+    let accs = both-true (few c && few d) (few accC && few accD) all .1 in
     record {
-      statesC = leb-true c 200000 (both-pass (few c) (few d) states .0);
-      statesD = leb-true d 200000 (both-pass (few c) (few d) states .1);
-      accC = leb-true accC 200000 (both-pass (few accC) (few accD) accs .0);
-      accD = leb-true accD 200000 (both-pass (few accC) (few accD) accs .1);
+      statesC = leb-true c 200000 (both-true (few c) (few d) states .0);
+      statesD = leb-true d 200000 (both-true (few c) (few d) states .1);
+      accC = leb-true accC 200000 (both-true (few accC) (few accD) accs .0);
+      accD = leb-true accD 200000 (both-true (few accC) (few accD) accs .1);
     }
 
 pub record Rise (times : List Float) (c d p q : List ℤ) : Type 0 where
@@ -69,44 +63,44 @@ pub record Rise (times : List Float) (c d p q : List ℤ) : Type 0 where
 pub rise-passes : (times : List Float) (c d accC accD : List ℤ) → rise times c d accC accD ≡ true → Rise times c d accC accD
 unfolding rise
 rise-passes times c d accC accD h =
-    let all = both-pass (rising times) ((risingSeconds c && risingSeconds d) && (risingSeconds accC && risingSeconds accD)) h in
-    let parts = both-pass (risingSeconds c && risingSeconds d) (risingSeconds accC && risingSeconds accD) (all .1) in
+    let all = both-true (rising times) ((risingSeconds c && risingSeconds d) && (risingSeconds accC && risingSeconds accD)) h in
+    let parts = both-true (risingSeconds c && risingSeconds d) (risingSeconds accC && risingSeconds accD) (all .1) in
     record {
       fields = all .0;
-      statesC = both-pass (risingSeconds c) (risingSeconds d) (parts .0) .0;
-      statesD = both-pass (risingSeconds c) (risingSeconds d) (parts .0) .1;
-      accC = both-pass (risingSeconds accC) (risingSeconds accD) (parts .1) .0;
-      accD = both-pass (risingSeconds accC) (risingSeconds accD) (parts .1) .1;
+      statesC = both-true (risingSeconds c) (risingSeconds d) (parts .0) .0;
+      statesD = both-true (risingSeconds c) (risingSeconds d) (parts .0) .1;
+      accC = both-true (risingSeconds accC) (risingSeconds accD) (parts .1) .0;
+      accD = both-true (risingSeconds accC) (risingSeconds accD) (parts .1) .1;
     }
 
 pub scratch-passes : (N fields count scratch : ℕ) → scratchFits N fields count scratch ≡ true → leastScratch N fields count ≤ scratch
 unfolding scratchFits
 scratch-passes N fields count scratch h =
-    let a = both-pass (leb N 180) (leb fields 32 && (leb count 100000 && leb (leastScratch N fields count) scratch)) h .1 in
-    let b = both-pass (leb fields 32) (leb count 100000 && leb (leastScratch N fields count) scratch) a .1 in
-    leb-true (leastScratch N fields count) scratch (both-pass (leb count 100000) (leb (leastScratch N fields count) scratch) b .1)
+    let a = both-true (leb N 180) (leb fields 32 && (leb count 100000 && leb (leastScratch N fields count) scratch)) h .1 in
+    let b = both-true (leb fields 32) (leb count 100000 && leb (leastScratch N fields count) scratch) a .1 in
+    leb-true (leastScratch N fields count) scratch (both-true (leb count 100000) (leb (leastScratch N fields count) scratch) b .1)
 
 pub states-pass : (n values : ℕ) → statesFit n values ≡ true → values ≡ 6 * n
 unfolding statesFit
-states-pass n values h = eqb-true values (6 * n) (both-pass (few n) (eqb values (6 * n)) h .1)
+states-pass n values h = eqb-true values (6 * n) (both-true (few n) (eqb values (6 * n)) h .1)
 
 pub record Sizes (N fields field all p q : ℕ) : Type 0 where
-  pub static : field ≡ size N
-  pub added : all ≡ fields * size N
+  pub static : field ≡ fieldSize N
+  pub added : all ≡ fields * fieldSize N
   pub a : p ≡ kind N
   pub b : q ≡ kind N
 
 pub model-passes : (N fields field added a b : ℕ) → modelFits N fields field added a b ≡ true → Sizes N fields field added a b
 unfolding modelFits
 model-passes N fields field added a b h =
-    let p = both-pass (leb N 180) (leb fields 32 && ((eqb field (size N) && eqb added (fields * size N)) && (eqb a (kind N) && eqb b (kind N)))) h .1 in
-    let q = both-pass (leb fields 32) ((eqb field (size N) && eqb added (fields * size N)) && (eqb a (kind N) && eqb b (kind N))) p .1 in
-    let r = both-pass (eqb field (size N) && eqb added (fields * size N)) (eqb a (kind N) && eqb b (kind N)) q in
-    let s = both-pass (eqb field (size N)) (eqb added (fields * size N)) (r .0) in
-    let t = both-pass (eqb a (kind N)) (eqb b (kind N)) (r .1) in
+    let p = both-true (leb N 180) (leb fields 32 && ((eqb field (fieldSize N) && eqb added (fields * fieldSize N)) && (eqb a (kind N) && eqb b (kind N)))) h .1 in
+    let q = both-true (leb fields 32) ((eqb field (fieldSize N) && eqb added (fields * fieldSize N)) && (eqb a (kind N) && eqb b (kind N))) p .1 in
+    let r = both-true (eqb field (fieldSize N) && eqb added (fields * fieldSize N)) (eqb a (kind N) && eqb b (kind N)) q in
+    let s = both-true (eqb field (fieldSize N)) (eqb added (fields * fieldSize N)) (r .0) in
+    let t = both-true (eqb a (kind N)) (eqb b (kind N)) (r .1) in
     record {
-      static = eqb-true field (size N) (s .0);
-      added = eqb-true added (fields * size N) (s .1);
+      static = eqb-true field (fieldSize N) (s .0);
+      added = eqb-true added (fields * fieldSize N) (s .1);
       a = eqb-true a (kind N) (t .0);
       b = eqb-true b (kind N) (t .1);
     }
@@ -114,28 +108,17 @@ model-passes N fields field added a b h =
 pub lengths-pass : (N fields field added a b scratch : ℕ) → lengthsFit N fields field added a b scratch ≡ true → Sizes N fields field added a b
 unfolding lengthsFit
 lengths-pass N fields field added a b scratch h =
-    model-passes N fields field added a b (both-pass (modelFits N fields field added a b) (scratchFits N fields 0 scratch) h .0)
+    model-passes N fields field added a b (both-true (modelFits N fields field added a b) (scratchFits N fields 0 scratch) h .0)
 
 pub lengths-room : (N fields field added a b scratch : ℕ) → lengthsFit N fields field added a b scratch ≡ true → 8 * kind N + 150000 ≤ scratch
 unfolding lengthsFit
 lengths-room N fields field added a b scratch h =
-    omega (arith, scratch-passes N fields 0 scratch (both-pass (modelFits N fields field added a b) (scratchFits N fields 0 scratch) h .1))
-
-pub front-is : (N : ℕ) → N ≤ 180 → frontSize N ≡ 8 * kind N
-unfolding frontSize
-front-is N h = rw (le-leb N 180 h)
+    omega (arith, scratch-passes N fields 0 scratch (both-true (modelFits N fields field added a b) (scratchFits N fields 0 scratch) h .1))
 
 -- ---- one way through each test
 
 pub product-small : (a b : ℕ) → a ≤ 32 → b ≤ 32944 → a * b ≤ 1054208
 product-small a b h k = mul-le-mul {n₂ = 32} {m₂ = 32944} h k
-
-pub front-over : (N : ℕ) → 180 < N → 0 ≡ frontSize N
-unfolding frontSize
-front-over N h = rw (lt-leb N 180 h)
-
-pub front-within : (N r : ℕ) → N ≤ 180 → r ≡ kind N → 8 * r ≡ frontSize N
-front-within N r h e = ap (λ (i : ℕ). 8 * i) e ∙ sym (front-is N h)
 
 module _ (N fields field added a b : ℕ) where
   pub model-degree : 180 < N → false ≡ modelFits N fields field added a b
@@ -146,7 +129,7 @@ module _ (N fields field added a b : ℕ) where
   unfolding modelFits
   model-count h k = rw (le-leb N 180 h, lt-leb fields 32 k)
 
-  pub model-within : (r : Bool) → N ≤ 180 → fields ≤ 32 → r ≡ ((eqb field (size N) && eqb added (fields * size N)) && (eqb a (kind N) && eqb b (kind N))) → r ≡ modelFits N fields field added a b
+  pub model-within : (r : Bool) → N ≤ 180 → fields ≤ 32 → r ≡ ((eqb field (fieldSize N) && eqb added (fields * fieldSize N)) && (eqb a (kind N) && eqb b (kind N))) → r ≡ modelFits N fields field added a b
   unfolding modelFits
   model-within r h k e = rw (le-leb N 180 h, le-leb fields 32 k) e
 

@@ -1,7 +1,8 @@
 -- What is tested of the lists that the calls of modules 3 to 5 and the whole path are lent (document 01, "Outcomes" and "Bounds"): the time-variable model with its Legendre
 -- tables, both satellites' states and accelerometer values by second. Assumes nothing.
-use Prim.Native.Nat.{ℕ, _+_, _-_, _*_}
-use mathlib.Core.Bool.{Bool, cond, _&&_}
+use mathlib.Core.Path.{_≡_}
+use Prim.Native.Nat.{ℕ, _+_, _-_, _*_, _≤_, _<_}
+use mathlib.Core.Bool.{Bool, _&&_}
 use mathlib.Core.List.{List, [], _∷_}
 use lib.Dec.{leb, eqb}
 use lib.IntN.{ℤ}
@@ -19,17 +20,18 @@ firstOf degree counts lengths values order = firstFailed ((degree, 1) ∷ (count
 abbrev pub kind : ℕ → ℕ
 kind N = tri (N + 1)
 
-abbrev pub size : ℕ → ℕ
-size N = 2 + 2 * kind N
+abbrev pub fieldSize : ℕ → ℕ
+fieldSize N = 2 + 2 * kind N
 
--- the numbers of one time's field and what the degree alone gives; none for a degree above 180
-unfoldable pub frontSize : ℕ → ℕ
-frontSize N = cond (leb N 180) (8 * kind N) 0
+-- the numbers before the states of a run: the field at one time, and what the degree alone gives
+abbrev pub frontSize : ℕ → ℕ
+frontSize N = 8 * kind N
 
--- ---- 1
+-- what `front_size` answers: none for a degree above 180
+abbrev pub Front : ℕ → ℕ → Type 0
+Front N r = (N ≤ 180 → r ≡ frontSize N) × (r ≤ 131768) × (180 < N → r ≡ 0)
 
-abbrev pub degreeFine : ℕ → Bool
-degreeFine N = leb 2 N && leb N 180
+-- ---- 1 is `degreeFine`
 
 -- ---- 2: of fields; of the states and accelerometer values of C and D
 
@@ -47,7 +49,7 @@ countsFine fields c d accC accD = fieldsFine fields && ((few c && few d) && (few
 -- the static field, the added fields end to end, and the Legendre tables
 unfoldable pub modelFits : ℕ → ℕ → ℕ → ℕ → ℕ → ℕ → Bool
 modelFits N fields field added a b =
-    leb N 180 && (leb fields 32 && ((eqb field (size N) && eqb added (fields * size N)) && (eqb a (kind N) && eqb b (kind N))))
+    leb N 180 && (leb fields 32 && ((eqb field (fieldSize N) && eqb added (fields * fieldSize N)) && (eqb a (kind N) && eqb b (kind N))))
 
 -- six numbers a state
 unfoldable pub statesFit : ℕ → ℕ → Bool

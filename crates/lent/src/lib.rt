@@ -1,10 +1,11 @@
 // Tests of the lists that the calls of modules 3 to 5 and the whole path are lent.
 ghost use mathlib.Core.Path.{_≡_};
 ghost use mathlib.Core.Bool.{_&&_};
-ghost use Prim.Native.Nat.{_+_, _-_, _*_, _≤_};
+ghost use Prim.Native.Nat.{_+_, _-_, _*_, _≤_, _<_};
 ghost use lib.ListN.{length};
 ghost use lib.Dec.{leb, eqb};
-ghost use Rattle.lent.specs.Lent.{kind, size, firstOf, degreeFine, fieldsFine, countsFine, modelFits, statesFit, tablesFit, frontSize, leastScratch, scratchFits, lengthsFit, wholeScratchFits, modelFine, keyedFine, rise as riseOf};
+ghost use Rattle.laws.specs.Checks.{degreeFine};
+ghost use Rattle.lent.specs.Lent.{kind, fieldSize, firstOf, fieldsFine, countsFine, modelFits, statesFit, tablesFit, frontSize, leastScratch, scratchFits, lengthsFit, wholeScratchFits, modelFine, keyedFine, rise as riseOf};
 use slices;
 
 // Places for the coefficients of one kind.
@@ -35,7 +36,7 @@ pub fn first_of(degree: bool, counts: bool, lengths: bool, values: bool, order: 
 
 // How many numbers stand before a run's states; none for a degree above 180.
 pub fn front_size(degree: usize) -> usize
-    ensures { λ r. ⌜ r ≡ frontSize degree ⌝ }
+    ensures { λ r. ⌜ (degree ≤ 180 → r ≡ frontSize degree) × (r ≤ 131768) × (180 < degree → r ≡ 0) ⌝ }
 {
     if 180 < degree {
         return 0;
@@ -69,7 +70,7 @@ fn model_lengths(
     b: usize,
 ) -> bool
     requires { ⌜ (degree ≤ 180) × (fields ≤ 32) ⌝ }
-    ensures { λ r. ⌜ r ≡ (eqb field (size degree) && eqb added (fields * size degree)) && (eqb a (kind degree) && eqb b (kind degree)) ⌝ }
+    ensures { λ r. ⌜ r ≡ (eqb field (fieldSize degree) && eqb added (fields * fieldSize degree)) && (eqb a (kind degree) && eqb b (kind degree)) ⌝ }
 {
     let l = places(degree);
     let one = 2 + 2 * l;

@@ -9,10 +9,11 @@ use lib.Dec.{T}
 use lib.ListN.{length, take, drop, getD, length-drop, List·getD-append}
 use lib.Seq.{drop-append-le, take-append-le}
 use lib.Ieee.{Float, nan, lt, le}
+use Rattle.lent.specs.Lent.{fieldSize}
 use Rattle.laws.specs.Floats.{_⊖_, _⊘_}
 use Rattle.laws.specs.Times.{end, precedes}
 use Rattle.laws.specs.Tables.{rows}
-use Rattle.model.specs.Field.{cosines, sines, size}
+use Rattle.model.specs.Field.{cosines, sines}
 use Rattle.model.specs.Model.{bracket, weight, addedField, blended, blendOf, kindAt, fieldAt}
 use Rattle.model.proofs.Times.{bracket-room}
 use Rattle.model.proofs.Within.{lt→le-false}
@@ -53,32 +54,32 @@ weight-append ts us t j h =
     ap₂ (λ (a b : Float). (t ⊖ a) ⊘ (b ⊖ a)) (List·getD-append ts us nan j (omega arith)) (List·getD-append ts us nan (j + 1) (omega arith))
 
 -- field j of a longer list
-added-append : (N : ℕ) (fs gs : List Float) (j : ℕ) → (j + 1) * size N ≤ length fs → addedField N (fs ++ gs) j ≡ addedField N fs j
+added-append : (N : ℕ) (fs gs : List Float) (j : ℕ) → (j + 1) * fieldSize N ≤ length fs → addedField N (fs ++ gs) j ≡ addedField N fs j
 added-append N fs gs j h =
-    let p : (j + 1) * size N ≡ j * size N + 1 * size N = add-mul j 1 (size N) in
-    let l = length-drop (j * size N) fs in
-    ap (take (size N)) (drop-append-le (j * size N) fs gs (omega arith)) ∙ take-append-le (size N) (drop (j * size N) fs) gs (omega arith)
+    let p : (j + 1) * fieldSize N ≡ j * fieldSize N + 1 * fieldSize N = add-mul j 1 (fieldSize N) in
+    let l = length-drop (j * fieldSize N) fs in
+    ap (take (fieldSize N)) (drop-append-le (j * fieldSize N) fs gs (omega arith)) ∙ take-append-le (fieldSize N) (drop (j * fieldSize N) fs) gs (omega arith)
 
-pub blend-append : (N k : ℕ) (field fs gs : List Float) (w : Float) (j : ℕ) → (j + 2) * size N ≤ length fs → blendOf N k field (fs ++ gs) w j ≡ blendOf N k field fs w j
+pub blend-append : (N k : ℕ) (field fs gs : List Float) (w : Float) (j : ℕ) → (j + 2) * fieldSize N ≤ length fs → blendOf N k field (fs ++ gs) w j ≡ blendOf N k field fs w j
 unfolding blendOf
 blend-append N k field fs gs w j h =
-    let p : (j + 2) * size N ≡ j * size N + 2 * size N = add-mul j 2 (size N) in
-    let q : (j + 1) * size N ≡ j * size N + 1 * size N = add-mul j 1 (size N) in
-    let r : (j + 1 + 1) * size N ≡ (j + 2) * size N = ap (λ (i : ℕ). i * size N) (omega arith) in
+    let p : (j + 2) * fieldSize N ≡ j * fieldSize N + 2 * fieldSize N = add-mul j 2 (fieldSize N) in
+    let q : (j + 1) * fieldSize N ≡ j * fieldSize N + 1 * fieldSize N = add-mul j 1 (fieldSize N) in
+    let r : (j + 1 + 1) * fieldSize N ≡ (j + 2) * fieldSize N = ap (λ (i : ℕ). i * fieldSize N) (omega arith) in
     ap₂ (λ (a b : List Float). rows (blended k w field a b) (N + 1)) (added-append N fs gs j (omega arith)) (added-append N fs gs (j + 1) (omega arith))
 
 -- the coefficients at a time before the old last field
-pub kind-append : (N k : ℕ) (field ts us fs gs : List Float) (t : Float) → 2 ≤ length ts → length fs ≡ length ts * size N → T (precedes t (end (λ (u : Float). u) ts)) →
+pub kind-append : (N k : ℕ) (field ts us fs gs : List Float) (t : Float) → 2 ≤ length ts → length fs ≡ length ts * fieldSize N → T (precedes t (end (λ (u : Float). u) ts)) →
     kindAt N k field (ts ++ us) (fs ++ gs) t ≡ kindAt N k field ts fs t
 unfolding kindAt
 kind-append N k field ts us fs gs t m l h =
     let room = bracket-room ts t m in
-    let p : (bracket ts t + 2) * size N ≤ length ts * size N = mul-le-mul-right (size N) room in
+    let p : (bracket ts t + 2) * fieldSize N ≤ length ts * fieldSize N = mul-le-mul-right (fieldSize N) room in
     ap (λ (i : ℕ). blendOf N k field (fs ++ gs) (weight (ts ++ us) t i) i) (bracket-append ts us t m h)
     ∙ ap (λ (w : Float). blendOf N k field (fs ++ gs) w (bracket ts t)) (weight-append ts us t (bracket ts t) room)
     ∙ blend-append N k field fs gs (weight ts t (bracket ts t)) (bracket ts t) (omega arith)
 
-pub field-append : (N : ℕ) (field ts us fs gs : List Float) (t : Float) → 2 ≤ length ts → length fs ≡ length ts * size N → T (precedes t (end (λ (u : Float). u) ts)) →
+pub field-append : (N : ℕ) (field ts us fs gs : List Float) (t : Float) → 2 ≤ length ts → length fs ≡ length ts * fieldSize N → T (precedes t (end (λ (u : Float). u) ts)) →
     fieldAt N field (ts ++ us) (fs ++ gs) t ≡ fieldAt N field ts fs t
 field-append N field ts us fs gs t m l h =
     ap₂ (λ (c s : List Float). c ++ s) (kind-append N cosines field ts us fs gs t m l h) (kind-append N (sines N) field ts us fs gs t m l h)

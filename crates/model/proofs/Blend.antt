@@ -1,9 +1,9 @@
 -- Laws of the rows that the blend writes. Assumes nothing.
 use mathlib.Core.Path.{_≡_, refl, sym, ap, ap₂, _∙_, subst}
-use mathlib.Core.List.{List, _++_, append-nil, append-assoc}
+use mathlib.Core.List.{List, _++_, append-assoc}
 use mathlib.Core.Bool.{Bool, true, false, cond}
 use Prim.Native.Nat.{ℕ, _+_, _-_, _*_, _/_, _<_, _≤_}
-use native.Mathlib.Nat.{add-zero, add-mul, mul-le-mul-right, div-mul-le-self, le-trans}
+use native.Mathlib.Nat.{add-mul, mul-le-mul-right, div-mul-le-self, le-trans}
 use native.Mathlib.Omega.{arith}
 use borrow.Author.Tests.{lt-ltb, le-ltb, lt-leb, le-leb, eq-eqb, ne-eqb, leb-true}
 use lib.Dec.{ltb, leb, eqb}
@@ -11,10 +11,12 @@ use lib.ListN.{length, take, drop, getD, set}
 use lib.Seq.{take-at, drop-at, drop-drop}
 use borrow.Rule.Slice.PartMut.{putMid, postOf}
 use lib.Ieee.{Float, nan}
+use Rattle.lent.specs.Lent.{fieldSize}
 use Rattle.laws.specs.Floats.{_⊕_, _⊖_, _⊗_, one64}
 use Rattle.laws.specs.Tables.{tri, row, rows, row-turn, row-same, rows-length, rows-at}
+use Rattle.laws.specs.Bools.{no}
 use Rattle.fields.specs.Rescaled.{factorOf, factorWith, rescaledAt}
-use Rattle.model.specs.Field.{gm, radius, cosines, sines, size}
+use Rattle.model.specs.Field.{gm, radius, cosines, sines}
 use Rattle.model.specs.Calls.{atFits, atLeft, AtRoom}
 use Rattle.model.specs.Model.{bracket, weight, combined, blended, blendOf, addedField, kindAt, fieldAt}
 
@@ -27,10 +29,6 @@ highAt start k w field a b fa fb m =
     (one64 ⊖ w) ⊗ (getD field (start + (k + m)) nan ⊕ getD a (start + (k + m)) nan ⊗ fa) ⊕ w ⊗ (getD field (start + (k + m)) nan ⊕ getD b (start + (k + m)) nan ⊗ fb)
 
 -- a row at its first place
-pub row-none : (g : ℕ → Float) (out : List Float) (k : ℕ) → take (k + 0) out ≡ take k out ++ row g 0
-unfolding row
-row-none g out k = ap (λ (i : ℕ). take i out) (add-zero k) ∙ sym (append-nil (take k out))
-
 -- the turns of the two loops
 pub low-turn : (start k : ℕ) (w : Float) (field p out : List Float) (m : ℕ) → take (k + m) out ≡ p ++ row (lowAt start k w field) m → k + m < length out →
     take (k + (m + 1)) (set out (k + m) ((one64 ⊖ w) ⊗ getD field (start + (k + m)) nan ⊕ w ⊗ getD field (start + (k + m)) nan)) ≡ p ++ row (lowAt start k w field) (m + 1)
@@ -80,11 +78,11 @@ pub kind-is : (N start j r : ℕ) (w : Float) (field added out : List Float) →
     out ≡ blendOf N start field added w j
 unfolding blendOf
 kind-is N start j r w field added out e h =
-    let z : 2 + 2 * r ≡ size N = ap (λ (i : ℕ). 2 + 2 * i) e in
-    let d : (j * (2 + 2 * r) + (2 + 2 * r) - j * (2 + 2 * r)) ≡ size N = between (j * (2 + 2 * r)) (2 + 2 * r) ∙ z in
-    let g : (j * (2 + 2 * r) + (2 + 2 * r) + (2 + 2 * r) - (j * (2 + 2 * r) + (2 + 2 * r))) ≡ size N = between (j * (2 + 2 * r) + (2 + 2 * r)) (2 + 2 * r) ∙ z in
-    let p : j * (2 + 2 * r) ≡ j * size N = ap (λ (i : ℕ). j * i) z in
-    let q : j * (2 + 2 * r) + (2 + 2 * r) ≡ (j + 1) * size N = ap₂ (λ (x y : ℕ). x + y) p z ∙ after j (size N) in
+    let z : 2 + 2 * r ≡ fieldSize N = ap (λ (i : ℕ). 2 + 2 * i) e in
+    let d : (j * (2 + 2 * r) + (2 + 2 * r) - j * (2 + 2 * r)) ≡ fieldSize N = between (j * (2 + 2 * r)) (2 + 2 * r) ∙ z in
+    let g : (j * (2 + 2 * r) + (2 + 2 * r) + (2 + 2 * r) - (j * (2 + 2 * r) + (2 + 2 * r))) ≡ fieldSize N = between (j * (2 + 2 * r) + (2 + 2 * r)) (2 + 2 * r) ∙ z in
+    let p : j * (2 + 2 * r) ≡ j * fieldSize N = ap (λ (i : ℕ). j * i) z in
+    let q : j * (2 + 2 * r) + (2 + 2 * r) ≡ (j + 1) * fieldSize N = ap₂ (λ (x y : ℕ). x + y) p z ∙ after j (fieldSize N) in
     h ∙ ap₂ (λ (a b : List Float). rows (blended start w field a b) (N + 1))
     (ap₂ (λ (x y : ℕ). take x (drop y added)) d p) (ap₂ (λ (x y : ℕ). take x (drop y added)) g q)
   where
@@ -96,9 +94,6 @@ kind-is N start j r w field added out e h =
 
 -- ---- the guard of `at`
 
-no : {X : Type 0} → false ≡ true → X
-no e = absurd (let z : _≡_ {A = ℕ} 0 1 = cc in omega arith)
-
 refuses : (N f n a o : ℕ) → false ≡ atFits N f n a o → AtRoom N f n a o false
 refuses N f n a o e = record { says = e; degree = λ h. no h; static = λ h. no h; count = λ h. no h; fields = λ h. no h; room = λ h. no h }
 
@@ -109,34 +104,34 @@ fits-degree N f n a o h = refuses N f n a o (rw (lt-leb N 180 h))
 pub fits-field : (N f n a o r : ℕ) → N ≤ 180 → r ≡ tri (N + 1) → (f ≡ 2 + 2 * r → ⊥) → AtRoom N f n a o false
 unfolding atFits
 fits-field N f n a o r h e d =
-    let g : eqb f (size N) ≡ false = ne-eqb f (size N) (λ x. d (x ∙ ap (λ (i : ℕ). 2 + 2 * i) (sym e))) in
+    let g : eqb f (fieldSize N) ≡ false = ne-eqb f (fieldSize N) (λ x. d (x ∙ ap (λ (i : ℕ). 2 + 2 * i) (sym e))) in
     refuses N f n a o (rw (le-leb N 180 h, g))
 
 pub fits-count : (N f n a o r : ℕ) → N ≤ 180 → r ≡ tri (N + 1) → f ≡ 2 + 2 * r → n < 2 → AtRoom N f n a o false
 unfolding atFits
 fits-count N f n a o r h e d l =
-    let z : 2 + 2 * r ≡ size N = ap (λ (i : ℕ). 2 + 2 * i) e in
-    refuses N f n a o (rw (le-leb N 180 h, eq-eqb f (size N) (d ∙ z), lt-leb 2 n l))
+    let z : 2 + 2 * r ≡ fieldSize N = ap (λ (i : ℕ). 2 + 2 * i) e in
+    refuses N f n a o (rw (le-leb N 180 h, eq-eqb f (fieldSize N) (d ∙ z), lt-leb 2 n l))
 
 pub fits-added : (N f n a o r : ℕ) → N ≤ 180 → r ≡ tri (N + 1) → f ≡ 2 + 2 * r → 2 ≤ n → a / (2 + 2 * r) < n → AtRoom N f n a o false
 unfolding atFits
 fits-added N f n a o r h e d k l =
-    let z : 2 + 2 * r ≡ size N = ap (λ (i : ℕ). 2 + 2 * i) e in
-    let g : leb n (a / size N) ≡ false = lt-leb n (a / size N) (subst (λ (i : ℕ). a / i < n) z l) in
-    refuses N f n a o (rw (le-leb N 180 h, eq-eqb f (size N) (d ∙ z), le-leb 2 n k, g))
+    let z : 2 + 2 * r ≡ fieldSize N = ap (λ (i : ℕ). 2 + 2 * i) e in
+    let g : leb n (a / fieldSize N) ≡ false = lt-leb n (a / fieldSize N) (subst (λ (i : ℕ). a / i < n) z l) in
+    refuses N f n a o (rw (le-leb N 180 h, eq-eqb f (fieldSize N) (d ∙ z), le-leb 2 n k, g))
 
 pub fits-room : (N f n a o r : ℕ) → N ≤ 180 → r ≡ tri (N + 1) → f ≡ 2 + 2 * r → 2 ≤ n → n ≤ a / (2 + 2 * r) → AtRoom N f n a o (leb (2 * r) o)
 unfolding atFits
 fits-room N f n a o r h e d k l =
-    let z : 2 + 2 * r ≡ size N = ap (λ (i : ℕ). 2 + 2 * i) e in
-    let m : n ≤ a / size N = subst (λ (i : ℕ). n ≤ a / i) z l in
-    let p : n * size N ≤ a / size N * size N = mul-le-mul-right (size N) m in
+    let z : 2 + 2 * r ≡ fieldSize N = ap (λ (i : ℕ). 2 + 2 * i) e in
+    let m : n ≤ a / fieldSize N = subst (λ (i : ℕ). n ≤ a / i) z l in
+    let p : n * fieldSize N ≤ a / fieldSize N * fieldSize N = mul-le-mul-right (fieldSize N) m in
     record {
-      says = rw (le-leb N 180 h, eq-eqb f (size N) (d ∙ z), le-leb 2 n k, le-leb n (a / size N) m, e);
+      says = rw (le-leb N 180 h, eq-eqb f (fieldSize N) (d ∙ z), le-leb 2 n k, le-leb n (a / fieldSize N) m, e);
       degree = λ x. h;
       static = λ x. d ∙ z;
       count = λ x. k;
-      fields = λ x. le-trans p (div-mul-le-self a (size N));
+      fields = λ x. le-trans p (div-mul-le-self a (fieldSize N));
       room = λ x. leb-true (2 * tri (N + 1)) o (ap (λ (i : ℕ). leb (2 * i) o) (sym e) ∙ x);
     }
 

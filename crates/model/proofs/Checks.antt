@@ -1,28 +1,29 @@
 -- Laws of the tests that come before the work, and of what the calls answer. Assumes nothing.
 use mathlib.Core.Path.{_≡_, refl, sym, ap, ap₂, _∙_}
 use mathlib.Core.List.{List, [], _∷_}
-use mathlib.Core.Bool.{Bool, true, false, cond, not, _&&_}
+use mathlib.Core.Bool.{Bool, true, false, cond, not, _&&_, and-true}
 use Prim.Native.Nat.{ℕ, zero, suc, _+_, _≤_}
 use native.Mathlib.Omega.{arith}
 use borrow.Author.Tests.{leb-true, not-true, not-false}
 use lib.Dec.{leb}
-use lib.ListN.{length, replicate}
+use lib.ListN.{length}
 use lib.Ieee.{Float}
 use lib.Ieee.Scale.{finite}
-use Rattle.laws.specs.Floats.{zero64}
-use Rattle.laws.specs.Checks.{all, rising}
-use Rattle.laws.specs.Loops.{cleared}
+use Rattle.fields.specs.Calls.{handedTwo}
+use Rattle.laws.specs.Checks.{all, rising, degreeFine}
+use Rattle.laws.specs.Loops.{cleared, same-cleared}
 use Rattle.laws.specs.Tables.{tri, rows-length}
+use Rattle.laws.specs.Bools.{both-true}
 use Rattle.finality.specs.Brackets.{covers}
 use Rattle.slices.specs.Calls.{Left, left, handed, settled}
 use Rattle.slices.specs.declared.Outcome.{Outcome}
 use Rattle.slices.specs.declared.Outcome.the-variants.{Accepted, Refused}
 use Rattle.slices.proofs.Calls.{call-refused, call-handed}
-use Rattle.lent.specs.Lent.{degreeFine, fieldsFine, lengthsFit}
-use Rattle.lent.proofs.Passed.{both-pass, all-pass, degree-passes, Sizes, lengths-pass}
+use Rattle.lent.specs.Lent.{fieldsFine, lengthsFit}
+use Rattle.lent.proofs.Passed.{all-pass, degree-passes, Sizes, lengths-pass}
 use Rattle.model.specs.Field.{cosines, sines}
 use Rattle.model.specs.Model.{bracket, weight, addedField, blended, blendOf, kindAt}
-use Rattle.model.specs.Calls.{timesFine, coverRefusal, valuesFine, atRefusal, uncovered, handedTwo, atWork, atCall, told, coverAnswer, coverCall}
+use Rattle.model.specs.Calls.{timesFine, coverRefusal, valuesFine, atRefusal, uncovered, atWork, atCall, told, coverAnswer, coverCall}
 use Rattle.model.specs.declared.Cover.the-variants.{Covered, Uncovered, Refused as NotTold}
 
 -- one test after another
@@ -76,7 +77,7 @@ at-fits N field ts added t c s w n e z =
     let p = all-pass (degreeFine N) (fieldsFine (length ts)) (lengthsFit N (length ts) (length field) (length added) c s w) (valuesFine field added && timesFine ts t) (rising ts) (sym e ∙ z) in
     record {
       degree = degree-passes N (p .degree);
-      count = leb-true 2 (length ts) (both-pass (leb 2 (length ts)) (leb (length ts) 32) (p .counts) .0);
+      count = leb-true 2 (length ts) (both-true (leb 2 (length ts)) (leb (length ts) 32) (p .counts) .0);
       sizes = lengths-pass N (length ts) (length field) (length added) c s w (p .lengths);
     }
 
@@ -92,10 +93,6 @@ kind-is-at N start field ts added t w j out e ew ej =
 two-finite : (c s : List Float) → valuesFine c s ≡ all (all finite) (c ∷ s ∷ [])
 unfolding valuesFine
 two-finite c s = ap (λ (b : Bool). all finite c && b) (sym (and-true (all finite s)))
-  where
-    and-true : (b : Bool) → (b && true) ≡ b
-    and-true true = refl
-    and-true false = refl
 
 pub handed-fine : (c s : List Float) (b : Bool) → b ≡ valuesFine c s → b ≡ true → left Accepted (c ∷ s ∷ []) [] ≡ handedTwo c s
 handed-fine c s b e h = ap (λ (i : Bool). handed Accepted Refused i (c ∷ s ∷ []) (c ∷ s ∷ []) []) (sym h ∙ e ∙ two-finite c s)
@@ -108,15 +105,11 @@ pub both-handed : (N l : ℕ) (field ts added : List Float) (t : Float) (x : Lef
     c ≡ kindAt N 2 field ts added t → s ≡ kindAt N (2 + l) field ts added t → x ≡ handedTwo (kindAt N 2 field ts added t) (kindAt N (sines N) field ts added t)
 both-handed N l field ts added t x c s e el ec es = e ∙ ap₂ handedTwo ec (es ∙ ap (λ (i : ℕ). kindAt N (2 + i) field ts added t) el)
 
-kind-length : (N k : ℕ) (field ts added : List Float) (t : Float) → length (kindAt N k field ts added t) ≡ tri (N + 1)
+pub kind-long : (N k : ℕ) (field ts added : List Float) (t : Float) → length (kindAt N k field ts added t) ≡ tri (N + 1)
 unfolding kindAt blendOf
-kind-length N k field ts added t =
+kind-long N k field ts added t =
     rows-length (blended k (weight ts t (bracket ts t)) field (addedField N added (bracket ts t)) (addedField N added (bracket ts t + 1))) (N + 1)
 
-same-cleared : (x y : List Float) → length x ≡ length y → cleared x ≡ cleared y
-same-cleared x y e = ap (λ (n : ℕ). replicate n zero64) e
-
--- what is cleared depends on the lengths alone
 handed-over : (b : Bool) (c s c₀ s₀ : List Float) → length c ≡ length c₀ → length s ≡ length s₀ →
     handed Accepted Refused b (c ∷ s ∷ []) (c ∷ s ∷ []) [] ≡ handed Accepted Refused b (c ∷ s ∷ []) (c₀ ∷ s₀ ∷ []) []
 handed-over true c s c₀ s₀ e f = refl
@@ -129,7 +122,7 @@ at-covered N field ts added t c s x b lc ls e h ex =
     let S : List Float = kindAt N (sines N) field ts added t in
     let new : List (List Float) = C ∷ S ∷ [] in
     let ok : 0 ≡ uncovered ts t = ap (λ (i : Bool). cond i 0 6) (sym h ∙ e) in
-    ex ∙ handed-over (all (all finite) new) C S c s (kind-length N cosines field ts added t ∙ sym lc) (kind-length N (sines N) field ts added t ∙ sym ls)
+    ex ∙ handed-over (all (all finite) new) C S c s (kind-long N cosines field ts added t ∙ sym lc) (kind-long N (sines N) field ts added t ∙ sym ls)
     ∙ call-handed Accepted Refused new (c ∷ s ∷ []) [] (all (all finite) new) 0 (uncovered ts t) refl ok refl
 
 pub at-uncovered : (N : ℕ) (field ts added : List Float) (t : Float) (c s c' s' : List Float) (b : Bool) → b ≡ covers ts t → b ≡ false →

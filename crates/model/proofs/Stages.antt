@@ -9,10 +9,11 @@ use native.Mathlib.Omega.{arith}
 use lib.ListN.{length, take, drop, getD, length-append, length-drop}
 use lib.Seq.{drop-drop, drop-append-le, take-append-le}
 use lib.Ieee.{Float, nan, le}
+use Rattle.lent.specs.Lent.{fieldSize}
 use Rattle.laws.specs.Tables.{row, rows, row-length, rows-length}
 use Rattle.finality.specs.Stages.{timeOf}
 use Rattle.finality.specs.Brackets.{bracketed}
-use Rattle.model.specs.Field.{cosines, sines, size}
+use Rattle.model.specs.Field.{cosines, sines}
 use Rattle.model.specs.Model.{bracket, share, weight, mix, combined, blended, blendOf, addedField, kindAt, fieldAt}
 use Rattle.model.specs.Stages.{combinedField, mixed, blendFields, timed}
 use Rattle.model.proofs.Times.{bracket-room}
@@ -42,33 +43,33 @@ combine N field f = (f .0, combinedField N field (f .1))
 pub timed-length : (N : ℕ) (ts added : List Float) → length (timed N ts added) ≡ length ts
 unfolding timed
 timed-length N [] added = refl
-timed-length N (t ∷ ts) added = ap suc (timed-length N ts (drop (size N) added))
+timed-length N (t ∷ ts) added = ap suc (timed-length N ts (drop (fieldSize N) added))
 
 -- their times are the list of times
 pub timed-times : (N : ℕ) (ts added : List Float) → map timeOf (timed N ts added) ≡ ts
 unfolding timed
 timed-times N [] added = refl
-timed-times N (t ∷ ts) added = ap (λ (l : List Float). t ∷ l) (timed-times N ts (drop (size N) added))
+timed-times N (t ∷ ts) added = ap (λ (l : List Float). t ∷ l) (timed-times N ts (drop (fieldSize N) added))
 
 timed-at : (N : ℕ) (ts added : List Float) (j : ℕ) (d : Float × List Float) → j < length ts → getD (timed N ts added) j d ≡ (getD ts j nan, addedField N added j)
 unfolding timed
 timed-at N [] added j d h = absurd (omega arith)
-timed-at N (t ∷ ts) added zero d h = ap (λ (i : ℕ). (t, take (size N) (drop i added))) (sym (zero-mul (size N)))
+timed-at N (t ∷ ts) added zero d h = ap (λ (i : ℕ). (t, take (fieldSize N) (drop i added))) (sym (zero-mul (fieldSize N)))
 timed-at N (t ∷ ts) added (suc j) d h =
-    let e : size N + j * size N ≡ suc j * size N = add-comm (size N) (j * size N) ∙ sym (suc-mul j (size N)) in
-    timed-at N ts (drop (size N) added) j d (le-of-suc-le-suc h)
-    ∙ ap (λ (l : List Float). (getD ts j nan, take (size N) l)) (drop-drop (j * size N) (size N) added ∙ ap (λ (i : ℕ). drop i added) e)
+    let e : fieldSize N + j * fieldSize N ≡ suc j * fieldSize N = add-comm (fieldSize N) (j * fieldSize N) ∙ sym (suc-mul j (fieldSize N)) in
+    timed-at N ts (drop (fieldSize N) added) j d (le-of-suc-le-suc h)
+    ∙ ap (λ (l : List Float). (getD ts j nan, take (fieldSize N) l)) (drop-drop (j * fieldSize N) (fieldSize N) added ∙ ap (λ (i : ℕ). drop i added) e)
 
 -- appended fields, where the first are whole
-pub timed-append : (N : ℕ) (ts us fs gs : List Float) → length fs ≡ length ts * size N → timed N (ts ++ us) (fs ++ gs) ≡ timed N ts fs ++ timed N us gs
+pub timed-append : (N : ℕ) (ts us fs gs : List Float) → length fs ≡ length ts * fieldSize N → timed N (ts ++ us) (fs ++ gs) ≡ timed N ts fs ++ timed N us gs
 unfolding timed
 timed-append N [] us [] gs h = refl
-timed-append N [] us (f ∷ fs) gs h = absurd (let z = zero-mul (size N) in omega arith)
+timed-append N [] us (f ∷ fs) gs h = absurd (let z = zero-mul (fieldSize N) in omega arith)
 timed-append N (t ∷ ts) us fs gs h =
-    let m : suc (length ts) * size N ≡ length ts * size N + size N = suc-mul (length ts) (size N) in
-    let l = length-drop (size N) fs in
-    ap₂ (λ (x : List Float) (y : List (Float × List Float)). (t, x) ∷ y) (take-append-le (size N) fs gs (omega arith))
-    (ap (timed N (ts ++ us)) (drop-append-le (size N) fs gs (omega arith)) ∙ timed-append N ts us (drop (size N) fs) gs (omega arith))
+    let m : suc (length ts) * fieldSize N ≡ length ts * fieldSize N + fieldSize N = suc-mul (length ts) (fieldSize N) in
+    let l = length-drop (fieldSize N) fs in
+    ap₂ (λ (x : List Float) (y : List (Float × List Float)). (t, x) ∷ y) (take-append-le (fieldSize N) fs gs (omega arith))
+    (ap (timed N (ts ++ us)) (drop-append-le (fieldSize N) fs gs (omega arith)) ∙ timed-append N ts us (drop (fieldSize N) fs) gs (omega arith))
 
 mapped-at : {A B : Type 0} (f : A → B) (xs : List A) (i : ℕ) (d : A) → getD (map f xs) i (f d) ≡ f (getD xs i d)
 mapped-at f [] i d = refl

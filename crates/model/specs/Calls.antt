@@ -9,14 +9,14 @@ use lib.ListN.{length, drop}
 use lib.Ieee.{Float, le}
 use lib.Ieee.Scale.{finite}
 use Rattle.laws.specs.Floats.{zero64, one64}
-use Rattle.laws.specs.Checks.{all, isTime, rising}
+use Rattle.laws.specs.Checks.{all, isTime, rising, degreeFine}
 use Rattle.laws.specs.Tables.{tri}
 use Rattle.finality.specs.Brackets.{covers}
-use Rattle.slices.specs.Calls.{firstFailed, Left, handed, settled}
+use Rattle.slices.specs.Calls.{firstFailed, Left, settled}
 use Rattle.slices.specs.declared.Outcome.{Outcome}
 use Rattle.slices.specs.declared.Outcome.the-variants.{Accepted, Refused}
-use Rattle.lent.specs.Lent.{firstOf, degreeFine, fieldsFine, lengthsFit}
-use Rattle.model.specs.Field.{cosines, sines, size}
+use Rattle.lent.specs.Lent.{firstOf, fieldsFine, lengthsFit, fieldSize}
+use Rattle.model.specs.Field.{cosines, sines}
 use Rattle.model.specs.Model.{bracket, weight, kindAt, fieldAt}
 use Rattle.model.specs.declared.Cover.{Cover}
 use Rattle.model.specs.declared.Cover.the-variants.{Covered, Uncovered, Refused as NotTold}
@@ -44,15 +44,15 @@ pub record Weighed (times : List Float) (t : Float) (j : ℕ) (r : Float) : Type
 -- the lengths are those of degree N, there are two times or more and a field for each, and `out` has room
 unfoldable pub atFits : ℕ → ℕ → ℕ → ℕ → ℕ → Bool
 atFits N field times added out =
-    leb N 180 && eqb field (size N) && leb 2 times && leb times (added / size N) && leb (2 * tri (N + 1)) out
+    leb N 180 && eqb field (fieldSize N) && leb 2 times && leb times (added / fieldSize N) && leb (2 * tri (N + 1)) out
 
 -- the guard's answer, and what holds where it is true
 pub record AtRoom (N field times added out : ℕ) (r : Bool) : Type 0 where
   pub says : r ≡ atFits N field times added out
   pub degree : r ≡ true → N ≤ 180
-  pub static : r ≡ true → field ≡ size N
+  pub static : r ≡ true → field ≡ fieldSize N
   pub count : r ≡ true → 2 ≤ times
-  pub fields : r ≡ true → times * size N ≤ added
+  pub fields : r ≡ true → times * fieldSize N ≤ added
   pub room : r ≡ true → 2 * tri (N + 1) ≤ out
 
 -- what is left in `out`: the field at t, and what stood behind it; all as it was where the lengths do not fit
@@ -80,10 +80,6 @@ atRefusal N field times added t c s scratch =
 -- 6 at an uncovered time
 abbrev pub uncovered : List Float → Float → ℕ
 uncovered times t = cond (covers times t) 0 6
-
--- two lists to be handed out
-abbrev pub handedTwo : List Float → List Float → Left Outcome
-handedTwo c s = handed Accepted Refused (all (all finite) (c ∷ s ∷ [])) (c ∷ s ∷ []) (c ∷ s ∷ []) []
 
 -- what `at` does once nothing is refused by 1 to 5, scratch apart
 abbrev pub atWork : ℕ → List Float → List Float → List Float → Float → List Float → List Float → Left Outcome

@@ -12,15 +12,12 @@ gm field = getD field 0 nan
 abbrev pub radius : List Float → Float
 radius field = getD field 1 nan
 
--- where each kind of coefficient begins, and how many numbers a field has
+-- where each kind of coefficient begins; how many numbers a field has is `fieldSize` of crate `lent`
 abbrev pub cosines : ℕ
 cosines = 2
 
 abbrev pub sines : ℕ → ℕ
 sines N = 2 + tri (N + 1)
-
-abbrev pub size : ℕ → ℕ
-size N = 2 + 2 * tri (N + 1)
 
 -- the coefficient of degree n and order m, of the kind that begins at k
 abbrev pub coefficient : ℕ → List Float → ℕ → ℕ → Float

@@ -5,10 +5,11 @@ use mathlib.Core.List.{List, [], _∷_, _++_}
 use lib.Dec.{ltb}
 use lib.ListN.{take, drop, getD}
 use lib.Ieee.{Float, nan, le}
+use Rattle.lent.specs.Lent.{fieldSize}
 use Rattle.laws.specs.Floats.{_⊕_, _⊖_, _⊗_, _⊘_, one64}
 use Rattle.laws.specs.Tables.{rows}
 use Rattle.fields.specs.Rescaled.{rescaledAt}
-use Rattle.model.specs.Field.{gm, radius, cosines, sines, size, coefficient}
+use Rattle.model.specs.Field.{gm, radius, cosines, sines, coefficient}
 
 -- ---- the bracket of t and the weight
 
@@ -31,7 +32,7 @@ weight times t j = share (getD times j nan) (getD times (j + 1) nan) t
 
 -- added field j of fields of degree N that stand end to end
 abbrev pub addedField : ℕ → List Float → ℕ → List Float
-addedField N added j = take (size N) (drop (j * size N) added)
+addedField N added j = take (fieldSize N) (drop (j * fieldSize N) added)
 
 -- the static field with an added one, in the static field's GM and radius: added from degree 2 on
 unfoldable pub combined : ℕ → List Float → List Float → ℕ → ℕ → Float

@@ -3,8 +3,9 @@ use Prim.Native.Nat.{ℕ, _+_}
 use mathlib.Core.List.{List, [], _∷_, _++_}
 use lib.ListN.{take, drop}
 use lib.Ieee.{Float}
+use Rattle.lent.specs.Lent.{fieldSize}
 use Rattle.laws.specs.Tables.{rows}
-use Rattle.model.specs.Field.{cosines, sines, size}
+use Rattle.model.specs.Field.{cosines, sines}
 use Rattle.model.specs.Model.{share, mix, combined}
 
 -- a static field with an added one: the cosine coefficients and then the sine coefficients
@@ -24,4 +25,4 @@ blendFields a b t = mixed (share (a .0) (b .0) t) (a .1) (b .1)
 -- the times, each with its added field of those that stand end to end
 unfoldable pub timed : ℕ → List Float → List Float → List (Float × List Float)
 timed N [] added = []
-timed N (t ∷ times) added = (t, take (size N) added) ∷ timed N times (drop (size N) added)
+timed N (t ∷ times) added = (t, take (fieldSize N) added) ∷ timed N times (drop (fieldSize N) added)

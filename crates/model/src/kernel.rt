@@ -6,7 +6,8 @@ ghost use lib.ListN.{length, take, drop, getD};
 ghost use lib.Ieee.{nan};
 ghost use Rattle.laws.specs.Tables.{tri, row, rows};
 ghost use Rattle.finality.specs.Brackets.{covers as coversOf};
-ghost use Rattle.model.specs.Field.{cosines, sines, size as sizeOf};
+ghost use Rattle.lent.specs.Lent.{fieldSize};
+ghost use Rattle.model.specs.Field.{cosines, sines};
 ghost use Rattle.model.specs.Model.{bracket as bracketOf, blended, blendOf, fieldAt};
 ghost use Rattle.model.specs.Calls.{Weighed, AtRoom, atLeft};
 
@@ -158,7 +159,7 @@ pub(crate) fn blend_kind(
     j: usize,
     out: &mut [f64],
 )
-    requires { ⌜ (degree ≤ 180) × (2 ≤ start) × (start ≤ sines degree) × (length (now field) ≡ sizeOf degree) × ((j + 2) * sizeOf degree ≤ length (now added)) × (length (now out) ≡ tri (degree + 1)) ⌝ }
+    requires { ⌜ (degree ≤ 180) × (2 ≤ start) × (start ≤ sines degree) × (length (now field) ≡ fieldSize degree) × ((j + 2) * fieldSize degree ≤ length (now added)) × (length (now out) ≡ tri (degree + 1)) ⌝ }
     ensures { λ _. ⌜ now (out .exit) ≡ blendOf degree start (now (field .entry)) (now (added .entry)) w j ⌝ }
 {
     let size = 2 + 2 * places(degree);
@@ -197,7 +198,7 @@ fn at_fits(degree: usize, field: usize, times: usize, added: usize, out: usize) 
 }
 
 fn blend_both(degree: usize, field: &[f64], added: &[f64], w: f64, j: usize, out: &mut [f64])
-    requires { ⌜ (degree ≤ 180) × (length (now field) ≡ sizeOf degree) × ((j + 2) * sizeOf degree ≤ length (now added)) × (2 * tri (degree + 1) ≤ length (now out)) ⌝ }
+    requires { ⌜ (degree ≤ 180) × (length (now field) ≡ fieldSize degree) × ((j + 2) * fieldSize degree ≤ length (now added)) × (2 * tri (degree + 1) ≤ length (now out)) ⌝ }
     ensures { λ _. ⌜ now (out .exit) ≡ (blendOf degree cosines (now (field .entry)) (now (added .entry)) w j ++ blendOf degree (sines degree) (now (field .entry)) (now (added .entry)) w j) ++ drop (2 * tri (degree + 1)) (now (out .entry)) ⌝ }
 {
     let l = places(degree);
@@ -207,7 +208,7 @@ fn blend_both(degree: usize, field: &[f64], added: &[f64], w: f64, j: usize, out
 }
 
 fn field_at(degree: usize, field: &[f64], times: &[f64], added: &[f64], t: f64, out: &mut [f64])
-    requires { ⌜ (degree ≤ 180) × (length (now field) ≡ sizeOf degree) × (2 ≤ length (now times)) × (length (now times) * sizeOf degree ≤ length (now added)) × (2 * tri (degree + 1) ≤ length (now out)) ⌝ }
+    requires { ⌜ (degree ≤ 180) × (length (now field) ≡ fieldSize degree) × (2 ≤ length (now times)) × (length (now times) * fieldSize degree ≤ length (now added)) × (2 * tri (degree + 1) ≤ length (now out)) ⌝ }
     ensures { λ _. ⌜ now (out .exit) ≡ fieldAt degree (now (field .entry)) (now (times .entry)) (now (added .entry)) t ++ drop (2 * tri (degree + 1)) (now (out .entry)) ⌝ }
 {
     let j = bracket(times, t);

@@ -7,9 +7,11 @@ ghost use Prim.Native.Nat.{ℕ, _+_, _*_, _-_, _≤_, _<_};
 ghost use lib.ListN.{length};
 ghost use Rattle.laws.specs.Tables.{tri};
 ghost use Rattle.slices.specs.Calls.{left};
-ghost use Rattle.model.specs.Field.{sines as sinesFrom, size};
+ghost use Rattle.lent.specs.Lent.{fieldSize};
+ghost use Rattle.model.specs.Field.{sines as sinesFrom};
 ghost use Rattle.model.specs.Model.{kindAt};
-ghost use Rattle.model.specs.Calls.{timesFine, coverRefusal, coverCall, valuesFine, atRefusal, handedTwo, atWork, atCall};
+ghost use Rattle.model.specs.Calls.{timesFine, coverRefusal, coverCall, valuesFine, atRefusal, atWork, atCall};
+ghost use Rattle.fields.specs.Calls.{handedTwo};
 use fields;
 use slices;
 
@@ -100,7 +102,7 @@ fn kind_at(
     t: f64,
     out: &mut [f64],
 )
-    requires { ⌜ (degree ≤ 180) × (2 ≤ start) × (start ≤ sinesFrom degree) × (length (now field) ≡ size degree) × (2 ≤ length (now times)) × (length (now added) ≡ length (now times) * size degree) × (length (now out) ≡ tri (degree + 1)) ⌝ }
+    requires { ⌜ (degree ≤ 180) × (2 ≤ start) × (start ≤ sinesFrom degree) × (length (now field) ≡ fieldSize degree) × (2 ≤ length (now times)) × (length (now added) ≡ length (now times) * fieldSize degree) × (length (now out) ≡ tri (degree + 1)) ⌝ }
     ensures { λ _. ⌜ now (out .exit) ≡ kindAt degree start (now (field .entry)) (now (times .entry)) (now (added .entry)) t ⌝ }
 {
     let j = kernel::bracket(times, t);
@@ -129,7 +131,7 @@ fn both_at(
     cosines: &mut [f64],
     sines: &mut [f64],
 ) -> slices::Outcome
-    requires { ⌜ (degree ≤ 180) × (length (now field) ≡ size degree) × (2 ≤ length (now times)) × (length (now added) ≡ length (now times) * size degree) × (length (now cosines) ≡ tri (degree + 1)) × (length (now sines) ≡ tri (degree + 1)) ⌝ }
+    requires { ⌜ (degree ≤ 180) × (length (now field) ≡ fieldSize degree) × (2 ≤ length (now times)) × (length (now added) ≡ length (now times) * fieldSize degree) × (length (now cosines) ≡ tri (degree + 1)) × (length (now sines) ≡ tri (degree + 1)) ⌝ }
     ensures { λ r. ⌜ left r (now (cosines .exit) ∷ now (sines .exit) ∷ []) [] ≡ handedTwo (kindAt degree 2 (now (field .entry)) (now (times .entry)) (now (added .entry)) t) (kindAt degree (sinesFrom degree) (now (field .entry)) (now (times .entry)) (now (added .entry)) t) ⌝ }
 {
     kind_at(degree, 2, field, times, added, t, cosines);
@@ -147,7 +149,7 @@ fn work(
     cosines: &mut [f64],
     sines: &mut [f64],
 ) -> slices::Outcome
-    requires { ⌜ (degree ≤ 180) × (length (now field) ≡ size degree) × (2 ≤ length (now times)) × (length (now added) ≡ length (now times) * size degree) × (length (now cosines) ≡ tri (degree + 1)) × (length (now sines) ≡ tri (degree + 1)) ⌝ }
+    requires { ⌜ (degree ≤ 180) × (length (now field) ≡ fieldSize degree) × (2 ≤ length (now times)) × (length (now added) ≡ length (now times) * fieldSize degree) × (length (now cosines) ≡ tri (degree + 1)) × (length (now sines) ≡ tri (degree + 1)) ⌝ }
     ensures { λ r. ⌜ left r (now (cosines .exit) ∷ now (sines .exit) ∷ []) [] ≡ atWork degree (now (field .entry)) (now (times .entry)) (now (added .entry)) t (now (cosines .entry)) (now (sines .entry)) ⌝ }
 {
     if kernel::covers(times, t) {

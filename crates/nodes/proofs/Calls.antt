@@ -1,6 +1,6 @@
 -- Laws of the public call. Assumes nothing.
 use mathlib.Core.Path.{_≡_, refl, sym, ap, _∙_}
-use mathlib.Core.List.{List, [], _∷_, _++_}
+use mathlib.Core.List.{List, [], _∷_}
 use mathlib.Core.Bool.{Bool, true, false, cond}
 use Prim.Native.Nat.{ℕ, _-_, _*_}
 use lib.Dec.{leb, eqb}
@@ -8,9 +8,8 @@ use borrow.Author.Tests.{eqb-true}
 use lib.IntN.{ℤ}
 use lib.Ieee.{Float}
 use lib.Ieee.Scale.{finite}
-use lib.ListN.{length, replicate}
+use lib.ListN.{length}
 use Rattle.laws.specs.Checks.{all, isKey, risingSeconds}
-use Rattle.laws.specs.Floats.{zero64}
 use Rattle.laws.specs.Loops.{cleared}
 use Rattle.slices.specs.Calls.{left, settled}
 use Rattle.slices.specs.declared.Counted.the-variants.{Counted, Refused}
@@ -47,15 +46,12 @@ module _ (n g : ℕ) (ks : List ℤ) (st o : List Float) (e : n ≡ g) where
   pub call-refused : (n ≡ 0 → ⊥) → left (Refused n) (o ∷ []) [] ≡ settled (Counted (length Nodes)) Refused g 0 (nodesLeft ks st ∷ []) (o ∷ []) []
   call-refused h = one-refused (Counted (length Nodes)) Refused (nodesLeft ks st) o [] n g e h
 
-  left-is : (c : ℕ) (y : List Float) → NodesIn ks st c y → y ≡ nodesLeft ks st
-  left-is c y d = d .held ∙ ap (λ (k : ℕ). nodesOf ks st ++ replicate (length ks - k) zero64) (d .counted)
-
   pub call-found : (c : ℕ) (y : List Float) (b : Bool) → n ≡ 0 → NodesIn ks st c y → b ≡ all finite y → b ≡ true →
       left (Counted c) (y ∷ []) [] ≡ settled (Counted (length Nodes)) Refused g 0 (nodesLeft ks st ∷ []) (o ∷ []) []
   call-found c y b h d eb f =
       ap (λ (k : ℕ). left (Counted k) (y ∷ []) []) (d .counted)
-      ∙ one-accepted (Counted (length Nodes)) Refused (nodesLeft ks st) o [] n g e y [] [] b h (left-is c y d) refl refl eb f
+      ∙ one-accepted (Counted (length Nodes)) Refused (nodesLeft ks st) o [] n g e y [] [] b h (d .held) refl refl eb f
 
   pub call-unfit : (c : ℕ) (y y' o' : List Float) (b : Bool) → n ≡ 0 → NodesIn ks st c y → b ≡ all finite y → b ≡ false → y' ≡ cleared o' → length o' ≡ length o →
       left (Refused 10) (y' ∷ []) [] ≡ settled (Counted (length Nodes)) Refused g 0 (nodesLeft ks st ∷ []) (o ∷ []) []
-  call-unfit c y y' o' b h d eb f ey l = one-unfit (Counted (length Nodes)) Refused (nodesLeft ks st) o [] n g e y y' [] o' [] b h (left-is c y d) ey l refl refl eb f
+  call-unfit c y y' o' b h d eb f ey l = one-unfit (Counted (length Nodes)) Refused (nodesLeft ks st) o [] n g e y y' [] o' [] b h (d .held) ey l refl refl eb f

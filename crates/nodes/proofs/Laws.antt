@@ -1,15 +1,15 @@
 -- Laws of the ascending nodes. Assumes nothing.
 use mathlib.Core.Path.{_≡_, refl, sym, ap, _∙_}
-use mathlib.Core.List.{List, [], _∷_, _++_, append-assoc, append-nil}
+use mathlib.Core.List.{List, [], _∷_, _++_, append-nil}
 use mathlib.Core.Bool.{Bool, true, false, cond}
-use Prim.Native.Nat.{ℕ, zero, suc, _+_, _-_, _*_, _<_, _≤_}
+use Prim.Native.Nat.{ℕ, zero, _+_, _-_, _*_, _<_, _≤_}
 use native.Mathlib.Numerals.{add-one}
 use native.Mathlib.Omega.{arith}
 use lib.IntN.{ℤ}
 use lib.Ieee.{Float, nan, lt, le, eq}
 use lib.ListN.{length, set, replicate, length-append}
-use lib.Seq.{set-at}
 use Rattle.laws.specs.Floats.{_⊖_, _⊕_, _⊘_, zero64, one64}
+use Rattle.laws.specs.Loops.{filledUp, filled-none, filled-set}
 use Rattle.nodes.specs.Nodes.{secondAt, heightAt, risesOf, crossesAt, crossingAt, nodesTo, nodesOf, NodesIn}
 
 pub apart-yes : (ks : List ℤ) (st : List Float) (k : ℕ) (t0 t1 z0 z1 : Float) (r : Bool) → t0 ≡ secondAt ks k → t1 ≡ secondAt ks (k + 1) → eq (t1 ⊖ t0) one64 ≡ true →
@@ -39,21 +39,18 @@ nodes-no : (ks : List ℤ) (st : List Float) (k : ℕ) → crossesAt ks st k ≡
 unfolding nodesTo
 nodes-no ks st k e = rw add-one (simp e (append-nil (nodesTo ks st k)))
 
-replicate-step : (n i : ℕ) → i < n → replicate (n - i) zero64 ≡ zero64 ∷ replicate (n - (i + 1)) zero64
-replicate-step n i h = let e : n - i ≡ suc (n - (i + 1)) = omega arith in rw e
-
 -- the state of the loop after k pairs
 pub record Upto (ks : List ℤ) (st : List Float) (k count : ℕ) (out : List Float) : Type 0 where
   pub few : count ≤ k
   pub counted : count ≡ length (nodesTo ks st k)
-  pub held : out ≡ nodesTo ks st k ++ replicate (length ks - count) zero64
+  pub held : out ≡ filledUp zero64 (length ks) (nodesTo ks st k)
 
 pub upto-none : (ks : List ℤ) (st out out₀ : List Float) → length out₀ ≡ length ks → out ≡ replicate (length out₀) zero64 → Upto ks st 0 0 out
 unfolding nodesTo
 upto-none ks st out out₀ l e = record {
   few = omega arith;
   counted = refl;
-  held = let z : length out₀ ≡ length ks - 0 = omega arith in e ∙ ap (λ (n : ℕ). replicate n zero64) z;
+  held = e ∙ filled-none zero64 (length out₀) (length ks) l;
 }
 
 pub upto-yes : (ks : List ℤ) (st : List Float) (k count : ℕ) (out : List Float) (b : Bool) (v : Float) → k + 1 < length ks → Upto ks st k count out → b ≡ crossesAt ks st k → b ≡ true →
@@ -66,11 +63,8 @@ upto-yes ks st k count out b v h u eb q ev =
       few = omega (arith, u .few);
       counted = omega (arith, u .counted, ap length n, length-append l (crossingAt ks st k ∷ []));
       held =
-          ap (λ (x : List Float). set x count v) (u .held ∙ ap (λ (x : List Float). l ++ x) (replicate-step (length ks) count c))
-          ∙ set-at l zero64 (replicate (length ks - (count + 1)) zero64) v count (sym (u .counted))
-          ∙ ap (λ (x : Float). l ++ (x ∷ replicate (length ks - (count + 1)) zero64)) ev
-          ∙ sym (append-assoc l (crossingAt ks st k ∷ []) (replicate (length ks - (count + 1)) zero64))
-          ∙ ap (λ (x : List Float). x ++ replicate (length ks - (count + 1)) zero64) (sym n);
+          ap (λ (x : List Float). set x count v) (u .held) ∙ filled-set zero64 v (length ks) count l (u .counted) c
+          ∙ ap (λ (x : Float). filledUp zero64 (length ks) (l ++ (x ∷ []))) ev ∙ ap (filledUp zero64 (length ks)) (sym n);
     }
 
 pub upto-no : (ks : List ℤ) (st : List Float) (k count : ℕ) (out : List Float) (b : Bool) → Upto ks st k count out → b ≡ crossesAt ks st k → b ≡ false → Upto ks st (k + 1) count out
@@ -79,7 +73,7 @@ upto-no ks st k count out b u eb q =
     record {
       few = omega (arith, u .few);
       counted = u .counted ∙ sym (ap length n);
-      held = u .held ∙ ap (λ (x : List Float). x ++ replicate (length ks - count) zero64) (sym n);
+      held = u .held ∙ ap (filledUp zero64 (length ks)) (sym n);
     }
 
 pub upto-all : (ks : List ℤ) (st : List Float) (k count : ℕ) (out : List Float) → length ks ≤ k + 1 → k ≤ length ks - 1 → Upto ks st k count out → NodesIn ks st count out
@@ -88,7 +82,7 @@ upto-all ks st k count out h l u =
     let e : k ≡ length ks - 1 = omega arith in
     record {
       counted = u .counted ∙ ap (λ (j : ℕ). length (nodesTo ks st j)) e;
-      held = u .held ∙ ap (λ (j : ℕ). nodesTo ks st j ++ replicate (length ks - count) zero64) e;
+      held = u .held ∙ ap (λ (j : ℕ). filledUp zero64 (length ks) (nodesTo ks st j)) e;
     }
 
 pub upto-room : (ks : List ℤ) (st : List Float) (k count : ℕ) (out : List Float) → k + 1 < length ks → Upto ks st k count out → count < length ks

@@ -5,9 +5,10 @@ use mathlib.Core.Bool.{Bool, true, false, cond}
 use mathlib.Core.List.{List, [], _∷_, _++_}
 use lib.IntN.{ℤ, pos}
 use lib.Ieee.{Float, nan, lt, le, eq}
-use lib.ListN.{length, getD, replicate}
+use lib.ListN.{length, getD}
 use Rattle.laws.specs.Floats.{_⊕_, _⊖_, _⊘_, zero64, one64}
 use Rattle.laws.specs.Times.{secondTime}
+use Rattle.laws.specs.Loops.{filledUp}
 
 -- key k as a time; exact, as keys go up to 2^31
 abbrev pub secondAt : List ℤ → ℕ → Float
@@ -40,4 +41,4 @@ nodesOf ks st = nodesTo ks st (length ks - 1)
 -- the nodes, +0.0 after the last, and their count
 pub record NodesIn (ks : List ℤ) (st : List Float) (count : ℕ) (out : List Float) : Type 0 where
   pub counted : count ≡ length (nodesOf ks st)
-  pub held : out ≡ nodesOf ks st ++ replicate (length ks - count) zero64
+  pub held : out ≡ filledUp zero64 (length ks) (nodesOf ks st)

@@ -1,7 +1,7 @@
 -- x / (pi / 2) for a magnitude of x that does not exceed 2^20: the quotient does not exceed it either, and twice the quotient is exact.
 -- So the whole part of twice the quotient, with one added, halves to the nearest whole number, a half away from zero. Assumes nothing.
 use mathlib.Core.Path.{_≡_, refl, sym, ap, _∙_, subst}
-use mathlib.Core.Bool.{Bool, true, false, cond, not, _&&_, _||_, Bool·beq, true≢false}
+use mathlib.Core.Bool.{Bool, true, false, cond, not, _&&_, _||_, true≢false}
 use Prim.Native.Nat.{ℕ, zero, suc, _+_, _-_, _*_, _/_, _%_, _^_, _≤_, _<_}
 use native.Mathlib.Nat.{le-of-lt, le-of-eq, le-trans, lt-of-le-of-lt, mul-assoc, mul-comm, mul-left-comm, mul-right-comm, mul-one, one-mul, mul-pos, mul-le-mul-right, le-of-mul-le-mul-right, add-div-right, div-div-eq-div-mul, min-eq-left, div-le-of-le-mul, add-mul}
 use native.Mathlib.Omega.{arith}
@@ -15,7 +15,10 @@ use lib.Ieee.Fits.{round-is, round-fits, up-pos, down-pos, and-l, and-r}
 use lib.Ieee.Nearest.{div-same}
 use lib.Ieee.Order.{round-mono, kept, drop}
 use lib.Ieee.Scale.{grid, overflow, round-val}
+use Rattle.numbers.proofs.Signs.{mag-neg}
 use Rattle.laws.specs.Floats.{_⊕_, _⊘_}
+use Rattle.laws.specs.Lists.{or-l}
+use Rattle.laws.specs.SameBits.{same-sign}
 use Rattle.numbers.specs.Numbers.{near, halfPi, halfUp, rounded, halved}
 
 -- ---- what a comparison says of the fractions
@@ -149,10 +152,6 @@ fits-low s (suc m) e t =
 
 -- ---- twice a value is exact
 
-same-sign : (s : Bool) → Bool·beq s s ≡ true
-same-sign true = refl
-same-sign false = refl
-
 doubled : (s : Bool) (m : ℕ) (e : ℤ) → fin s m e ⊕ fin s m e ≡ round binary64 s (m * up e * down e + m * up e * down e) (down e * down e)
 unfolding add
 doubled s m e = rw (same-sign s)
@@ -210,10 +209,6 @@ cancel : (M D a c : ℕ) → 0 < c → M * c ≡ a * D → a ≤ 2097152 * c →
 cancel M D a c C h b =
     le-of-mul-le-mul-right (le-trans (le-of-eq h) (le-trans (mul-le-mul-right D b) (le-of-eq (mul-right-comm 2097152 c D)))) C
 
-or-l : (p q : Bool) → T p → T (p || q)
-or-l true q t = tt
-or-l false q t = absurd t
-
 pub record In (y : Float) : Type 0 where
   pub low-end : T (le (fin true 1 (pos 63)) y)
   pub high-end : T (lt y (fin false 1 (pos 63)))
@@ -257,10 +252,6 @@ halved-neg : (n : ℕ) → halved (negℤ (pos n)) ≡ negℤ (pos ((n + 1) / 2)
 unfolding halved
 halved-neg zero = refl
 halved-neg (suc n) = refl
-
-mag-neg : (n : ℕ) → mag (negℤ (pos n)) ≤ n
-mag-neg zero = omega arith
-mag-neg (suc n) = omega arith
 
 pub record Halves (q : Float) : Type 0 where
   pub ends-in : In (q ⊕ q)

@@ -291,45 +291,33 @@ pub fn arctangent(y: f64, x: f64) -> f64
     below(y, left(x, eighth(magnitude(y), magnitude(x))))
 }
 
-// As `eighth`, for the m and x of an arcsine. There m alone says, but for a few roundings, which way the tests of `eighth` and `angle` go,
-// and says it long before x is known; those tests then only confirm, and `eighth` does what they do not confirm.
-fn risen(m: f64, x: f64) -> f64
-    ensures { λ r. ⌜ r ≡ eighth m x ⌝ }
-{
-    if m > 0.7071067811865476 {
-        if m > x {
-            let q = x / m;
-            if m > 0.9238795325112867 {
-                if q <= BEND {
-                    return HALF_PI - (0.0 + angle_near(q));
-                }
-            } else if q > BEND {
-                return HALF_PI - (FOURTH_PI + angle_near((q - 1.0) / (q + 1.0)));
-            }
-        }
-    } else if m <= x {
-        let q = m / x;
-        if m > 0.3826834323650898 {
-            if q > BEND {
-                return FOURTH_PI + angle_near((q - 1.0) / (q + 1.0));
-            }
-        } else if q <= BEND {
-            return 0.0 + angle_near(q);
-        }
-    }
-    eighth(m, x)
-}
-
-// arctangent(v, x), where x is hardly ever below zero and v is hardly ever zero.
-fn rightward(v: f64, x: f64) -> f64
+// arctangent(v, x) for the x that arcsine has. The magnitude of v alone says, but for a few roundings, which way the tests of `eighth` and
+// `angle` go, and says it long before x is there; those tests then only confirm, and arctangent does what they do not confirm.
+fn risen(v: f64, x: f64) -> f64
     ensures { λ r. ⌜ r ≡ arctangent v x ⌝ }
 {
-    if x >= 0.0 {
-        if v > 0.0 {
-            return risen(v, x);
-        }
-        if v < 0.0 {
-            return -risen(-v, x);
+    if v != 0.0 && x >= 0.0 {
+        let m = magnitude(v);
+        if m > 0.7071067811865476 {
+            if m > x {
+                let q = x / m;
+                if m > 0.9238795325112867 {
+                    if q <= BEND {
+                        return below(v, HALF_PI - (0.0 + angle_near(q)));
+                    }
+                } else if q > BEND {
+                    return below(v, HALF_PI - (FOURTH_PI + angle_near((q - 1.0) / (q + 1.0))));
+                }
+            }
+        } else if m <= x {
+            let q = m / x;
+            if m > 0.3826834323650898 {
+                if q > BEND {
+                    return below(v, FOURTH_PI + angle_near((q - 1.0) / (q + 1.0)));
+                }
+            } else if q <= BEND {
+                return below(v, 0.0 + angle_near(q));
+            }
         }
     }
     arctangent(v, x)
@@ -341,7 +329,7 @@ pub fn arcsine(v: f64) -> f64
     if v < -1.0 || v > 1.0 {
         return 0.0 / 0.0;
     }
-    rightward(v, root::root((1.0 - v) * (1.0 + v)))
+    risen(v, root::root((1.0 - v) * (1.0 + v)))
 }
 
 // a to the n, times c: the exponent falls by halving, and at 1 the last square is left out.

@@ -10,11 +10,12 @@ use lib.Ieee.Scale.{finite}
 use lib.ListN.{length, getD, replicate}
 use borrow.Author.Tests.{leb-true, eqb-true}
 use Rattle.laws.specs.Floats.{zero64}
-use Rattle.laws.specs.Checks.{all, isTime, rising, risingSeconds}
-use Rattle.lent.specs.Lent.{degreeFine, fieldsFine, few, modelFits, leastScratch, wholeScratchFits, modelFine, keyedFine}
-use Rattle.lent.proofs.Passed.{both-pass, all-pass, degree-passes}
+use Rattle.laws.specs.Checks.{all, isTime, rising, risingSeconds, degreeFine}
+use Rattle.laws.specs.Bools.{both-true}
+use Rattle.lent.specs.Lent.{fieldsFine, few, modelFits, leastScratch, wholeScratchFits, modelFine, keyedFine, frontSize}
+use Rattle.lent.proofs.Passed.{all-pass, degree-passes}
 use Rattle.finality.specs.Brackets.{covers}
-use Rattle.integrate.specs.Force.{frontSize, fullForce}
+use Rattle.integrate.specs.Force.{fullForce}
 use Rattle.fit.specs.Fit.{stateFor}
 use Rattle.windows.specs.Windows.{Ends}
 use Rattle.windows.proofs.Filling.{ends-at}
@@ -38,14 +39,14 @@ unfolding refusal
 passes g fit h =
     let a = all-pass (degreeFine (g .model .degree)) ((fieldsFine (length (g .model .times)) && few (length (g .keys))) && leb (length (g .nodes)) 64) fit
     (modelFine (g .model .field) (g .a) (g .b) (g .model .times) (g .model .added) && (keyedFine (g .keys) (g .states) && all isTime (g .nodes))) (rising (g .model .times) && (risingSeconds (g .keys) && rising (g .nodes))) h in
-    let values = both-pass (modelFine (g .model .field) (g .a) (g .b) (g .model .times) (g .model .added)) (keyedFine (g .keys) (g .states) && all isTime (g .nodes)) (a .values) .1 in
-    let order = both-pass (rising (g .model .times)) (risingSeconds (g .keys) && rising (g .nodes)) (a .order) .1 in
+    let values = both-true (modelFine (g .model .field) (g .a) (g .b) (g .model .times) (g .model .added)) (keyedFine (g .keys) (g .states) && all isTime (g .nodes)) (a .values) .1 in
+    let order = both-true (rising (g .model .times)) (risingSeconds (g .keys) && rising (g .nodes)) (a .order) .1 in
     record {
       degree = degree-passes (g .model .degree) (a .degree);
       lengths = a .lengths;
-      times = both-pass (keyedFine (g .keys) (g .states)) (all isTime (g .nodes)) values .1;
-      keys = both-pass (risingSeconds (g .keys)) (rising (g .nodes)) order .0;
-      nodes = both-pass (risingSeconds (g .keys)) (rising (g .nodes)) order .1;
+      times = both-true (keyedFine (g .keys) (g .states)) (all isTime (g .nodes)) values .1;
+      keys = both-true (risingSeconds (g .keys)) (rising (g .nodes)) order .0;
+      nodes = both-true (risingSeconds (g .keys)) (rising (g .nodes)) order .1;
     }
 
 pub record Long (k : ℕ) (o : Outputs) : Type 0 where
@@ -56,19 +57,19 @@ pub record Long (k : ℕ) (o : Outputs) : Type 0 where
 places-pass : (n keys states rms : ℕ) → placesFit n keys states rms ≡ true → (keys ≡ 3500 * (n - 1)) × (states ≡ 6 * (3500 * (n - 1))) × (rms ≡ n - 1)
 unfolding placesFit
 places-pass n keys states rms h =
-    let a = both-pass (leb n 64) (eqb keys (3500 * (n - 1)) && (eqb states (6 * (3500 * (n - 1))) && eqb rms (n - 1))) h .1 in
-    let b = both-pass (eqb keys (3500 * (n - 1))) (eqb states (6 * (3500 * (n - 1))) && eqb rms (n - 1)) a in
-    let c = both-pass (eqb states (6 * (3500 * (n - 1)))) (eqb rms (n - 1)) (b .1) in
+    let a = both-true (leb n 64) (eqb keys (3500 * (n - 1)) && (eqb states (6 * (3500 * (n - 1))) && eqb rms (n - 1))) h .1 in
+    let b = both-true (eqb keys (3500 * (n - 1))) (eqb states (6 * (3500 * (n - 1))) && eqb rms (n - 1)) a in
+    let c = both-true (eqb states (6 * (3500 * (n - 1)))) (eqb rms (n - 1)) (b .1) in
     (eqb-true keys (3500 * (n - 1)) (b .0), eqb-true states (6 * (3500 * (n - 1))) (c .0), eqb-true rms (n - 1) (c .1))
 
 scratch-pass : (N fields n scratch : ℕ) → wholeScratchFits N fields n 0 scratch ≡ true → frontSize N + 90173 ≤ scratch
 unfolding wholeScratchFits
 scratch-pass N fields n scratch h =
     let least : ℕ = leastScratch N fields 0 + 49200 * (n - 1) in
-    let a = both-pass (leb N 180) (leb fields 32 && (leb n 64 && (leb 0 100000 && leb least scratch))) h .1 in
-    let b = both-pass (leb fields 32) (leb n 64 && (leb 0 100000 && leb least scratch)) a .1 in
-    let c = both-pass (leb n 64) (leb 0 100000 && leb least scratch) b .1 in
-    omega (arith, leb-true least scratch (both-pass (leb 0 100000) (leb least scratch) c .1))
+    let a = both-true (leb N 180) (leb fields 32 && (leb n 64 && (leb 0 100000 && leb least scratch))) h .1 in
+    let b = both-true (leb fields 32) (leb n 64 && (leb 0 100000 && leb least scratch)) a .1 in
+    let c = both-true (leb n 64) (leb 0 100000 && leb least scratch) b .1 in
+    omega (arith, leb-true least scratch (both-true (leb 0 100000) (leb least scratch) c .1))
 
 module _ (g : Given) (o : Outputs) (scratch : ℕ) (fit : Bool) (n : ℕ) (ef : fit ≡ lengthsFit g o scratch) (e : n ≡ refusal g fit) (z : n ≡ 0) where
   passed : Passed g fit
@@ -87,14 +88,14 @@ module _ (g : Given) (o : Outputs) (scratch : ℕ) (fit : Bool) (n : ℕ) (ef : 
   room = wholeScratchFits (g .model .degree) (length (g .model .times)) (length (g .nodes)) 0 scratch
 
   lengths : ((model-fits && each-fits) ≡ true) × ((places && room) ≡ true)
-  lengths = both-pass (model-fits && each-fits) (places && room) (sym ef ∙ passed .lengths)
+  lengths = both-true (model-fits && each-fits) (places && room) (sym ef ∙ passed .lengths)
 
   pub usable : Usable (g .model .degree) (g .keys) (length (g .states)) scratch
   usable = record {
     degree = passed .degree;
     rises = passed .keys;
-    each = eqb-true (length (g .states)) (6 * length (g .keys)) (both-pass model-fits each-fits (lengths .0) .1);
-    enough = scratch-pass (g .model .degree) (length (g .model .times)) (length (g .nodes)) scratch (both-pass places room (lengths .1) .1);
+    each = eqb-true (length (g .states)) (6 * length (g .keys)) (both-true model-fits each-fits (lengths .0) .1);
+    enough = scratch-pass (g .model .degree) (length (g .model .times)) (length (g .nodes)) scratch (both-true places room (lengths .1) .1);
   }
 
   pub ends : (w : ℕ) → w + 1 < length (g .nodes) → Ends (getD (g .nodes) w nan) (getD (g .nodes) (w + 1) nan)
@@ -102,7 +103,7 @@ module _ (g : Given) (o : Outputs) (scratch : ℕ) (fit : Bool) (n : ℕ) (ef : 
 
   pub long : Long (length (g .nodes) - 1) o
   long =
-      let p = places-pass (length (g .nodes)) (length (o .keys)) (length (o .states)) (length (o .rms)) (both-pass places room (lengths .1) .0) in
+      let p = places-pass (length (g .nodes)) (length (o .keys)) (length (o .states)) (length (o .rms)) (both-true places room (lengths .1) .0) in
       record { keys = p .0; states = p .1; rms = p .2 }
 
 -- the lengths of the outputs, tested apart

@@ -7,55 +7,27 @@ use native.Mathlib.Numerals.{add-one}
 use native.Mathlib.Omega.{arith}
 use lib.IntN.{ℤ, pos}
 use lib.Ieee.{Float}
-use lib.ListN.{length, take, set, replicate, length-append, length-map, length-replicate, length-set}
-use lib.Seq.{set-append-seam}
+use lib.ListN.{length, set, length-append, length-map, length-set}
 use Rattle.laws.specs.Floats.{zero64}
 use Rattle.laws.specs.Lists.{map-append}
-use Rattle.laws.specs.Loops.{fill-turn, fill-done}
-use Rattle.laws.specs.Times.{Time}
+use Rattle.laws.specs.Loops.{filledUp, filled-set}
+use Rattle.laws.specs.Times.{Time, stepTime}
+use Rattle.laws.specs.Bools.{by}
+use Rattle.laws.specs.Tables.{row}
 use Rattle.numbers.specs.Seconds.{wholeSecond}
 use Rattle.finality.specs.Tables.{Table, keyOf}
 use Rattle.finality.specs.Arcs.{inside}
-use Rattle.finality.specs.Fitting.{tab}
 use Rattle.integrate.specs.Room.{Run, Orbit, six, stateIn}
-use Rattle.integrate.specs.Steps.{timeOf}
 use Rattle.integrate.specs.declared.kernel.State.{State}
-use Rattle.integrate.proofs.Places.{by}
 use Rattle.windows.specs.Slots.{within, keptIf}
 use Rattle.windows.proofs.Shelves.{keptTo, keptCount, kept-inside, state-read, few}
 use Rattle.orbits.specs.Orbits.{numbersOf}
-use Rattle.orbits.specs.Calls.{padded}
 use Rattle.orbits.specs.Work.{putSix, readRun, Kept, Tabled, Joins}
-
--- ---- clearing a list of keys
-
-pub zeros-turn : (a a₀ : List ℤ) (i : ℕ) → length a ≡ length a₀ → i < length a → take i a ++ replicate (length a₀ - i) (pos 0) ≡ replicate (length a₀) (pos 0) →
-    take (i + 1) (set a i (pos 0)) ++ replicate (length a₀ - (i + 1)) (pos 0) ≡ replicate (length a₀) (pos 0)
-zeros-turn a a₀ i l h inv =
-    let e : length a₀ - i ≡ suc (length a₀ - (i + 1)) = omega arith in
-    fill-turn a _ (replicate (length a₀ - (i + 1)) (pos 0)) _ i (pos 0) h inv (rw e)
-
-pub zeros-done : (a a₀ : List ℤ) (i : ℕ) → length a ≡ length a₀ → length a ≤ i → take i a ++ replicate (length a₀ - i) (pos 0) ≡ replicate (length a₀) (pos 0) → a ≡ replicate (length a₀) (pos 0)
-zeros-done a a₀ i l h inv =
-    let e : length a₀ - i ≡ 0 = omega arith in
-    fill-done a _ _ i h (ap (λ (k : ℕ). replicate k (pos 0)) e) inv
 
 -- ---- lists filled up
 
--- one more at the place after the last
-pub padded-set : {A : Type 0} (z v : A) (m : ℕ) (xs : List A) (n : ℕ) → n ≡ length xs → n < m → set (padded z m xs) n v ≡ padded z m (xs ++ (v ∷ []))
-padded-set {A} z v m xs n en h =
-    let r : ℕ = m - suc (length xs) in
-    let e : m - length xs ≡ suc r = omega arith in
-    let g : m - length (xs ++ (v ∷ [])) ≡ r = omega (arith, length-append xs (v ∷ [])) in
-    ap (λ (k : ℕ). set (padded z m xs) k v) en ∙ ap (λ (k : ℕ). set (xs ++ replicate k z) (length xs) v) e ∙ set-append-seam xs z (replicate r z) v
-    ∙ sym (ap (λ (k : ℕ). (xs ++ (v ∷ [])) ++ replicate k z) g ∙ append-assoc xs (v ∷ []) (replicate r z))
-
-pub padded-length : {A : Type 0} (z : A) (m : ℕ) (xs : List A) → length xs ≤ m → length (padded z m xs) ≡ m
-padded-length z m xs h = length-append xs (replicate (m - length xs) z) ∙ omega (arith, length-replicate (m - length xs) z)
-
 -- six numbers more
-six-set : (m : ℕ) (xs : List Float) (at : ℕ) (s : State) → at ≡ length xs → at + 6 ≤ m → putSix (padded zero64 m xs) at s ≡ padded zero64 m (xs ++ six s)
+six-set : (m : ℕ) (xs : List Float) (at : ℕ) (s : State) → at ≡ length xs → at + 6 ≤ m → putSix (filledUp zero64 m xs) at s ≡ filledUp zero64 m (xs ++ six s)
 unfolding putSix
 six-set m xs at s e h =
     let a = s .position .x in
@@ -74,13 +46,13 @@ six-set m xs at s e h =
     let l3 : length x3 ≡ at + 3 = length-append x2 (c ∷ []) ∙ omega (arith, l2) in
     let l4 : length x4 ≡ at + 4 = length-append x3 (d ∷ []) ∙ omega (arith, l3) in
     let l5 : length x5 ≡ at + 5 = length-append x4 (f ∷ []) ∙ omega (arith, l4) in
-    ap (λ (l : List Float). set (set (set (set (set l (at + 1) b) (at + 2) c) (at + 3) d) (at + 4) f) (at + 5) g) (padded-set zero64 a m xs at e (omega arith))
-    ∙ ap (λ (l : List Float). set (set (set (set l (at + 2) c) (at + 3) d) (at + 4) f) (at + 5) g) (padded-set zero64 b m x1 (at + 1) (sym l1) (omega arith))
-    ∙ ap (λ (l : List Float). set (set (set l (at + 3) d) (at + 4) f) (at + 5) g) (padded-set zero64 c m x2 (at + 2) (sym l2) (omega arith))
-    ∙ ap (λ (l : List Float). set (set l (at + 4) f) (at + 5) g) (padded-set zero64 d m x3 (at + 3) (sym l3) (omega arith))
-    ∙ ap (λ (l : List Float). set l (at + 5) g) (padded-set zero64 f m x4 (at + 4) (sym l4) (omega arith))
-    ∙ padded-set zero64 g m x5 (at + 5) (sym l5) (omega arith)
-    ∙ ap (padded zero64 m) (joined-six xs a b c d f g)
+    ap (λ (l : List Float). set (set (set (set (set l (at + 1) b) (at + 2) c) (at + 3) d) (at + 4) f) (at + 5) g) (filled-set zero64 a m at xs e (omega arith))
+    ∙ ap (λ (l : List Float). set (set (set (set l (at + 2) c) (at + 3) d) (at + 4) f) (at + 5) g) (filled-set zero64 b m (at + 1) x1 (sym l1) (omega arith))
+    ∙ ap (λ (l : List Float). set (set (set l (at + 3) d) (at + 4) f) (at + 5) g) (filled-set zero64 c m (at + 2) x2 (sym l2) (omega arith))
+    ∙ ap (λ (l : List Float). set (set l (at + 4) f) (at + 5) g) (filled-set zero64 d m (at + 3) x3 (sym l3) (omega arith))
+    ∙ ap (λ (l : List Float). set l (at + 5) g) (filled-set zero64 f m (at + 4) x4 (sym l4) (omega arith))
+    ∙ filled-set zero64 g m (at + 5) x5 (sym l5) (omega arith)
+    ∙ ap (filledUp zero64 m) (joined-six xs a b c d f g)
   where
     joined-six : (xs : List Float) (a b c d f g : Float) → (((((xs ++ (a ∷ [])) ++ (b ∷ [])) ++ (c ∷ [])) ++ (d ∷ [])) ++ (f ∷ [])) ++ (g ∷ []) ≡ xs ++ (a ∷ b ∷ c ∷ d ∷ f ∷ g ∷ [])
     joined-six xs a b c d f g = simp append-assoc
@@ -105,11 +77,11 @@ tabled-one m table n keys states second state h t =
     record {
       counted = omega (arith, en, length-append table ((second, state) ∷ []));
       seconds = ap (λ (l : List ℤ). set l n second) (t .seconds)
-          ∙ padded-set (pos 0) second m (map keyOf table) n (omega (arith, en, length-map table (λ (e : ℤ × State). e .0))) h
-          ∙ ap (padded (pos 0) m) (sym (map-append keyOf table ((second, state) ∷ [])));
+          ∙ filled-set (pos 0) second m n (map keyOf table) (omega (arith, en, length-map table (λ (e : ℤ × State). e .0))) h
+          ∙ ap (filledUp (pos 0) m) (sym (map-append keyOf table ((second, state) ∷ [])));
       numbers = ap (λ (l : List Float). putSix l (6 * n) state) (t .numbers)
           ∙ six-set (6 * m) (numbersOf table) (6 * n) state (omega (arith, en, numbers-length table)) (omega arith)
-          ∙ ap (padded zero64 (6 * m)) (sym (numbers-append table ((second, state) ∷ [])));
+          ∙ ap (filledUp zero64 (6 * m)) (sym (numbers-append table ((second, state) ∷ [])));
     }
 
 module _ (b : Bool) (second : ℤ) (state : State) (n r : ℕ) (keys keys' : List ℤ) (states states' : List Float) (k : Kept b second state n r keys keys' states states') where
@@ -161,7 +133,7 @@ keeping-none t0 from to s base first keys states = record {
 }
 
 -- how many of the first steps lie inside, with one more that does
-pub few-more : (t0 from to : Float) (k m : ℕ) → Time from → Time to → ((run : Run) → length (inside t0 from to 0 (tab run m)) ≤ 3500) → k < m → within from to (timeOf t0 k) ≡ true → keptCount t0 from to k + 1 ≤ 3500
+pub few-more : (t0 from to : Float) (k m : ℕ) → Time from → Time to → ((run : Run) → length (inside t0 from to 0 (row run m)) ≤ 3500) → k < m → within from to (stepTime t0 k) ≡ true → keptCount t0 from to k + 1 ≤ 3500
 unfolding keptCount
 few-more t0 from to k m ft ut h l e =
     let most = few t0 from to (suc k) m ft ut h l in
@@ -169,27 +141,27 @@ few-more t0 from to k m ft ut h l e =
     omega (arith, most, next)
 
 pub keeping-more : (t0 from to : Float) (s : List Float) (base first k n r : ℕ) (keys keys₁ keys₂ : List ℤ) (states states₁ states₂ : List Float) →
-    (within from to (timeOf t0 k) ≡ true → keptCount t0 from to k + 1 ≤ 3500) → Keeping t0 from to s base first k n keys keys₁ states states₁ →
-    Kept (within from to (timeOf t0 k)) (wholeSecond (timeOf t0 k)) (stateIn s (base + 6 * k)) n r keys₁ keys₂ states₁ states₂ → Keeping t0 from to s base first (k + 1) r keys keys₂ states states₂
+    (within from to (stepTime t0 k) ≡ true → keptCount t0 from to k + 1 ≤ 3500) → Keeping t0 from to s base first k n keys keys₁ states states₁ →
+    Kept (within from to (stepTime t0 k)) (wholeSecond (stepTime t0 k)) (stateIn s (base + 6 * k)) n r keys₁ keys₂ states₁ states₂ → Keeping t0 from to s base first (k + 1) r keys keys₂ states states₂
 unfolding keptTo keptCount
 keeping-more t0 from to s base first k n r keys keys₁ keys₂ states states₁ states₂ room f w =
-    let b : Bool = within from to (timeOf t0 k) in
-    let next : keptTo (readRun s base) t0 from to (k + 1) ≡ keptTo (readRun s base) t0 from to k ++ keptIf b (wholeSecond (timeOf t0 k)) (stateIn s (base + 6 * k)) = rw add-one in
+    let b : Bool = within from to (stepTime t0 k) in
+    let next : keptTo (readRun s base) t0 from to (k + 1) ≡ keptTo (readRun s base) t0 from to k ++ keptIf b (wholeSecond (stepTime t0 k)) (stateIn s (base + 6 * k)) = rw add-one in
     record {
       all = λ m table h t.
           subst (λ (x : Table State). Tabled m x r keys₂ states₂)
-          (append-assoc table (keptTo (readRun s base) t0 from to k) (keptIf b (wholeSecond (timeOf t0 k)) (stateIn s (base + 6 * k))) ∙ ap (λ (x : Table State). table ++ x) (sym next))
-          (tabled-more b (wholeSecond (timeOf t0 k)) (stateIn s (base + 6 * k)) n r keys₁ keys₂ states₁ states₂ w m (table ++ keptTo (readRun s base) t0 from to k) (λ e. let q = room e in let c = f .counted in omega arith) (f .all m table h t));
+          (append-assoc table (keptTo (readRun s base) t0 from to k) (keptIf b (wholeSecond (stepTime t0 k)) (stateIn s (base + 6 * k))) ∙ ap (λ (x : Table State). table ++ x) (sym next))
+          (tabled-more b (wholeSecond (stepTime t0 k)) (stateIn s (base + 6 * k)) n r keys₁ keys₂ states₁ states₂ w m (table ++ keptTo (readRun s base) t0 from to k) (λ e. let q = room e in let c = f .counted in omega arith) (f .all m table h t));
       counted = rw add-one (w .counted ∙ (let c = f .counted in ap (λ (x : ℕ). x + cond b 1 0) c ∙ omega arith));
       longKeys = kept-keys b _ _ n r keys₁ keys₂ states₁ states₂ w ∙ f .longKeys;
       longStates = kept-states b _ _ n r keys₁ keys₂ states₁ states₂ w ∙ f .longStates;
     }
 
 pub keeping-all : (t0 from to : Float) (s : List Float) (base first steps k r : ℕ) (keys keys' : List ℤ) (states states' : List Float) → Time from → Time to →
-    ((run : Run) → length (inside t0 from to 0 (tab run (steps + 1))) ≤ 3500) → k ≡ steps + 1 → Keeping t0 from to s base first k r keys keys' states states' →
-    Joins (inside t0 from to 0 (tab (readRun s base) (steps + 1))) first r keys keys' states states'
+    ((run : Run) → length (inside t0 from to 0 (row run (steps + 1))) ≤ 3500) → k ≡ steps + 1 → Keeping t0 from to s base first k r keys keys' states states' →
+    Joins (inside t0 from to 0 (row (readRun s base) (steps + 1))) first r keys keys' states states'
 keeping-all t0 from to s base first steps k r keys keys' states states' ft ut h e f =
-    let is : keptTo (readRun s base) t0 from to k ≡ inside t0 from to 0 (tab (readRun s base) (steps + 1)) = ap (keptTo (readRun s base) t0 from to) e ∙ sym (kept-inside (readRun s base) t0 from to (steps + 1) ft ut) in
+    let is : keptTo (readRun s base) t0 from to k ≡ inside t0 from to 0 (row (readRun s base) (steps + 1)) = ap (keptTo (readRun s base) t0 from to) e ∙ sym (kept-inside (readRun s base) t0 from to (steps + 1) ft ut) in
     let most = few t0 from to k (steps + 1) ft ut h (omega arith) in
     record {
       all = λ m table l t. subst (λ (x : Table State). Tabled m (table ++ x) r keys' states') is (f .all m table l t);
@@ -199,8 +171,8 @@ keeping-all t0 from to s base first steps k r keys keys' states states' ft ut h 
     }
 
 -- the states of a run are those that stand in the lent numbers
-pub run-read : (s : List Float) (base : ℕ) (run : Run) (m : ℕ) → Orbit s base run m → (k : ℕ) → k ≤ m → tab (readRun s base) k ≡ tab run k
-unfolding tab
+pub run-read : (s : List Float) (base : ℕ) (run : Run) (m : ℕ) → Orbit s base run m → (k : ℕ) → k ≤ m → row (readRun s base) k ≡ row run k
+unfolding row
 run-read s base run m o zero h = refl
 run-read s base run m o (suc k) h = (λ i. run-read s base run m o k (omega arith) i ++ (state-read s base run m k o h i ∷ []))
 

@@ -5,11 +5,11 @@ use mathlib.Core.List.{List, [], _∷_, _++_, append-nil}
 use Prim.Native.Nat.{suc}
 use lib.Ieee.{Float, lt}
 use Rattle.laws.specs.Floats.{_⊖_}
+use Rattle.laws.specs.Bools.{by}
+use Rattle.laws.specs.Tables.{row}
 use Rattle.finality.specs.Arcs.{longest, start, steps, arcOf, inside}
-use Rattle.finality.specs.Fitting.{tab}
 use Rattle.vectors.specs.declared.Vector.{Vector}
 use Rattle.integrate.specs.Room.{Run}
-use Rattle.integrate.proofs.Places.{by}
 use Rattle.fit.specs.Fit.{fitOf, orbitOf}
 use Rattle.fit.specs.declared.kernel.Held.{Held}
 use Rattle.fit.specs.declared.kernel.Fitted.{Fitted}
@@ -20,9 +20,9 @@ use Rattle.orbits.specs.Orbits.{unlessRefused, windowFit, between, orbit
 use Rattle.orbits.proofs.Windows.{joined-append}
 
 module _ (covered : Float → Bool) (full : Float → Vector → Vector) (look : Float → Held) where
-  answered : (answer : Fitted) (run : Run) (a b : Float) → joined (unlessRefused answer (inside (start a) a b 0 (tab run (suc (steps a b))))) ≡ inside (start a) a b 0 (statesOf answer run (steps a b))
+  answered : (answer : Fitted) (run : Run) (a b : Float) → joined (unlessRefused answer (inside (start a) a b 0 (row run (suc (steps a b))))) ≡ inside (start a) a b 0 (statesOf answer run (steps a b))
   unfolding joined inside
-  answered (Rms x) run a b = append-nil (inside (start a) a b 0 (tab run (suc (steps a b))))
+  answered (Rms x) run a b = append-nil (inside (start a) a b 0 (row run (suc (steps a b))))
   answered (Refused n) run a b = refl
 
   window-states : (a b : Float) → joined (windowFit covered full look a b) ≡ windowBy covered full look a b

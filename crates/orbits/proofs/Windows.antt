@@ -1,6 +1,6 @@
 -- Laws of the windows that are added, one after the other. Assumes nothing.
 use mathlib.Core.Path.{_≡_, refl, sym, ap, _∙_, subst}
-use mathlib.Core.Bool.{Bool, true, false}
+use mathlib.Core.Bool.{Bool, false}
 use mathlib.Core.List.{List, [], _∷_, _++_, map, append-assoc, append-nil}
 use Prim.Native.Nat.{ℕ, zero, suc, _+_, _-_, _*_, _≤_, _<_}
 use native.Mathlib.Numerals.{add-one}
@@ -10,15 +10,17 @@ use lib.IntN.{ℤ, pos}
 use lib.Ieee.{Float, nan, lt}
 use lib.ListN.{length, take, getD, set, replicate, length-append, length-map, length-set}
 use lib.Seq.{take-all}
+use lib.Ieee.Bits.{is-true}
+use Rattle.lent.specs.Lent.{frontSize}
 use Rattle.laws.specs.Floats.{zero64, _⊖_}
 use Rattle.laws.specs.Lists.{map-append}
 use Rattle.laws.specs.Order.{lt→le}
+use Rattle.laws.specs.Tables.{row}
+use Rattle.laws.specs.Loops.{filledUp, filled-set, filled-none}
 use Rattle.finality.specs.Tables.{Table, keyOf}
 use Rattle.finality.specs.Arcs.{longest, start, steps, arcOf, inside}
-use Rattle.finality.specs.Fitting.{tab}
 use Rattle.finality.proofs.Windows.{steps-short}
 use Rattle.vectors.specs.declared.Vector.{Vector}
-use Rattle.integrate.specs.Force.{frontSize}
 use Rattle.integrate.specs.Room.{Run}
 use Rattle.integrate.specs.declared.kernel.State.{State}
 use Rattle.integrate.specs.declared.kernel.Arc.{Arc as ArcStruct}
@@ -33,9 +35,9 @@ use Rattle.windows.proofs.Arcs.{arc-between}
 use Rattle.windows.proofs.Filling.{fits-of, inside-few}
 use Rattle.orbits.specs.declared.work.Done.{Done}
 use Rattle.orbits.specs.Orbits.{Window, unlessRefused, windowFit, between, joined, numbersOf}
-use Rattle.orbits.specs.Calls.{Outputs, outputs, padded, listed}
+use Rattle.orbits.specs.Calls.{Outputs, outputs, listed}
 use Rattle.orbits.specs.Work.{readRun, Tabled, Joins, SoFar, Room, Adds, Usable, Short}
-use Rattle.orbits.proofs.Keeping.{padded-set, run-read}
+use Rattle.orbits.proofs.Keeping.{run-read}
 
 abbrev pub start-done : Done
 start-done = record { states = 0; windows = 0 }
@@ -66,16 +68,16 @@ so-far-more k ws done o x table n keys' states' hs hw f j =
     let is : joined (ws ++ ((x, table) ∷ [])) ≡ joined ws ++ table = joined-one ws x table in
     let t : Tabled (3500 * k) (joined ws ++ table) n keys' states' =
     j .all (3500 * k) (joined ws) hs (record { counted = f .states; seconds = ap (λ (y : Outputs). y .keys) (f .outputs); numbers = ap (λ (y : Outputs). y .states) (f .outputs) }) in
-    let rms : set (o .rms) (done .windows) x ≡ padded zero64 k (map (λ (w : Window). w .0) (ws ++ ((x, table) ∷ []))) =
+    let rms : set (o .rms) (done .windows) x ≡ filledUp zero64 k (map (λ (w : Window). w .0) (ws ++ ((x, table) ∷ []))) =
     ap (λ (l : List Float). set l (done .windows) x) (ap (λ (y : Outputs). y .rms) (f .outputs))
-    ∙ padded-set zero64 x k (map (λ (w : Window). w .0) ws) (done .windows) (omega (arith, ew, length-map ws (λ (w : Window). w .0))) (omega arith)
-    ∙ ap (padded zero64 k) (sym (map-append (λ (w : Window). w .0) ws ((x, table) ∷ []))) in
+    ∙ filled-set zero64 x k (done .windows) (map (λ (w : Window). w .0) ws) (omega (arith, ew, length-map ws (λ (w : Window). w .0))) (omega arith)
+    ∙ ap (filledUp zero64 k) (sym (map-append (λ (w : Window). w .0) ws ((x, table) ∷ []))) in
     record {
       windows = omega (arith, ew, length-append ws ((x, table) ∷ []));
       states = t .counted ∙ ap (λ (l : Table State). length l) (sym is);
       outputs = λ i. outputs
-          ((t .seconds ∙ ap (λ (l : Table State). padded (pos 0) (3500 * k) (map keyOf l)) (sym is)) i)
-          ((t .numbers ∙ ap (λ (l : Table State). padded zero64 (6 * (3500 * k)) (numbersOf l)) (sym is)) i)
+          ((t .seconds ∙ ap (λ (l : Table State). filledUp (pos 0) (3500 * k) (map keyOf l)) (sym is)) i)
+          ((t .numbers ∙ ap (λ (l : Table State). filledUp zero64 (6 * (3500 * k)) (numbersOf l)) (sym is)) i)
           (rms i);
     }
 
@@ -112,11 +114,7 @@ module _ (covered : Float → Bool) (full : Float → Vector → Vector) (look :
   arc = arcStruct (arcOf a b)
 
   abbrev table : Table State
-  table = inside (start a) a b 0 (tab (orbitOf full look arc) (suc (steps a b)))
-
-  yes : (c : Bool) → T c → c ≡ true
-  yes true t = refl
-  yes false t = absurd t
+  table = inside (start a) a b 0 (row (orbitOf full look arc) (suc (steps a b)))
 
   -- a long window is skipped
   pub long-adds : (done : Done) (o : Outputs) → lt (b ⊖ a) longest ≡ false → Adds (windowFit covered full look a b) 1 done done o o
@@ -128,7 +126,7 @@ module _ (covered : Float → Bool) (full : Float → Vector → Vector) (look :
 
   short-window : T (lt (b ⊖ a) longest) → (answer : Fitted) → answer ≡ fitOf covered full look arc → windowFit covered full look a b ≡ unlessRefused answer table
   unfolding windowFit
-  short-window short answer e = rw (yes (lt (b ⊖ a) longest) short) (ap (λ (x : Fitted). unlessRefused x table) (sym e))
+  short-window short answer e = rw (is-true (lt (b ⊖ a) longest) short) (ap (λ (x : Fitted). unlessRefused x table) (sym e))
 
   module _ (sh : Short a b) where
     pub steps-few : steps a b ≤ 5302
@@ -141,7 +139,7 @@ module _ (covered : Float → Bool) (full : Float → Vector → Vector) (look :
     arc-few x e = let q = ap (λ (y : ArcStruct). y .steps) (arc-is x e) in omega (arith, q, steps-few)
 
     -- at most 3,500 states of any run lie inside
-    pub arc-inside : (x : ArcStruct) → x ≡ arcBetween a b → (run : Run) → length (inside (x .t0) a b 0 (tab run (x .steps + 1))) ≤ 3500
+    pub arc-inside : (x : ArcStruct) → x ≡ arcBetween a b → (run : Run) → length (inside (x .t0) a b 0 (row run (x .steps + 1))) ≤ 3500
     arc-inside x e run = inside-few a b (sh .ends) (sh .short) (x .t0) (x .steps) (ap (λ (y : ArcStruct). y .t0) (arc-is x e)) (ap (λ (y : ArcStruct). y .steps) (arc-is x e)) run
 
     pub fits-here : (N : ℕ) (keys : List ℤ) (states : ℕ) (s s₁ : List Float) (x : ArcStruct) (answer : Fitted) → x ≡ arcBetween a b → Usable N keys states (length s) →
@@ -158,7 +156,7 @@ module _ (covered : Float → Bool) (full : Float → Vector → Vector) (look :
     -- else its states and its rms are added
     fitted-adds : (N : ℕ) (s s₁ : List Float) (base : ℕ) (arc₁ : ArcStruct) (done : Done) (o : Outputs) (answer : Fitted) (x : Float) (n : ℕ) (keys' : List ℤ) (states' : List Float) →
         answer ≡ Rms x → base ≡ frontSize N → arc₁ ≡ arcBetween a b → Fits covered full look arc s s₁ (frontSize N) answer →
-        Joins (inside (arc₁ .t0) a b 0 (tab (readRun s₁ base) (arc₁ .steps + 1))) (done .states) n (o .keys) keys' (o .states) states' →
+        Joins (inside (arc₁ .t0) a b 0 (row (readRun s₁ base) (arc₁ .steps + 1))) (done .states) n (o .keys) keys' (o .states) states' →
         Adds (windowFit covered full look a b) 1 done (record { states = n; windows = done .windows + 1 }) o (outputs keys' states' (set (o .rms) (done .windows) x))
     fitted-adds N s s₁ base arc₁ done o answer x n keys' states' e eb ea f j = subst (λ (l : List Window). Adds l 1 done r o o') (sym (short-window (sh .short) (Rms x) (sym e ∙ f .said))) (record {
       all = λ k ws hs hw g. so-far-more k ws done o x table n keys' states' (omega arith) hw g j';
@@ -178,13 +176,13 @@ module _ (covered : Float → Bool) (full : Float → Vector → Vector) (look :
         run : Run
         run = orbitOf full look arc
 
-        read : tab (readRun s₁ base) (suc (steps a b)) ≡ tab run (suc (steps a b))
-        read = ap (λ (m : ℕ). tab (readRun s₁ m) (suc (steps a b))) eb ∙ run-read s₁ (frontSize N) run (steps a b + 1) (f .states x e) (suc (steps a b)) (omega arith)
+        read : row (readRun s₁ base) (suc (steps a b)) ≡ row run (suc (steps a b))
+        read = ap (λ (m : ℕ). row (readRun s₁ m) (suc (steps a b))) eb ∙ run-read s₁ (frontSize N) run (steps a b + 1) (f .states x e) (suc (steps a b)) (omega arith)
 
-        same : inside (arc₁ .t0) a b 0 (tab (readRun s₁ base) (arc₁ .steps + 1)) ≡ table
+        same : inside (arc₁ .t0) a b 0 (row (readRun s₁ base) (arc₁ .steps + 1)) ≡ table
         same =
-            ap (λ (y : ArcStruct). inside (y .t0) a b 0 (tab (readRun s₁ base) (y .steps + 1))) (arc-is arc₁ ea)
-            ∙ ap (λ (m : ℕ). inside (start a) a b 0 (tab (readRun s₁ base) m)) (add-one (steps a b))
+            ap (λ (y : ArcStruct). inside (y .t0) a b 0 (row (readRun s₁ base) (y .steps + 1))) (arc-is arc₁ ea)
+            ∙ ap (λ (m : ℕ). inside (start a) a b 0 (row (readRun s₁ base) m)) (add-one (steps a b))
             ∙ ap (λ (l : List State). inside (start a) a b 0 l) read
 
         j' : Joins table (done .states) n (o .keys) keys' (o .states) states'
@@ -193,7 +191,7 @@ module _ (covered : Float → Bool) (full : Float → Vector → Vector) (look :
     -- the same, from what the calls gave
     pub fitted-adds-at : (N : ℕ) (s s₁ : List Float) (base : ℕ) (arc₁ : ArcStruct) (done : Done) (o : Outputs) (answer : Fitted) (x : Float) (n : ℕ) (keys' : List ℤ) (states' : List Float) (w : ℕ) (rms' : List Float) →
         answer ≡ Rms x → base ≡ frontSize N → arc₁ ≡ arcBetween a b → Fits covered full look arc s s₁ (frontSize N) answer →
-        Joins (inside (arc₁ .t0) a b 0 (tab (readRun s₁ base) (arc₁ .steps + 1))) (done .states) n (o .keys) keys' (o .states) states' → w ≡ done .windows + 1 → rms' ≡ set (o .rms) (done .windows) x →
+        Joins (inside (arc₁ .t0) a b 0 (row (readRun s₁ base) (arc₁ .steps + 1))) (done .states) n (o .keys) keys' (o .states) states' → w ≡ done .windows + 1 → rms' ≡ set (o .rms) (done .windows) x →
         Adds (windowFit covered full look a b) 1 done (record { states = n; windows = w }) o (outputs keys' states' rms')
     fitted-adds-at N s s₁ base arc₁ done o answer x n keys' states' w rms' e eb ea f j ew er =
         subst (λ (m : ℕ). Adds (windowFit covered full look a b) 1 done (record { states = n; windows = m }) o (outputs keys' states' rms')) (sym ew)
@@ -260,16 +258,13 @@ usable-still N keys states s s' e u = subst (λ (n : ℕ). Usable N keys states 
 
 -- ---- all windows, from empty outputs
 
-replicate-like : {A : Type 0} (z : A) (n m : ℕ) → n ≡ m → replicate n z ≡ replicate (m - 0) z
-replicate-like z n m e = let g : n ≡ m - 0 = omega arith in ap (λ (k : ℕ). replicate k z) g
-
 pub cleared-listed : (k : ℕ) (keys keys' : List ℤ) (states states' rms rms' : List Float) → keys' ≡ replicate (length keys) (pos 0) → states' ≡ replicate (length states) zero64 → rms' ≡ replicate (length rms) zero64 →
     length keys ≡ 3500 * k → length states ≡ 6 * (3500 * k) → length rms ≡ k → outputs keys' states' rms' ≡ listed k []
 unfolding listed joined numbersOf
 cleared-listed k keys keys' states states' rms rms' ek es er lk ls lr = λ i. outputs
-    ((ek ∙ replicate-like (pos 0) (length keys) (3500 * k) lk) i)
-    ((es ∙ replicate-like zero64 (length states) (6 * (3500 * k)) ls) i)
-    ((er ∙ replicate-like zero64 (length rms) k lr) i)
+    ((ek ∙ filled-none (pos 0) (length keys) (3500 * k) lk) i)
+    ((es ∙ filled-none zero64 (length states) (6 * (3500 * k)) ls) i)
+    ((er ∙ filled-none zero64 (length rms) k lr) i)
 
 pub filled : (k : ℕ) (ws : List Window) (r : Done) (o o' : Outputs) → o ≡ listed k [] → Adds ws k start-done r o o' → SoFar k ws r o'
 filled k ws r o o' e f = f .all k [] (omega arith) (omega arith) (so-far-none k o e)

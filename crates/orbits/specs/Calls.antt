@@ -2,16 +2,16 @@
 use Prim.Native.Nat.{ℕ, zero, suc, _+_, _-_, _*_}
 use mathlib.Core.Bool.{Bool, true, false, _&&_}
 use mathlib.Core.Option.{Option, none, some}
-use mathlib.Core.List.{List, [], _∷_, _++_, map}
+use mathlib.Core.List.{List, [], _∷_, map}
 use lib.Dec.{leb, eqb}
 use lib.IntN.{ℤ, pos}
 use lib.Ieee.{Float}
 use lib.Ieee.Scale.{finite}
-use lib.ListN.{length, replicate}
+use lib.ListN.{length}
 use Rattle.laws.specs.Floats.{zero64}
-use Rattle.laws.specs.Checks.{all, isTime, rising, risingSeconds}
-use Rattle.laws.specs.Loops.{cleared}
-use Rattle.lent.specs.Lent.{firstOf, degreeFine, fieldsFine, few, modelFits, wholeScratchFits, modelFine, keyedFine}
+use Rattle.laws.specs.Checks.{all, isTime, rising, risingSeconds, degreeFine}
+use Rattle.laws.specs.Loops.{cleared, filledUp}
+use Rattle.lent.specs.Lent.{firstOf, fieldsFine, few, modelFits, wholeScratchFits, modelFine, keyedFine}
 use Rattle.finality.specs.Tables.{keyOf}
 use Rattle.finality.specs.Brackets.{covers}
 use Rattle.integrate.specs.Force.{Model, fullForce}
@@ -82,13 +82,9 @@ fittedWindows g = orbitsOf (covers (g .model .times)) (fullForce (g .model) (g .
 
 -- ---- what is left
 
--- m places, filled up with z
-abbrev pub padded : {A : Type 0} → A → ℕ → List A → List A
-padded z m xs = xs ++ replicate (m - length xs) z
-
 -- for k pairs of neighbouring nodes: the seconds of all states, their numbers, and the rms of each window, 0 and +0.0 after the last
 unfoldable pub listed : ℕ → List Window → Outputs
-listed k ws = outputs (padded (pos 0) (3500 * k) (map keyOf (joined ws))) (padded zero64 (6 * (3500 * k)) (numbersOf (joined ws))) (padded zero64 k (map (λ (w : Window). w .0) ws))
+listed k ws = outputs (filledUp (pos 0) (3500 * k) (map keyOf (joined ws))) (filledUp zero64 (6 * (3500 * k)) (numbersOf (joined ws))) (filledUp zero64 k (map (λ (w : Window). w .0) ws))
 
 pub record Left : Type 0 where
   pub answer : FittedOrbits

@@ -5,9 +5,9 @@ use mathlib.Core.Bool.{Bool, cond}
 use mathlib.Core.List.{List, [], _∷_, _++_}
 use lib.Ieee.{Float, lt}
 use Rattle.laws.specs.Floats.{_⊖_}
+use Rattle.laws.specs.Tables.{row}
 use Rattle.finality.specs.Tables.{Table}
 use Rattle.finality.specs.Arcs.{longest, start, steps, arcOf, inside}
-use Rattle.finality.specs.Fitting.{tab}
 use Rattle.vectors.specs.declared.Vector.{Vector}
 use Rattle.integrate.specs.Room.{six}
 use Rattle.integrate.specs.declared.kernel.State.{State}
@@ -30,7 +30,7 @@ unlessRefused (Refused n) table = []
 unfoldable pub windowFit : (Float → Bool) → (Float → Vector → Vector) → (Float → Held) → Float → Float → List Window
 windowFit covered full look a b =
     cond (lt (b ⊖ a) longest)
-    (unlessRefused (fitOf covered full look (arcStruct (arcOf a b))) (inside (start a) a b 0 (tab (orbitOf full look (arcStruct (arcOf a b))) (suc (steps a b)))))
+    (unlessRefused (fitOf covered full look (arcStruct (arcOf a b))) (inside (start a) a b 0 (row (orbitOf full look (arcStruct (arcOf a b))) (suc (steps a b)))))
     []
 
 -- what stands between neighbouring nodes, end to end

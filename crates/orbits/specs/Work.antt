@@ -7,17 +7,18 @@ use lib.Dec.{T}
 use lib.IntN.{ℤ, pos}
 use lib.Ieee.{Float, lt}
 use lib.ListN.{length, set}
+use Rattle.lent.specs.Lent.{frontSize}
 use Rattle.laws.specs.Floats.{zero64, _⊖_}
 use Rattle.laws.specs.Checks.{risingSeconds}
+use Rattle.laws.specs.Loops.{filledUp}
 use Rattle.finality.specs.Tables.{Table, keyOf}
 use Rattle.finality.specs.Arcs.{longest}
-use Rattle.integrate.specs.Force.{frontSize}
 use Rattle.integrate.specs.Room.{Run, stateIn}
 use Rattle.integrate.specs.declared.kernel.State.{State}
 use Rattle.windows.specs.Windows.{Ends}
 use Rattle.orbits.specs.declared.work.Done.{Done}
 use Rattle.orbits.specs.Orbits.{Window, joined, numbersOf}
-use Rattle.orbits.specs.Calls.{Outputs, padded, listed}
+use Rattle.orbits.specs.Calls.{Outputs, listed}
 
 -- six numbers stored from a place on
 unfoldable pub putSix : List Float → ℕ → State → List Float
@@ -37,8 +38,8 @@ pub record Kept (isInside : Bool) (second : ℤ) (state : State) (n r : ℕ) (ke
 -- the states of a table from the front, of m places
 pub record Tabled (m : ℕ) (table : Table State) (n : ℕ) (keys : List ℤ) (states : List Float) : Type 0 where
   pub counted : n ≡ length table
-  pub seconds : keys ≡ padded (pos 0) m (map keyOf table)
-  pub numbers : states ≡ padded zero64 (6 * m) (numbersOf table)
+  pub seconds : keys ≡ filledUp (pos 0) m (map keyOf table)
+  pub numbers : states ≡ filledUp zero64 (6 * m) (numbersOf table)
 
 -- a table's states were added
 pub record Joins (more : Table State) (n r : ℕ) (keys keys' : List ℤ) (states states' : List Float) : Type 0 where

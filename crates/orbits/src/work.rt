@@ -6,14 +6,13 @@ ghost use Prim.Native.Nat.{ℕ, _+_, _-_, _*_, _≤_, _<_};
 ghost use lib.IntN.{pos};
 ghost use lib.Ieee.{nan};
 ghost use lib.ListN.{length, getD, set, replicate};
-ghost use Rattle.laws.specs.Times.{Time};
+ghost use Rattle.laws.specs.Times.{stepTime, Time};
 ghost use Rattle.numbers.specs.Seconds.{wholeSecond};
 ghost use Rattle.finality.specs.Arcs.{inside};
-ghost use Rattle.finality.specs.Fitting.{tab};
+ghost use Rattle.laws.specs.Tables.{row};
 ghost use Rattle.finality.specs.Brackets.{covers};
 ghost use Rattle.integrate.specs.Force.{model, fullForce};
 ghost use Rattle.integrate.specs.Room.{Run, stateIn};
-ghost use Rattle.integrate.specs.Steps.{timeOf};
 ghost use Rattle.fit.specs.Fit.{stateFor};
 ghost use Rattle.windows.specs.Slots.{within};
 ghost use Rattle.windows.specs.Windows.{Ends};
@@ -71,8 +70,8 @@ fn keep_step(
     outkeys: &mut [i64],
     outstates: &mut [f64],
 ) -> usize
-    requires { ⌜ (k ≤ 5302) × (base + 31818 ≤ length (now s)) × (within from to (timeOf t0 k) ≡ true → n < length (now outkeys)) × (within from to (timeOf t0 k) ≡ true → 6 * n + 6 ≤ length (now outstates)) ⌝ }
-    ensures { λ r. ⌜ Kept (within from to (timeOf t0 k)) (wholeSecond (timeOf t0 k)) (stateIn (now (s .entry)) (base + 6 * k)) n r (now (outkeys .entry)) (now (outkeys .exit)) (now (outstates .entry)) (now (outstates .exit)) ⌝ }
+    requires { ⌜ (k ≤ 5302) × (base + 31818 ≤ length (now s)) × (within from to (stepTime t0 k) ≡ true → n < length (now outkeys)) × (within from to (stepTime t0 k) ≡ true → 6 * n + 6 ≤ length (now outstates)) ⌝ }
+    ensures { λ r. ⌜ Kept (within from to (stepTime t0 k)) (wholeSecond (stepTime t0 k)) (stateIn (now (s .entry)) (base + 6 * k)) n r (now (outkeys .entry)) (now (outkeys .exit)) (now (outstates .entry)) (now (outstates .exit)) ⌝ }
 {
     let t = integrate::kernel::time(t0, k);
     if windows::kernel::within(from, to, t) {
@@ -95,8 +94,8 @@ fn keep(
     outkeys: &mut [i64],
     outstates: &mut [f64],
 ) -> usize
-    requires { ⌜ Time from × Time to × (steps ≤ 5302) × ((run : Run) → length (inside t0 from to 0 (tab run (steps + 1))) ≤ 3500) × (base + 31818 ≤ length (now s)) × (first + 3500 ≤ length (now outkeys)) × (6 * (first + 3500) ≤ length (now outstates)) ⌝ }
-    ensures { λ r. ⌜ Joins (inside t0 from to 0 (tab (readRun (now (s .entry)) base) (steps + 1))) first r (now (outkeys .entry)) (now (outkeys .exit)) (now (outstates .entry)) (now (outstates .exit)) ⌝ }
+    requires { ⌜ Time from × Time to × (steps ≤ 5302) × ((run : Run) → length (inside t0 from to 0 (row run (steps + 1))) ≤ 3500) × (base + 31818 ≤ length (now s)) × (first + 3500 ≤ length (now outkeys)) × (6 * (first + 3500) ≤ length (now outstates)) ⌝ }
+    ensures { λ r. ⌜ Joins (inside t0 from to 0 (row (readRun (now (s .entry)) base) (steps + 1))) first r (now (outkeys .entry)) (now (outkeys .exit)) (now (outstates .entry)) (now (outstates .exit)) ⌝ }
 {
     let mut n = first;
     for k in 0..steps + 1 {
@@ -136,7 +135,7 @@ fn fit_between(
     ensures { λ r. ⌜ Adds (windowFit (covers (now (times .entry))) (fullForce (model degree (now (field .entry)) (now (times .entry)) (now (added .entry))) (now (a .entry)) (now (b .entry))) (stateFor (now (keys .entry)) (now (states .entry))) from to) 1 done r (outputs (now (outkeys .entry)) (now (outstates .entry)) (now (rms .entry))) (outputs (now (outkeys .exit)) (now (outstates .exit)) (now (rms .exit))) ⌝ }
 {
     let arc = windows::kernel::arc_between(from, to);
-    let base = integrate::kernel::front_size(degree);
+    let base = lent::front_size(degree);
     let fitted = fit::kernel::fit_arc(degree, field, a, b, times, added, keys, states, arc, s);
     match fitted {
         fit::kernel::Fitted::Fitted(x) => {

@@ -13,11 +13,11 @@ use lib.Ieee.{Float, binary64, ofBits}
 use Rattle.laws.specs.Checks.{all}
 use Rattle.laws.specs.Loops.{head-at, fill-turn, fill-done, take-set}
 use Rattle.laws.specs.Lists.{decide}
-use Rattle.hex.specs.Digits.{isDigit, digitOf, wordAt, decimalAt, part}
+use Rattle.hex.specs.Digits.{isDigit, digitOf, wordAt, decimalAt, part, isWord, bitsOf, floatAt}
 use Rattle.hex.specs.declared.Parsed.{Parsed}
 use Rattle.hex.specs.declared.Parsed.the-variants.{Value, Malformed}
 use Rattle.reading.specs.declared.Reading.{Reading}
-use Rattle.reading.specs.Text.{isWord, bitsOf, floatAt, column, longCount, countIn, beginsWith, headerWith, names, headerOf, outside, leastCounts, mostCounts, countRefusal, coefficients, wordsIn, separator, isTerm, isRow, degreeRefusal, rowRefusal, degreeAfter, Taken, refusedBy, goesOn, only, unlessFault, headerFault, announced, headed, takenHeader, rowFault, rowTaken, takenRow, takenEnd, taken, readOf, Fed, lineLength}
+use Rattle.reading.specs.Text.{column, longCount, countIn, beginsWith, headerWith, names, headerOf, outside, leastCounts, mostCounts, countRefusal, coefficients, wordsIn, separator, isTerm, isRow, degreeRefusal, rowRefusal, degreeAfter, Taken, refusedBy, goesOn, only, unlessFault, headerFault, announced, headed, takenHeader, rowFault, rowTaken, takenRow, takenEnd, taken, readOf, Fed, lineLength}
 
 -- ---- words
 
@@ -26,12 +26,6 @@ number-value w p n e h = ap bitsOf (sym h ∙ e)
 
 pub number-none : (w p : Parsed) → w ≡ p → w ≡ Malformed → 0 ≡ bitsOf p
 number-none w p e h = ap bitsOf (sym h ∙ e)
-
-pub word-true : (w p : Parsed) (n : ℕ) → w ≡ p → w ≡ Value n → true ≡ isWord p
-word-true w p n e h = ap isWord (sym h ∙ e)
-
-pub word-false : (w p : Parsed) → w ≡ p → w ≡ Malformed → false ≡ isWord p
-word-false w p e h = ap isWord (sym h ∙ e)
 
 pub float-is : (text : List ℕ) (at n : ℕ) (r : Float) → n ≡ bitsOf (wordAt text at) → r ≡ ofBits binary64 n → r ≡ floatAt text at
 unfolding floatAt

@@ -7,26 +7,14 @@ use lib.Dec.{leb, ltb, eqb}
 use lib.ListN.{length, take, getD}
 use lib.Ieee.{Float, binary64, ofBits}
 use Rattle.laws.specs.Checks.{all}
-use Rattle.hex.specs.Digits.{isDigit, wordAt, decimalAt, part}
+use Rattle.hex.specs.Digits.{isDigit, wordAt, decimalAt, part, isWord, bitsOf, floatAt}
 use Rattle.hex.specs.declared.Parsed.{Parsed}
 use Rattle.hex.specs.declared.Parsed.the-variants.{Value, Malformed}
 use Rattle.reading.specs.declared.Reading.{Reading}
 
 -- ---- words
 
-abbrev pub isWord : Parsed → Bool
-isWord (Value n) = true
-isWord Malformed = false
-
-abbrev pub bitsOf : Parsed → ℕ
-bitsOf (Value n) = n
-bitsOf Malformed = 0
-
--- the double whose bits stand at `at`
-unfoldable pub floatAt : List ℕ → ℕ → Float
-floatAt text at = ofBits binary64 (bitsOf (wordAt text at))
-
--- those of k words from `at` on, 17 bytes each
+-- the doubles of k words from `at` on, 17 bytes each
 unfoldable pub column : List ℕ → ℕ → ℕ → List Float
 column text at zero = []
 column text at (suc k) = floatAt text at ∷ column text (at + 17) k

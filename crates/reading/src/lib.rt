@@ -4,9 +4,9 @@ ghost use mathlib.Core.Path.{_≡_};
 ghost use Prim.Native.Nat.{_+_, _*_, _≤_, _<_};
 ghost use lib.ListN.{length};
 ghost use lib.Dec.{leb};
-ghost use Rattle.hex.specs.Digits.{isDigit, wordAt};
+ghost use Rattle.hex.specs.Digits.{isDigit, wordAt, isWord, bitsOf, floatAt};
 ghost use Rattle.laws.specs.Checks.{all};
-ghost use Rattle.reading.specs.Text.{isWord, bitsOf, floatAt, column, longCount, countIn, beginsWith, headerWith, headerOf, coefficients, wordsIn, outside, countRefusal, separator, isTerm, isRow, degreeRefusal, rowRefusal, degreeAfter, rowFault, headerFault, begun, refusedBy, goesOn, announced, takenHeader, takenRow, takenEnd, taken, lineLength, Fed};
+ghost use Rattle.reading.specs.Text.{column, longCount, countIn, beginsWith, headerWith, headerOf, coefficients, wordsIn, outside, countRefusal, separator, isTerm, isRow, degreeRefusal, rowRefusal, degreeAfter, rowFault, headerFault, begun, refusedBy, goesOn, announced, takenHeader, takenRow, takenEnd, taken, lineLength, Fed};
 use hex;
 use slices;
 

@@ -14,6 +14,7 @@ use borrow.Author.Tests.{leb-true}
 use Rattle.laws.specs.Checks.{all, isTime, latest, rising}
 use Rattle.laws.specs.Floats.{zero64}
 use Rattle.laws.specs.Order.{le-lt-tr, lt→nle, eq→le}
+use Rattle.laws.specs.Bools.{by, no}
 use Rattle.slices.proofs.Calls.{cond-passes}
 use Rattle.slices.specs.declared.Outcome.the-variants.{Accepted, Refused}
 use Rattle.epochs.specs.Epochs.{timesOf, epochFits}
@@ -82,13 +83,6 @@ pub record Says (s : Float) (es : List Epoch) (o : Bool) : Type 0 where
   pub fitting : not (eq unfit s) ≡ all epochFits es
   pub ordering : all epochFits es ≡ true → not (eq unordered s) ≡ o
 
-by : {P : Type 0} (b : Bool) → (b ≡ true → P) → (b ≡ false → P) → P
-by true f g = f refl
-by false f g = g refl
-
-no-one : {P : Type 0} → false ≡ true → P
-no-one h = absurd (let z : _≡_ {A = ℕ} 0 1 = cc in omega arith)
-
 scan-next : (last : Float) (e : Epoch) (es : List Epoch) (next : Float) → scannedOf last e ≡ next → scanOf last (e ∷ es) ≡ scanOf next es
 unfolding scanOf
 scan-next last e es next h = ap (λ (v : Float). scanOf v es) h
@@ -116,7 +110,7 @@ says-unfit last e es o h f =
     let none : all epochFits (e ∷ es) ≡ false = ap (λ (b : Bool). b && all epochFits es) f in
     record {
       fitting = ap (λ (v : Float). not (eq unfit v)) s ∙ ap not unfit-is ∙ sym none;
-      ordering = λ k. no-one (sym none ∙ k);
+      ordering = λ k. no (sym none ∙ k);
     }
 
 -- a record that fits leaves it to the others

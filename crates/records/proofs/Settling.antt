@@ -14,6 +14,7 @@ use borrow.Rule.Slice.PartMut.{midOf, putMid}
 use Rattle.laws.specs.Checks.{all}
 use Rattle.laws.specs.Floats.{zero64}
 use Rattle.laws.specs.Loops.{cleared, take-set}
+use Rattle.laws.specs.Bools.{by}
 use Rattle.slices.specs.declared.Outcome.{Outcome}
 use Rattle.slices.specs.declared.Outcome.the-variants.{Accepted, Refused}
 use Rattle.detrend.specs.Revolutions.{removedOf}
@@ -84,10 +85,6 @@ module _ (ns : List Float) (n : ℕ) (w w1 : List Float) (room : 8 * n ≤ lengt
       (λ i. (low ∙ new-is) i ++ ((ez ∙ ap (λ (j : ℕ). replicate j zero64) (lm ∙ k')) i ++ none i))
       ∙ ap (λ (x : List Float). v ++ x) (append-nil (replicate (length w - length v) zero64))
       ∙ sym (ap (λ (s : Settled). s .work) (settled-true ns n w (test-is ∙ h)))
-
-by : {P : Type 0} (b : Bool) → (b ≡ true → P) → (b ≡ false → P) → P
-by true f g = f refl
-by false f g = g refl
 
 -- the work area keeps its length
 pub settled-length : (ns : List Float) (n : ℕ) (w : List Float) → n + n ≤ length w → length (settledOf ns n w .work) ≡ length w

@@ -3,17 +3,17 @@ use mathlib.Core.Path.{_≡_, refl, sym, ap, _∙_}
 use mathlib.Core.Bool.{Bool, true, _&&_}
 use mathlib.Core.Option.{Option, none, some}
 use mathlib.Core.List.{List, []}
-use Prim.Native.Nat.{ℕ, zero, suc, _≤_}
+use Prim.Native.Nat.{ℕ, zero, suc}
 use native.Mathlib.Omega.{arith}
 use lib.Ieee.{Float}
 use lib.Ieee.Scale.{finite}
 use lib.ListN.{length, replicate}
 use Rattle.laws.specs.Floats.{zero64}
-use Rattle.laws.specs.Checks.{isTime}
+use Rattle.laws.specs.Checks.{isTime, degreeFine}
+use Rattle.laws.specs.Bools.{both-true}
 use Rattle.slices.specs.Calls.{left}
-use Rattle.integrate.specs.Force.{frontSize}
-use Rattle.lent.specs.Lent.{frontSize as frontRoom, degreeFine, scratchFits}
-use Rattle.lent.proofs.Passed.{both-pass, AllPass, all-pass, degree-passes, counts-pass, rise-passes, scratch-passes, front-is}
+use Rattle.lent.specs.Lent.{scratchFits}
+use Rattle.lent.proofs.Passed.{AllPass, all-pass, degree-passes, counts-pass, rise-passes, scratch-passes}
 use Rattle.finality.specs.Sheet.{Observation}
 use Rattle.epochs.specs.declared.Epoch.{Epoch}
 use Rattle.residuals.specs.declared.EpochAnswer.{EpochAnswer}
@@ -30,7 +30,7 @@ pub ready : (inp : Inputs) (count scratch : ℕ) (values : Bool) → AllPass (de
 ready inp count scratch values p =
     let f = counts-pass _ _ _ _ _ (p .counts) in
     let r = rise-passes _ _ _ _ _ (p .order) in
-    let s = scratch-passes (inp .model .degree) (length (inp .model .times)) count scratch (both-pass (inputsFit inp) _ (p .lengths) .1) in
+    let s = scratch-passes (inp .model .degree) (length (inp .model .times)) count scratch (both-true (inputsFit inp) _ (p .lengths) .1) in
     record {
       degree = degree-passes (inp .model .degree) (p .degree);
       statesC = record { rises = r .statesC; few = f .statesC };
@@ -46,10 +46,6 @@ epoch-ready inp t v n scratch e z =
     ready inp 0 scratch (inputsFine inp && (isTime t && finite v))
     (all-pass (degreeFine (inp .model .degree)) (inputsCounted inp) (inputsFit inp && scratchFits (inp .model .degree) (length (inp .model .times)) 0 scratch)
     (inputsFine inp && (isTime t && finite v)) (inputsRise inp) (sym e ∙ z))
-
--- the first numbers of scratch, by degree
-pub base-is : (N r : ℕ) → N ≤ 180 → r ≡ frontRoom N → r ≡ frontSize N
-base-is N r h e = e ∙ front-is N h
 
 -- ---- the answer
 

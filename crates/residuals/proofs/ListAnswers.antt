@@ -9,9 +9,10 @@ use lib.Ieee.Scale.{finite}
 use lib.ListN.{length, replicate}
 use borrow.Author.Tests.{eqb-true}
 use Rattle.laws.specs.Floats.{zero64}
-use Rattle.laws.specs.Checks.{all, isTime, rising}
-use Rattle.lent.specs.Lent.{degreeFine, scratchFits}
-use Rattle.lent.proofs.Passed.{both-pass, AllPass, all-pass}
+use Rattle.laws.specs.Checks.{all, isTime, rising, degreeFine}
+use Rattle.laws.specs.Bools.{both-true}
+use Rattle.lent.specs.Lent.{scratchFits}
+use Rattle.lent.proofs.Passed.{AllPass, all-pass}
 use Rattle.slices.specs.declared.Counted.the-variants.{Counted as Filled, Refused as NotFilled}
 use Rattle.residuals.specs.declared.filling.Filled.{Filled as Count}
 use Rattle.residuals.specs.Inputs.{Inputs}
@@ -30,12 +31,12 @@ samples-pass : (obs : Sightings) (l : Lists) → outputsFit obs l ≡ true → S
 unfolding samplesFit
 samples-pass obs l h =
     let m : ℕ = length (obs .times) in
-    let own = both-pass (eqb (length (obs .values)) m && eqb (length (obs .good)) m) _ h in
-    let given = both-pass (eqb (length (obs .values)) m) (eqb (length (obs .good)) m) (own .0) in
-    let outs = both-pass (eqb (length (l .times)) m && eqb (length (l .residuals)) m) (eqb (length (l .terms)) m && (eqb (length (l .mids)) m && eqb (length (l .vels)) m)) (own .1) in
-    let flat = both-pass (eqb (length (l .times)) m) (eqb (length (l .residuals)) m) (outs .0) in
-    let arrays = both-pass (eqb (length (l .terms)) m) (eqb (length (l .mids)) m && eqb (length (l .vels)) m) (outs .1) in
-    let vectors = both-pass (eqb (length (l .mids)) m) (eqb (length (l .vels)) m) (arrays .1) in
+    let own = both-true (eqb (length (obs .values)) m && eqb (length (obs .good)) m) _ h in
+    let given = both-true (eqb (length (obs .values)) m) (eqb (length (obs .good)) m) (own .0) in
+    let outs = both-true (eqb (length (l .times)) m && eqb (length (l .residuals)) m) (eqb (length (l .terms)) m && (eqb (length (l .mids)) m && eqb (length (l .vels)) m)) (own .1) in
+    let flat = both-true (eqb (length (l .times)) m) (eqb (length (l .residuals)) m) (outs .0) in
+    let arrays = both-true (eqb (length (l .terms)) m) (eqb (length (l .mids)) m && eqb (length (l .vels)) m) (outs .1) in
+    let vectors = both-true (eqb (length (l .mids)) m) (eqb (length (l .vels)) m) (arrays .1) in
     record {
       values = eqb-true (length (obs .values)) m (given .0);
       good = eqb-true (length (obs .good)) m (given .1);
@@ -58,7 +59,7 @@ module _ (inp : Inputs) (obs : Sightings) (l : Lists) (samples : Bool) (n scratc
       (inputsFine inp && (all isTime (obs .times) && all finite (obs .values))) (inputsRise inp && rising (obs .times)) (sym e ∙ z)
 
   fits : Samples obs l
-  fits = samples-pass obs l (sym b ∙ both-pass (inputsFit inp && scratchFits (inp .model .degree) (length (inp .model .times)) (length (obs .times)) scratch) samples (passed .lengths) .1)
+  fits = samples-pass obs l (sym b ∙ both-true (inputsFit inp && scratchFits (inp .model .degree) (length (inp .model .times)) (length (obs .times)) scratch) samples (passed .lengths) .1)
 
   pub residuals-ready : Ready (inp .model .degree) (inp .statesC .keys) (inp .statesD .keys) (inp .accC .keys) (inp .accD .keys) scratch
       × (length (obs .values) ≡ length (obs .times)) × (length (obs .good) ≡ length (obs .times)) × Long (length (obs .times)) l
@@ -66,10 +67,10 @@ module _ (inp : Inputs) (obs : Sightings) (l : Lists) (samples : Bool) (n scratc
     ready inp (length (obs .times)) scratch (inputsFine inp && (all isTime (obs .times) && all finite (obs .values)))
         (record {
           degree = passed .degree;
-          counts = both-pass (inputsCounted inp) (leb (length (obs .times)) 100000) (passed .counts) .0;
-          lengths = both-pass (inputsFit inp && scratchFits (inp .model .degree) (length (inp .model .times)) (length (obs .times)) scratch) samples (passed .lengths) .0;
+          counts = both-true (inputsCounted inp) (leb (length (obs .times)) 100000) (passed .counts) .0;
+          lengths = both-true (inputsFit inp && scratchFits (inp .model .degree) (length (inp .model .times)) (length (obs .times)) scratch) samples (passed .lengths) .0;
           values = passed .values;
-          order = both-pass (inputsRise inp) (rising (obs .times)) (passed .order) .0;
+          order = both-true (inputsRise inp) (rising (obs .times)) (passed .order) .0;
         }),
     fits .values,
     fits .good,

@@ -1,6 +1,6 @@
 -- One turn of the loop over the observations. Assumes nothing.
 use mathlib.Core.Path.{_≡_, refl, sym, ap, _∙_, subst}
-use mathlib.Core.Bool.{Bool, true, false, _&&_}
+use mathlib.Core.Bool.{Bool, true, false, _&&_, and-true}
 use mathlib.Core.Option.{Option, none, some}
 use mathlib.Core.List.{List, [], _∷_, _++_, append-nil}
 use Prim.Native.Nat.{ℕ, _+_, _-_, _≤_, _<_}
@@ -9,12 +9,14 @@ use lib.Ieee.{Float, nan}
 use lib.ListN.{length, getD, replicate, length-append}
 use Rattle.laws.specs.Floats.{zero64}
 use Rattle.laws.specs.Checks.{all}
-use Rattle.finality.specs.Sheet.{Observation}
+use Rattle.laws.specs.Bools.{clash}
+use Rattle.laws.specs.Loops.{filled-none}
+use Rattle.finality.specs.Sheet.{Observation, keep, keptOf}
 use Rattle.epochs.specs.declared.Epoch.{Epoch}
 use Rattle.sighting.specs.declared.Made.{Made}
-use Rattle.sighting.specs.Kept.{observation, keep, keptOf}
+use Rattle.sighting.specs.Kept.{observation}
 use Rattle.sighting.specs.Work.{madeOf}
-use Rattle.sighting.proofs.Kept.{seen as seenAt, kept-more as more-kept, kept-few as few-kept, kept-all as all-kept, set-more, padded-length, replicate-like}
+use Rattle.sighting.proofs.Kept.{seen as seenAt, kept-more as more-kept, kept-few as few-kept, kept-all as all-kept, set-more, filled-records}
 use Rattle.residuals.specs.declared.filling.Filled.{Filled}
 use Rattle.residuals.specs.Inputs.{Inputs, epochOf}
 use Rattle.residuals.specs.Work.{Tried}
@@ -51,19 +53,15 @@ stored-more m es e h = λ i. lists
 lists-long : (m : ℕ) (es : List Epoch) → length es ≤ m → Long m (listsOf m es)
 unfolding listsOf
 lists-long m es h = record {
-  times = padded-length zero64 (λ (e : Epoch). e .t) m es h;
-  residuals = padded-length zero64 (λ (e : Epoch). e .residual) m es h;
-  terms = padded-length (replicate 5 zero64) (λ (e : Epoch). e .terms) m es h;
-  mids = padded-length (replicate 3 zero64) (λ (e : Epoch). e .mid) m es h;
-  vels = padded-length (replicate 3 zero64) (λ (e : Epoch). e .vel) m es h;
+  times = filled-records zero64 (λ (e : Epoch). e .t) m es h;
+  residuals = filled-records zero64 (λ (e : Epoch). e .residual) m es h;
+  terms = filled-records (replicate 5 zero64) (λ (e : Epoch). e .terms) m es h;
+  mids = filled-records (replicate 3 zero64) (λ (e : Epoch). e .mid) m es h;
+  vels = filled-records (replicate 3 zero64) (λ (e : Epoch). e .vel) m es h;
 }
 
 all-snoc : {A : Type 0} (p : A → Bool) (xs : List A) (x : A) → all p (xs ++ (x ∷ [])) ≡ (all p xs && p x)
 all-snoc p [] x = and-true (p x)
-  where
-    and-true : (b : Bool) → (b && true) ≡ b
-    and-true true = refl
-    and-true false = refl
 all-snoc p (y ∷ xs) x = ap (λ (b : Bool). p y && b) (all-snoc p xs x) ∙ and-assoc (p y) (all p xs) (p x)
   where
     and-assoc : (a b d : Bool) → (a && (b && d)) ≡ ((a && b) && d)
@@ -128,10 +126,6 @@ module _ (inp : Inputs) (obs : Sightings) (base i : ℕ) (f : Filled) (l : Lists
 
 -- ---- what was made is stored
 
-clash : {X : Type 0} (b : Bool) → b ≡ true → b ≡ false → X
-clash true h e = absurd (let z : _≡_ {A = ℕ} 0 1 = cc in omega arith)
-clash false h e = absurd (let z : _≡_ {A = ℕ} 0 1 = cc in omega arith)
-
 pub added-kept : (m : Made) (f : Filled) (l : Lists) (fine good : Bool) → m .kept ≡ true → good ≡ epochFinite (m .epoch) → fine ≡ (f .fine && good) →
     Added m f (record { count = f .count + 1; fine = fine }) l (stored (f .count) (m .epoch) l)
 added-kept m f l fine good k e g = record {
@@ -169,11 +163,11 @@ ends inp obs base i f l w hv hg h k s =
 pub blank-is : (m : ℕ) (l : Lists) → Long m l → blank l ≡ listsOf m []
 unfolding listsOf
 blank-is m l h = λ i. lists
-    (replicate-like zero64 _ m (h .times) i)
-    (replicate-like zero64 _ m (h .residuals) i)
-    (replicate-like (replicate 5 zero64) _ m (h .terms) i)
-    (replicate-like (replicate 3 zero64) _ m (h .mids) i)
-    (replicate-like (replicate 3 zero64) _ m (h .vels) i)
+    (filled-none zero64 _ m (h .times) i)
+    (filled-none zero64 _ m (h .residuals) i)
+    (filled-none (replicate 5 zero64) _ m (h .terms) i)
+    (filled-none (replicate 3 zero64) _ m (h .mids) i)
+    (filled-none (replicate 3 zero64) _ m (h .vels) i)
 
 -- the outputs are as long as there are observations
 pub done-long : (inp : Inputs) (obs : Sightings) (r : Filled) (l : Lists) → length (obs .values) ≡ length (obs .times) → length (obs .good) ≡ length (obs .times) → Done inp obs r l → Long (length (obs .times)) l

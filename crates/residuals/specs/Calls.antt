@@ -8,20 +8,20 @@ use lib.Ieee.{Float}
 use lib.Ieee.Scale.{finite}
 use lib.ListN.{length, replicate}
 use Rattle.laws.specs.Floats.{zero64}
-use Rattle.laws.specs.Checks.{all, isTime, rising}
-use Rattle.laws.specs.Loops.{cleared}
+use Rattle.laws.specs.Checks.{all, isTime, rising, degreeFine}
+use Rattle.laws.specs.Loops.{cleared, filledUp}
 use Rattle.slices.specs.Calls.{Left, left}
 use Rattle.slices.specs.declared.Counted.{Counted}
 use Rattle.slices.specs.declared.Counted.the-variants.{Counted as Filled, Refused as NotFilled}
-use Rattle.finality.specs.Sheet.{Observation}
-use Rattle.lent.specs.Lent.{firstOf, degreeFine, countsFine, modelFits, tablesFit, scratchFits, modelFine, keyedFine, rise}
+use Rattle.finality.specs.Sheet.{Observation, keptOf}
+use Rattle.lent.specs.Lent.{firstOf, countsFine, modelFits, tablesFit, scratchFits, modelFine, keyedFine, rise}
 use Rattle.epochs.specs.declared.Epoch.{Epoch}
 use Rattle.residuals.specs.declared.Verdict.{Verdict}
 use Rattle.residuals.specs.declared.Verdict.the-variants.{Kept, NotKept, Refused}
 use Rattle.residuals.specs.declared.EpochAnswer.{EpochAnswer}
 use Rattle.residuals.specs.Inputs.{Inputs, epochOf}
 use Rattle.sighting.specs.declared.Made.{Made}
-use Rattle.sighting.specs.Kept.{Keyed, observations, keptOf, padded}
+use Rattle.sighting.specs.Kept.{Keyed, observations}
 use Rattle.sighting.specs.Work.{noEpoch}
 
 -- ---- a verdict: document 01's number, 0 where nothing is refused, and whether the epoch is kept; its record stands beside it
@@ -136,11 +136,11 @@ residualsRefusal inp obs samples scratch =
 -- the records' numbers, +0.0 after the last
 unfoldable pub listsOf : ℕ → List Epoch → Lists
 listsOf m es = record {
-  times = padded zero64 m (map (λ (e : Epoch). e .t) es);
-  residuals = padded zero64 m (map (λ (e : Epoch). e .residual) es);
-  terms = padded (replicate 5 zero64) m (map (λ (e : Epoch). e .terms) es);
-  mids = padded (replicate 3 zero64) m (map (λ (e : Epoch). e .mid) es);
-  vels = padded (replicate 3 zero64) m (map (λ (e : Epoch). e .vel) es);
+  times = filledUp zero64 m (map (λ (e : Epoch). e .t) es);
+  residuals = filledUp zero64 m (map (λ (e : Epoch). e .residual) es);
+  terms = filledUp (replicate 5 zero64) m (map (λ (e : Epoch). e .terms) es);
+  mids = filledUp (replicate 3 zero64) m (map (λ (e : Epoch). e .mid) es);
+  vels = filledUp (replicate 3 zero64) m (map (λ (e : Epoch). e .vel) es);
 }
 
 pub record ListsLeft : Type 0 where

@@ -5,12 +5,13 @@ use mathlib.Core.Bool.{true, false, _&&_}
 use mathlib.Core.List.{List, []}
 use lib.Ieee.{Float}
 use lib.ListN.{length, take, set, replicate}
+use Rattle.finality.specs.Sheet.{keptOf}
 use Rattle.laws.specs.Checks.{all}
 use Rattle.laws.specs.Floats.{zero64}
 use Rattle.laws.specs.Loops.{cleared}
 use Rattle.epochs.specs.declared.Epoch.{Epoch}
 use Rattle.sighting.specs.declared.Made.{Made}
-use Rattle.sighting.specs.Kept.{observations, keptOf}
+use Rattle.sighting.specs.Kept.{observations}
 use Rattle.sighting.specs.Work.{Usable}
 use Rattle.residuals.specs.declared.filling.Filled.{Filled}
 use Rattle.residuals.specs.Inputs.{Inputs, epochOf}

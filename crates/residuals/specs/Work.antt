@@ -6,9 +6,9 @@ use mathlib.Core.List.{List}
 use lib.Ieee.{Float}
 use lib.IntN.{ℤ}
 use lib.ListN.{length, take}
+use Rattle.lent.specs.Lent.{frontSize}
 use Rattle.laws.specs.Checks.{risingSeconds}
 use Rattle.finality.specs.Sheet.{Observation}
-use Rattle.integrate.specs.Force.{frontSize}
 use Rattle.sighting.specs.declared.Made.{Made}
 use Rattle.sighting.specs.Work.{madeOf, Usable}
 use Rattle.residuals.specs.Inputs.{Inputs, epochOf}

@@ -2,7 +2,8 @@
 ghost use mathlib.Core.Path.{_≡_};
 ghost use Prim.Native.Nat.{_+_, _<_};
 ghost use lib.ListN.{length};
-ghost use Rattle.integrate.specs.Force.{model, frontSize};
+ghost use Rattle.lent.specs.Lent.{frontSize};
+ghost use Rattle.integrate.specs.Force.{model};
 ghost use Rattle.sighting.specs.Kept.{keyed};
 ghost use Rattle.residuals.specs.Inputs.{inputs};
 ghost use Rattle.residuals.specs.Work.{Searchable, Ready};

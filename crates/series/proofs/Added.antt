@@ -2,13 +2,12 @@
 use Rattle.laws.specs.Floats.{_⊕_, _⊖_, _⊗_, zero64, one64}
 use Rattle.laws.specs.Tables.{row, row-at}
 use Rattle.laws.specs.WholeNumbers.{number}
-use Rattle.series.specs.Arrays.{total}
+use Rattle.laws.specs.Sums.{sumTo, sum-same}
 use Rattle.series.specs.Field.{totals}
 use Rattle.series.specs.declared.Totals.{Totals}
 use Rattle.series.specs.Sums.{Degree, RowSums, even, odd, Evaluation, degrees, AllSums, power, allV, allR, allLat, allLon}
-use Prim.Native.Nat.{ℕ, zero, suc, _+_, _≤_, _<_}
-use mathlib.Core.Path.{_≡_, refl, sym, ap, ap₂, _∙_, subst}
-use native.Mathlib.Omega.{arith}
+use Prim.Native.Nat.{ℕ, _+_, _≤_, _<_}
+use mathlib.Core.Path.{_≡_, refl, sym, ap, _∙_, subst}
 use native.Mathlib.Numerals.{add-one}
 use lib.Ieee.{Float, nan, ofInt, ofBits, round, add}
 use lib.ListN.{getD}
@@ -29,12 +28,12 @@ number-next m h =
 
 -- one order more, k being m as a float
 pub sums-more : {r : Degree} {m : ℕ} {v lat lon k : Float} → RowSums r m v lat lon → k ≡ number m → RowSums r (m + 1) (v ⊕ r .p m ⊗ even r m) (lat ⊕ r .d m ⊗ even r m) (lon ⊕ r .p m ⊗ k ⊗ odd r m)
-unfolding total
+unfolding sumTo
 sums-more s ek = record { sv = rw add-one (cc); slat = rw add-one (cc); slon = rw add-one (cc) }
 
 -- one degree more
 pub all-more : {f : Evaluation} {q qn v r lat lon sv slat slon w : Float} {n : ℕ} → AllSums f q n v r lat lon qn → RowSums (degrees f n) (n + 1) sv slat slon → w ≡ number (n + 1) → AllSums f q (n + 1) (v ⊕ qn ⊗ sv) (r ⊖ w ⊗ qn ⊗ sv) (lat ⊕ qn ⊗ slat) (lon ⊕ qn ⊗ slon) (qn ⊗ q)
-unfolding allV allR allLat allLon total power
+unfolding allV allR allLat allLon sumTo power
 all-more {n = n} a s ew = record {
   av = rw add-one (cc);
   ar = rw add-one (cc);
@@ -43,18 +42,13 @@ all-more {n = n} a s ew = record {
   aq = rw add-one (cc);
 }
 
-pub total-cong : {g h : ℕ → Float} (j : ℕ) → ((i : ℕ) → i < j → g i ≡ h i) → total g j ≡ total h j
-unfolding total
-total-cong zero e = refl
-total-cong (suc j) e = ap₂ (λ (x y : Float). x ⊕ y) (total-cong j (λ i l. e i (omega arith))) (e j (omega arith))
-
 -- the sums are determined by what they read
 -- (c and s are the same)
 pub sums-as : {c s x y p d x' y' p' d' : ℕ → Float} {j : ℕ} {v lat lon : Float} → ((i : ℕ) → i < j → x i ≡ x' i) → ((i : ℕ) → i < j → y i ≡ y' i) → ((i : ℕ) → i < j → p i ≡ p' i) → ((i : ℕ) → i < j → d i ≡ d' i) → RowSums (record { c = c; s = s; x = x; y = y; p = p; d = d }) j v lat lon → RowSums (record { c = c; s = s; x = x'; y = y'; p = p'; d = d' }) j v lat lon
 sums-as {c} {s} {x} {y} {p} {d} {x'} {y'} {p'} {d'} {j} ex ey ep ed r = record {
-  sv = r .sv ∙ total-cong j (λ i l. λ h. ep i l h ⊗ (c i ⊗ ex i l h ⊕ s i ⊗ ey i l h));
-  slat = r .slat ∙ total-cong j (λ i l. λ h. ed i l h ⊗ (c i ⊗ ex i l h ⊕ s i ⊗ ey i l h));
-  slon = r .slon ∙ total-cong j (λ i l. λ h. ep i l h ⊗ number i ⊗ (s i ⊗ ex i l h ⊖ c i ⊗ ey i l h));
+  sv = r .sv ∙ sum-same j (λ i l. λ h. ep i l h ⊗ (c i ⊗ ex i l h ⊕ s i ⊗ ey i l h));
+  slat = r .slat ∙ sum-same j (λ i l. λ h. ed i l h ⊗ (c i ⊗ ex i l h ⊕ s i ⊗ ey i l h));
+  slon = r .slon ∙ sum-same j (λ i l. λ h. ep i l h ⊗ number i ⊗ (s i ⊗ ex i l h ⊖ c i ⊗ ey i l h));
 }
 
 pub sums-at : {f : Evaluation} {q v r lat lon qn : Float} {j : ℕ} (i : ℕ) → AllSums f q j v r lat lon qn → j ≡ i → AllSums f q i v r lat lon qn

@@ -1,12 +1,12 @@
 -- Tables and the diagonal filled from the front; what the guards say. Assumes nothing.
 use Prim.Native.Nat.{ℕ, zero, suc, _+_, _-_, _*_, _≤_, _<_}
-use mathlib.Core.Path.{_≡_, refl, sym, ap, ap₂, subst, _∙_}
+use mathlib.Core.Path.{_≡_, refl, sym, ap, ap₂, _∙_}
 use mathlib.Core.Bool.{Bool, true, false, _&&_}
-use mathlib.Core.List.{List, [], _∷_, _++_, append-nil}
+use mathlib.Core.List.{List, [], _∷_, _++_}
 use native.Mathlib.Omega.{arith}
 use native.Mathlib.Numerals.{add-one}
 use borrow.Author.Tests.{le-leb, lt-leb, eq-eqb, ne-eqb, leb-true, eqb-true}
-use lib.Dec.{T, eqb, leb}
+use lib.Dec.{eqb, leb}
 use lib.ListN.{length, take, set}
 use lib.Seq.{take-all}
 use lib.Ieee.{Float, binary64}
@@ -14,14 +14,11 @@ use Rattle.root.specs.Root.{sqrt}
 use Rattle.laws.specs.Floats.{_⊗_}
 use Rattle.laws.specs.Loops.{take-set}
 use Rattle.laws.specs.Tables.{tri, row, rows, tri-next, row-turn, rows-turn, rows-done}
+use Rattle.laws.specs.Bools.{both-true}
 use Rattle.series.specs.Legendre.{ratio, diagonal}
 use Rattle.series.specs.Field.{size, fitsIn, Fits}
 
 -- ---- a row
-
-pub row-none : (g : ℕ → Float) (out : List Float) (k : ℕ) → take (k + 0) out ≡ take k out ++ row g 0
-unfolding row
-row-none g out k = ap (λ (i : ℕ). take i out) {x = k + 0} {y = k} (omega arith) ∙ sym (append-nil (take k out))
 
 pub row-full : (g : ℕ → Float) (p out : List Float) (k m n : ℕ) → take (k + m) out ≡ p ++ row g m → m ≡ n + 1 → take (k + (n + 1)) out ≡ p ++ row g (n + 1)
 row-full g p out k m n inv e = ap (λ (i : ℕ). take (k + i) out) (sym e) ∙ inv ∙ ap (λ (i : ℕ). p ++ row g i) e
@@ -67,15 +64,11 @@ fits-not N a b w h = rw (lt-leb N 180 h)
 pub fits-is : (N a b w l : ℕ) (x y : Bool) → N ≤ 180 → l ≡ tri (N + 1) → x ≡ eqb b l && leb (8 * l) w → y ≡ eqb a l && x → y ≡ fitsIn N a b w
 fits-is N a b w l x y h e ex ey = rw (le-leb N 180 h) (ey ∙ ap (λ (z : Bool). eqb a l && z) ex ∙ ap (λ (k : ℕ). eqb a k && (eqb b k && leb (8 * k) w)) e)
 
-and-true : (x y : Bool) → x && y ≡ true → (x ≡ true) × (y ≡ true)
-and-true true y h = (refl, h)
-and-true false y h = absurd (subst T (sym h) tt)
-
 pub fits-says : (N a b w : ℕ) → fitsIn N a b w ≡ true → Fits N a b w
 fits-says N a b w h =
-    let s = and-true (leb N 180) (eqb a (size N) && (eqb b (size N) && leb (8 * size N) w)) h in
-    let r = and-true (eqb a (size N)) (eqb b (size N) && leb (8 * size N) w) (s .1) in
-    let q = and-true (eqb b (size N)) (leb (8 * size N) w) (r .1) in
+    let s = both-true (leb N 180) (eqb a (size N) && (eqb b (size N) && leb (8 * size N) w)) h in
+    let r = both-true (eqb a (size N)) (eqb b (size N) && leb (8 * size N) w) (s .1) in
+    let q = both-true (eqb b (size N)) (leb (8 * size N) w) (r .1) in
     record { degree = leb-true N 180 (s .0); a = eqb-true a (size N) (r .0); b = eqb-true b (size N) (q .0); work = leb-true (8 * size N) w (q .1) }
 
 -- the diagonal is no longer than a table

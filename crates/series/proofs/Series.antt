@@ -10,6 +10,7 @@ use lib.Ieee.{Float, nan, neg}
 use Rattle.laws.specs.Tables.{tri}
 use Rattle.laws.specs.Floats.{_⊕_, _⊖_, _⊗_, zero64}
 use Rattle.laws.specs.WholeNumbers.{number}
+use Rattle.laws.specs.Sums.{sum-same}
 use Rattle.series.specs.Legendre.{half64, unscale, derivedRow, aOf, bOf, lowerOf, upperOf, diagonal, stepOf, column, legendre, derived}
 use Rattle.series.specs.Arrays.{from}
 use Rattle.series.specs.Rows.{Tables, stepAt, scaledRow, legendreBy, derivedBy}
@@ -17,7 +18,6 @@ use Rattle.series.specs.Sums.{degrees, evaluation, cosines, sines, power
 use Rattle.series.specs.Field.{totals}
 use Rattle.series.proofs.Recur.{past, row-is}
 use Rattle.series.proofs.Rows.{der-cong}
-use Rattle.series.proofs.Added.{total-cong}
 
 -- tables that hold the factors up to degree N
 pub record TrueTables (N : ℕ) (T : Tables) : Type 0 where
@@ -87,13 +87,13 @@ module _ (N : ℕ) (T : Tables) (t u : Float) (true : TrueTables N T) where
 
   module _ (lon : Float) (c s : List Float) where
     v-true : (n : ℕ) → n ≤ N → rowV (degrees (evaluation T t u lon c s)) n ≡ rowV (published t u lon c s) n
-    v-true n h = total-cong (n + 1) (λ m l. ap (λ (x : Float). x ⊗ (from c (tri n) m ⊗ cosines lon m ⊕ from s (tri n) m ⊗ sines lon m)) (p-true N T t true u n m (omega arith) h))
+    v-true n h = sum-same (n + 1) (λ m l. ap (λ (x : Float). x ⊗ (from c (tri n) m ⊗ cosines lon m ⊕ from s (tri n) m ⊗ sines lon m)) (p-true N T t true u n m (omega arith) h))
 
     lat-true : (n : ℕ) → n ≤ N → rowLat (degrees (evaluation T t u lon c s)) n ≡ rowLat (published t u lon c s) n
-    lat-true n h = total-cong (n + 1) (λ m l. ap (λ (x : Float). x ⊗ (from c (tri n) m ⊗ cosines lon m ⊕ from s (tri n) m ⊗ sines lon m)) (d-true n m (omega arith) h))
+    lat-true n h = sum-same (n + 1) (λ m l. ap (λ (x : Float). x ⊗ (from c (tri n) m ⊗ cosines lon m ⊕ from s (tri n) m ⊗ sines lon m)) (d-true n m (omega arith) h))
 
     lon-true : (n : ℕ) → n ≤ N → rowLon (degrees (evaluation T t u lon c s)) n ≡ rowLon (published t u lon c s) n
-    lon-true n h = total-cong (n + 1) (λ m l. ap (λ (x : Float). x ⊗ number m ⊗ (from s (tri n) m ⊗ cosines lon m ⊖ from c (tri n) m ⊗ sines lon m)) (p-true N T t true u n m (omega arith) h))
+    lon-true n h = sum-same (n + 1) (λ m l. ap (λ (x : Float). x ⊗ number m ⊗ (from s (tri n) m ⊗ cosines lon m ⊖ from c (tri n) m ⊗ sines lon m)) (p-true N T t true u n m (omega arith) h))
 
     r-true : (q : Float) (j : ℕ) → j ≤ N + 1 → allR (degrees (evaluation T t u lon c s)) q j ≡ allR (published t u lon c s) q j
     unfolding allR
@@ -104,8 +104,8 @@ module _ (N : ℕ) (T : Tables) (t u : Float) (true : TrueTables N T) where
     pub series : (q : Float) → totals (degrees (evaluation T t u lon c s)) q (N + 1) ≡ totals (published t u lon c s) q (N + 1)
     unfolding allV allLat allLon
     series q = λ i. record {
-      v = total-cong (N + 1) (λ n l. ap (λ (x : Float). power q n ⊗ x) (v-true n (omega arith))) i;
+      v = sum-same (N + 1) (λ n l. ap (λ (x : Float). power q n ⊗ x) (v-true n (omega arith))) i;
       r = r-true q (N + 1) (omega arith) i;
-      lat = total-cong (N + 1) (λ n l. ap (λ (x : Float). power q n ⊗ x) (lat-true n (omega arith))) i;
-      lon = total-cong (N + 1) (λ n l. ap (λ (x : Float). power q n ⊗ x) (lon-true n (omega arith))) i;
+      lat = sum-same (N + 1) (λ n l. ap (λ (x : Float). power q n ⊗ x) (lat-true n (omega arith))) i;
+      lon = sum-same (N + 1) (λ n l. ap (λ (x : Float). power q n ⊗ x) (lon-true n (omega arith))) i;
     }

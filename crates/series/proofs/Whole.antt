@@ -1,6 +1,6 @@
 -- Rows of arrays as rows of whole tables. Assumes nothing.
 use Prim.Native.Nat.{ℕ, zero, suc, _+_, _-_, _*_, _≤_, _<_}
-use mathlib.Core.Path.{_≡_, refl, sym, ap, ap₂, _∙_}
+use mathlib.Core.Path.{_≡_, sym, ap, ap₂, _∙_}
 use mathlib.Core.Bool.{Bool, true, false, cond, _&&_}
 use mathlib.Core.List.{List, _++_}
 use native.Mathlib.Omega.{arith}
@@ -8,6 +8,7 @@ use borrow.Rule.Slice.PartMut.{mid-len}
 use lib.ListN.{length, take}
 use lib.Ieee.{Float}
 use Rattle.laws.specs.Tables.{tri, row, rows, row-same, rows-length}
+use Rattle.laws.specs.Bools.{both-true}
 use Rattle.numbers.specs.Numbers.{sineCosine}
 use Rattle.numbers.specs.declared.SineCosine.{SineCosine}
 use Rattle.series.specs.Legendre.{derivedRow}
@@ -47,8 +48,8 @@ derive-room N l p work dp f e =
     let g = f .work in
     (f .degree, omega (arith, mid-len (2 * l) (3 * l) work (omega arith)), omega (arith, mid-len (3 * l) (4 * l) work (omega arith)), f .a)
 
-both-true : (N : ℕ) (a b work p dp : List Float) → Fits N (length a) (length b) (length work) → Fits N (length p) (length dp) (length work) → bothFit N a b work p dp ≡ true
-both-true N a b work p dp f g = rw (fits-true N (length a) (length b) (length work) f, fits-true N (length p) (length dp) (length work) g)
+both-fit : (N : ℕ) (a b work p dp : List Float) → Fits N (length a) (length b) (length work) → Fits N (length p) (length dp) (length work) → bothFit N a b work p dp ≡ true
+both-fit N a b work p dp f g = rw (fits-true N (length a) (length b) (length work) f, fits-true N (length p) (length dp) (length work) g)
 
 module _ (N : ℕ) (a b work : List Float) (lat : Float) (p dp : List Float) where
   pub computed-is : (l : ℕ) (w : SineCosine) (x y : List Float) → Fits N (length a) (length b) (length work) → Fits N (length p) (length dp) (length work) → l ≡ tri (N + 1) → w ≡ sineCosine lat →
@@ -57,8 +58,8 @@ module _ (N : ℕ) (a b work : List Float) (lat : Float) (p dp : List Float) whe
       (x ≡ legendreWith N a b work lat p dp) × (y ≡ derivativeWith N a b work lat p dp)
   unfolding legendreWith derivativeWith sineCosine
   computed-is l w x y f g e ew ex ey = (
-    ex ∙ (λ i. rows (legendreBy (tablesOf a b (part work (2 * e i) (3 * e i)) (part work (3 * e i) (4 * e i)) (part work (4 * e i) (4 * e i + (N + 1)))) (ew i .sine) (ew i .cosine)) (N + 1)) ∙ rw (both-true N a b work p dp f g),
-    ey ∙ (λ i. rows (derivedBy (tablesOf a b (part work (2 * e i) (3 * e i)) (part work (3 * e i) (4 * e i)) (part work (4 * e i) (4 * e i + (N + 1)))) (ew i .sine) (ew i .cosine)) (N + 1)) ∙ rw (both-true N a b work p dp f g),
+    ex ∙ (λ i. rows (legendreBy (tablesOf a b (part work (2 * e i) (3 * e i)) (part work (3 * e i) (4 * e i)) (part work (4 * e i) (4 * e i + (N + 1)))) (ew i .sine) (ew i .cosine)) (N + 1)) ∙ rw (both-fit N a b work p dp f g),
+    ey ∙ (λ i. rows (derivedBy (tablesOf a b (part work (2 * e i) (3 * e i)) (part work (3 * e i) (4 * e i)) (part work (4 * e i) (4 * e i + (N + 1)))) (ew i .sine) (ew i .cosine)) (N + 1)) ∙ rw (both-fit N a b work p dp f g),
   )
 
   pub computed-not : (x y z : Bool) → x ≡ fitsIn N (length a) (length b) (length work) → y ≡ fitsIn N (length p) (length dp) (length work) → z ≡ x && y → z ≡ false →
@@ -68,11 +69,7 @@ module _ (N : ℕ) (a b work : List Float) (lat : Float) (p dp : List Float) whe
       let q : bothFit N a b work p dp ≡ false = ap₂ (λ (i j : Bool). i && j) (sym ex) (sym ey) ∙ sym ez ∙ h in
       (rw q, rw q)
 
-both-fits : (x y : Bool) → x && y ≡ true → (x ≡ true) × (y ≡ true)
-both-fits true y h = (refl, h)
-both-fits false y h = absurd (mathlib.Core.Path.subst lib.Dec.T (sym h) tt)
-
 pub compute-fits : (N la lb lp ld lw : ℕ) (x y z : Bool) → x ≡ fitsIn N la lb lw → y ≡ fitsIn N lp ld lw → z ≡ x && y → z ≡ true → Fits N la lb lw × Fits N lp ld lw
 compute-fits N la lb lp ld lw x y z ex ey ez h =
-    let q = both-fits x y (sym ez ∙ h) in
+    let q = both-true x y (sym ez ∙ h) in
     (Rattle.series.proofs.Kernel.fits-gives N la lb lw x ex (q .0), Rattle.series.proofs.Kernel.fits-gives N lp ld lw y ey (q .1))

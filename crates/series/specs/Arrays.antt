@@ -1,10 +1,9 @@
 -- What lists and arrays of 184 numbers hold, by place; words of the contracts inside this crate. Assumes nothing.
-use Prim.Native.Nat.{ℕ, zero, suc, _+_, _≤_, _<_}
+use Prim.Native.Nat.{ℕ, _+_, _≤_, _<_}
 use mathlib.Core.Path.{_≡_}
 use mathlib.Core.List.{List}
 use lib.ListN.{length, getD}
 use lib.Ieee.{Float, nan}
-use Rattle.laws.specs.Floats.{_⊕_, zero64}
 
 -- the number at a place
 abbrev pub at : List Float → ℕ → Float
@@ -24,8 +23,3 @@ pub record Begins (j : ℕ) (g : ℕ → Float) (w₀ w : List Float) : Type 0 w
 pub record Has (j : ℕ) (g : ℕ → Float) (w : List Float) : Type 0 where
   pub len : length w ≡ 184
   pub set : (i : ℕ) → i < j → getD w i nan ≡ g i
-
--- the sum of the first j numbers, from +0.0 on, in order
-unfoldable pub total : (ℕ → Float) → ℕ → Float
-total g zero = zero64
-total g (suc j) = total g j ⊕ g j

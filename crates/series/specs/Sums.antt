@@ -8,8 +8,9 @@ use lib.Ieee.{Float}
 use Rattle.laws.specs.Floats.{_⊕_, _⊖_, _⊗_, zero64, one64}
 use Rattle.laws.specs.WholeNumbers.{number}
 use Rattle.laws.specs.Tables.{tri}
+use Rattle.laws.specs.Sums.{sumTo}
 use Rattle.numbers.specs.Numbers.{sine, cosine}
-use Rattle.series.specs.Arrays.{from, total}
+use Rattle.series.specs.Arrays.{from}
 use Rattle.series.specs.Legendre.{legendre, derived}
 use Rattle.series.specs.Rows.{Tables, legendreBy, derivedBy}
 
@@ -42,13 +43,13 @@ termLon g m = g .p m ⊗ number m ⊗ odd g m
 
 -- the sums of degree n of a series over its orders
 abbrev pub rowV : (ℕ → Degree) → ℕ → Float
-rowV f n = total (termV (f n)) (n + 1)
+rowV f n = sumTo (termV (f n)) (n + 1)
 
 abbrev pub rowLat : (ℕ → Degree) → ℕ → Float
-rowLat f n = total (termLat (f n)) (n + 1)
+rowLat f n = sumTo (termLat (f n)) (n + 1)
 
 abbrev pub rowLon : (ℕ → Degree) → ℕ → Float
-rowLon f n = total (termLon (f n)) (n + 1)
+rowLon f n = sumTo (termLon (f n)) (n + 1)
 
 -- q to the n, by repeated products
 unfoldable pub power : Float → ℕ → Float
@@ -57,17 +58,17 @@ power q (suc n) = power q n ⊗ q
 
 -- the sums of the first j degrees, q being the ratio of the radii
 unfoldable pub allV : (ℕ → Degree) → Float → ℕ → Float
-allV f q j = total (λ n. power q n ⊗ rowV f n) j
+allV f q j = sumTo (λ n. power q n ⊗ rowV f n) j
 
 unfoldable pub allR : (ℕ → Degree) → Float → ℕ → Float
 allR f q zero = zero64
 allR f q (suc n) = allR f q n ⊖ number (n + 1) ⊗ power q n ⊗ rowV f n
 
 unfoldable pub allLat : (ℕ → Degree) → Float → ℕ → Float
-allLat f q j = total (λ n. power q n ⊗ rowLat f n) j
+allLat f q j = sumTo (λ n. power q n ⊗ rowLat f n) j
 
 unfoldable pub allLon : (ℕ → Degree) → Float → ℕ → Float
-allLon f q j = total (λ n. power q n ⊗ rowLon f n) j
+allLon f q j = sumTo (λ n. power q n ⊗ rowLon f n) j
 
 -- ---- the series of a field at a place
 
@@ -101,9 +102,9 @@ degrees f n =
 
 -- the sums of one degree over the first j orders
 pub record RowSums (g : Degree) (j : ℕ) (v lat lon : Float) : Type 0 where
-  pub sv : v ≡ total (termV g) j
-  pub slat : lat ≡ total (termLat g) j
-  pub slon : lon ≡ total (termLon g) j
+  pub sv : v ≡ sumTo (termV g) j
+  pub slat : lat ≡ sumTo (termLat g) j
+  pub slon : lon ≡ sumTo (termLon g) j
 
 -- the sums of the first j degrees, and the ratio's power
 pub record AllSums (f : Evaluation) (q : Float) (j : ℕ) (v r lat lon qn : Float) : Type 0 where

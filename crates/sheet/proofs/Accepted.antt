@@ -1,19 +1,20 @@
 -- What the tests of the call say where none fails. Assumes nothing.
-use mathlib.Core.Path.{_≡_, refl, sym, ap, _∙_, subst}
-use mathlib.Core.Bool.{Bool, true, false, cond, _&&_}
+use mathlib.Core.Path.{_≡_, refl, ap, _∙_}
+use mathlib.Core.Bool.{true, false, cond, _&&_}
 use mathlib.Core.List.{List, [], _∷_}
 use Prim.Native.Nat.{ℕ, zero, suc, _+_, _-_, _*_, _/_, _≤_, _<_}
 use native.Mathlib.Omega.{arith}
-use lib.Dec.{T, leb, eqb}
+use lib.Dec.{leb, eqb}
 use lib.IntN.{ℤ}
 use lib.Ieee.{Float}
 use lib.Ieee.Scale.{finite}
 use lib.ListN.{length}
 use borrow.Author.Tests.{leb-true, le-leb, eqb-true, eq-eqb}
-use Rattle.laws.specs.Checks.{all, isTime, rising, risingSeconds}
-use Rattle.lent.specs.Lent.{kind, size, degreeFine, countsFine, modelFits, statesFit, tablesFit, leastScratch, wholeScratchFits, modelFine, keyedFine, rise}
-use Rattle.lent.proofs.Passed.{both-pass, all-pass, Few, counts-pass, Rise, rise-passes, states-pass, model-passes}
-use Rattle.integrate.specs.Force.{model, frontSize}
+use Rattle.laws.specs.Checks.{all, isTime, rising, risingSeconds, degreeFine}
+use Rattle.laws.specs.Bools.{both-true, holds}
+use Rattle.lent.specs.Lent.{kind, fieldSize, countsFine, modelFits, statesFit, tablesFit, leastScratch, wholeScratchFits, modelFine, keyedFine, rise, frontSize}
+use Rattle.lent.proofs.Passed.{all-pass, Few, counts-pass, Rise, rise-passes, states-pass, model-passes}
+use Rattle.integrate.specs.Force.{model}
 use Rattle.integrate.proofs.Published.{sized-fits}
 use Rattle.windows.specs.Stage.{Setting}
 use Rattle.windows.specs.Windows.{roomFor, windowsServe}
@@ -30,8 +31,8 @@ pub record Accepts (S : Setting) (l : Lists) (outputs : List (List Float)) (room
   pub counts : Few (length (l .keysC)) (length (l .keysD)) (length (l .accKeysC)) (length (l .accKeysD))
   pub nodes : length (l .nodes) ≤ 64
   pub observations : length (l .times) ≤ 100000
-  pub static : length (S .static) ≡ size (S .degree)
-  pub added : length (l .added) ≡ length (l .fieldTimes) * size (S .degree)
+  pub static : length (S .static) ≡ fieldSize (S .degree)
+  pub added : length (l .added) ≡ length (l .fieldTimes) * fieldSize (S .degree)
   pub statesC : length (l .statesC) ≡ 6 * length (l .keysC)
   pub statesD : length (l .statesD) ≡ 6 * length (l .keysD)
   pub accC : length (l .accC) ≡ length (l .accKeysC)
@@ -48,8 +49,8 @@ pub record Accepts (S : Setting) (l : Lists) (outputs : List (List Float)) (room
   pub times-rise : rising (l .times) ≡ true
 
 record Lengths (S : Setting) (l : Lists) (outputs : List (List Float)) (room : ℕ) : Type 0 where
-  pub static : length (S .static) ≡ size (S .degree)
-  pub added : length (l .added) ≡ length (l .fieldTimes) * size (S .degree)
+  pub static : length (S .static) ≡ fieldSize (S .degree)
+  pub added : length (l .added) ≡ length (l .fieldTimes) * fieldSize (S .degree)
   pub statesC : length (l .statesC) ≡ 6 * length (l .keysC)
   pub statesD : length (l .statesD) ≡ 6 * length (l .keysD)
   pub accC : length (l .accC) ≡ length (l .accKeysC)
@@ -68,18 +69,18 @@ record Tables (c cs d ds p ps q qs : ℕ) : Type 0 where
 tables-say : (c cs d ds p ps q qs : ℕ) → tablesFit c cs d ds p ps q qs ≡ true → Tables c cs d ds p ps q qs
 unfolding tablesFit
 tables-say c cs d ds p ps q qs h =
-    let a = both-pass (statesFit c cs && statesFit d ds) (eqb ps p && eqb qs q) h in
-    let s = both-pass (statesFit c cs) (statesFit d ds) (a .0) in
-    let t = both-pass (eqb ps p) (eqb qs q) (a .1) in
+    let a = both-true (statesFit c cs && statesFit d ds) (eqb ps p && eqb qs q) h in
+    let s = both-true (statesFit c cs) (statesFit d ds) (a .0) in
+    let t = both-true (eqb ps p) (eqb qs q) (a .1) in
     record { statesC = states-pass c cs (s .0); statesD = states-pass d ds (s .1); accC = eqb-true ps p (t .0); accD = eqb-true qs q (t .1) }
 
 scratch-says : (N fields nodes count room : ℕ) → wholeScratchFits N fields nodes count room ≡ true → leastScratch N fields count + 49200 * (nodes - 1) ≤ room
 unfolding wholeScratchFits
 scratch-says N fields nodes count room h =
-    let a = both-pass (leb N 180) _ h .1 in
-    let b = both-pass (leb fields 32) _ a .1 in
-    let e = both-pass (leb nodes 64) _ b .1 in
-    let f = both-pass (leb count 100000) _ e .1 in
+    let a = both-true (leb N 180) _ h .1 in
+    let b = both-true (leb fields 32) _ a .1 in
+    let e = both-true (leb nodes 64) _ b .1 in
+    let f = both-true (leb count 100000) _ e .1 in
     leb-true (leastScratch N fields count + 49200 * (nodes - 1)) room f
 
 module _ (S : Setting) (l : Lists) (outputs : List (List Float)) (room : ℕ) where
@@ -87,15 +88,15 @@ module _ (S : Setting) (l : Lists) (outputs : List (List Float)) (room : ℕ) wh
   unfolding lengthsAgree
   lengths-say h =
       let M : ℕ = length (l .times) in
-      let a = both-pass
+      let a = both-true
       (modelFits (S .degree) (length (l .fieldTimes)) (length (S .static)) (length (l .added)) (length (S .a)) (length (S .b))
       && tablesFit (length (l .keysC)) (length (l .statesC)) (length (l .keysD)) (length (l .statesD)) (length (l .accKeysC)) (length (l .accC)) (length (l .accKeysD)) (length (l .accD))) _ h in
-      let b = both-pass (modelFits (S .degree) (length (l .fieldTimes)) (length (S .static)) (length (l .added)) (length (S .a)) (length (S .b))) _ (a .0) in
+      let b = both-true (modelFits (S .degree) (length (l .fieldTimes)) (length (S .static)) (length (l .added)) (length (S .a)) (length (S .b))) _ (a .0) in
       let m = model-passes (S .degree) (length (l .fieldTimes)) (length (S .static)) (length (l .added)) (length (S .a)) (length (S .b)) (b .0) in
       let t = tables-say (length (l .keysC)) (length (l .statesC)) (length (l .keysD)) (length (l .statesD)) (length (l .accKeysC)) (length (l .accC)) (length (l .accKeysD)) (length (l .accD)) (b .1) in
-      let e = both-pass ((eqb (length (l .values)) M && eqb (length (l .good)) M) && placesFit l outputs) _ (a .1) in
-      let f = both-pass (eqb (length (l .values)) M && eqb (length (l .good)) M) (placesFit l outputs) (e .0) in
-      let g = both-pass (eqb (length (l .values)) M) (eqb (length (l .good)) M) (f .0) in
+      let e = both-true ((eqb (length (l .values)) M && eqb (length (l .good)) M) && placesFit l outputs) _ (a .1) in
+      let f = both-true (eqb (length (l .values)) M && eqb (length (l .good)) M) (placesFit l outputs) (e .0) in
+      let g = both-true (eqb (length (l .values)) M) (eqb (length (l .good)) M) (f .0) in
       record {
         static = m .static;
         added = m .added;
@@ -120,10 +121,10 @@ module _ (S : Setting) (l : Lists) (outputs : List (List Float)) (room : ℕ) wh
   unfolding countsAllowed countsFine
   counts-say h =
       let f : ℕ = length (l .fieldTimes) in
-      let a = both-pass (countsFine f (length (l .keysC)) (length (l .keysD)) (length (l .accKeysC)) (length (l .accKeysD))) _ h in
-      let b = both-pass (leb 2 f && leb f 32) _ (a .0) in
-      let e = both-pass (leb 2 f) (leb f 32) (b .0) in
-      let g = both-pass (leb (length (l .nodes)) 64) (leb (length (l .times)) 100000) (a .1) in
+      let a = both-true (countsFine f (length (l .keysC)) (length (l .keysD)) (length (l .accKeysC)) (length (l .accKeysD))) _ h in
+      let b = both-true (leb 2 f && leb f 32) _ (a .0) in
+      let e = both-true (leb 2 f) (leb f 32) (b .0) in
+      let g = both-true (leb (length (l .nodes)) 64) (leb (length (l .times)) 100000) (a .1) in
       record {
         fields = leb-true 2 f (e .0);
         fields-few = leb-true f 32 (e .1);
@@ -140,14 +141,14 @@ module _ (S : Setting) (l : Lists) (outputs : List (List Float)) (room : ℕ) wh
   values-say : numbersFine S l ≡ true → Values
   unfolding numbersFine modelFine
   values-say h =
-      let a = both-pass
+      let a = both-true
       (modelFine (S .static) (S .a) (S .b) (l .fieldTimes) (l .added)
       && ((keyedFine (l .keysC) (l .statesC) && keyedFine (l .keysD) (l .statesD)) && (keyedFine (l .accKeysC) (l .accC) && keyedFine (l .accKeysD) (l .accD)))) _ h in
-      let b = both-pass (modelFine (S .static) (S .a) (S .b) (l .fieldTimes) (l .added)) _ (a .0) in
-      let e = both-pass (all finite (S .static) && all finite (l .added)) _ (b .0) in
-      let f = both-pass (all isTime (l .nodes)) _ (a .1) in
-      let g = both-pass (all isTime (l .times)) (all finite (l .values)) (f .1) in
-      record { field-times = both-pass (all isTime (l .fieldTimes)) (all finite (S .a) && all finite (S .b)) (e .1) .0; node-times = f .0; times = g .0 }
+      let b = both-true (modelFine (S .static) (S .a) (S .b) (l .fieldTimes) (l .added)) _ (a .0) in
+      let e = both-true (all finite (S .static) && all finite (l .added)) _ (b .0) in
+      let f = both-true (all isTime (l .nodes)) _ (a .1) in
+      let g = both-true (all isTime (l .times)) (all finite (l .values)) (f .1) in
+      record { field-times = both-true (all isTime (l .fieldTimes)) (all finite (S .a) && all finite (S .b)) (e .1) .0; node-times = f .0; times = g .0 }
 
   pub accepts : sheetRefusal S l outputs room ≡ 0 → Accepts S l outputs room
   unfolding refusalOf listsRise
@@ -156,10 +157,10 @@ module _ (S : Setting) (l : Lists) (outputs : List (List Float)) (room : ℕ) wh
       let k = counts-say (t .counts) in
       let n = lengths-say (t .lengths) in
       let v = values-say (t .values) in
-      let o = both-pass (rise (l .fieldTimes) (l .keysC) (l .keysD) (l .accKeysC) (l .accKeysD)) _ (t .order) in
-      let q = both-pass (rising (l .nodes)) (rising (l .times)) (o .1) in
+      let o = both-true (rise (l .fieldTimes) (l .keysC) (l .keysD) (l .accKeysC) (l .accKeysD)) _ (t .order) in
+      let q = both-true (rising (l .nodes)) (rising (l .times)) (o .1) in
       record {
-        degree = leb-true (S .degree) 180 (both-pass (leb 2 (S .degree)) (leb (S .degree) 180) (t .degree) .1);
+        degree = leb-true (S .degree) 180 (both-true (leb 2 (S .degree)) (leb (S .degree) 180) (t .degree) .1);
         fields = k .fields;
         fields-few = k .fields-few;
         counts = k .counts;
@@ -184,9 +185,6 @@ module _ (S : Setting) (l : Lists) (outputs : List (List Float)) (room : ℕ) wh
       }
 
 -- ---- what follows of them
-
-holds : (b : Bool) → b ≡ true → T b
-holds b e = subst T (sym e) tt
 
 module _ (S : Setting) (l : Lists) (outputs : List (List Float)) (room : ℕ) (h : Accepts S l outputs room) where
   pub passed : Passed S l

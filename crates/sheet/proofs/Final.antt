@@ -13,6 +13,7 @@ use lib.Dec.{T}
 use lib.IntN.{ℤ}
 use lib.ListN.{length, drop}
 use lib.Ieee.{Float}
+use Rattle.lent.specs.Lent.{fieldSize}
 use Rattle.laws.specs.Checks.{all, isTime, rising, risingSeconds}
 use Rattle.laws.specs.Runs.{runsOf}
 use Rattle.finality.specs.Stages.{timeOf}
@@ -21,7 +22,6 @@ use Rattle.finality.specs.Sheet.{Submission, Valid, Grows, Begins, times, horiz
 use Rattle.finality.proofs.Accepted.{valid-of}
 use Rattle.finality.proofs.Assembled.{lawful, kernels-final}
 use Rattle.finality.proofs.Finality.{Final, final-is, no-horizon}
-use Rattle.model.specs.Field.{size}
 use Rattle.model.specs.Stages.{timed}
 use Rattle.model.proofs.Stages.{timed-length, timed-times, timed-append}
 use Rattle.windows.specs.Stage.{Setting}
@@ -52,7 +52,7 @@ valid S l p =
     (carried (λ (ts : List Float). T (all isTime ts)) (l .times) _ ot (p .observed-times .0))
     (carried (λ (ts : List Float). T (rising ts)) (l .times) _ ot (p .observed-times .1))
 
-fields-begin : (N : ℕ) (ts ts' fs fs' : List Float) → length fs ≡ length ts * size N → Begins ts ts' → Begins fs fs' → Begins (timed N ts fs) (timed N ts' fs')
+fields-begin : (N : ℕ) (ts ts' fs fs' : List Float) → length fs ≡ length ts * fieldSize N → Begins ts ts' → Begins fs fs' → Begins (timed N ts fs) (timed N ts' fs')
 fields-begin N ts ts' fs fs' h a b =
     begins-of (timed N ts fs) (timed N (drop (length ts) ts') (drop (length fs) fs')) (timed N ts' fs')
     ((λ i. timed N (sym (more ts ts' a) i) (sym (more fs fs' b) i)) ∙ timed-append N ts (drop (length ts) ts') fs (drop (length fs) fs') h)

@@ -1,38 +1,34 @@
 -- The epochs that the code keeps, over the tables of all windows, are those of the submission. Assumes nothing.
 use mathlib.Core.Path.{_≡_, refl, sym, ap, _∙_, subst}
 use mathlib.Core.Option.{Option, none, some}
-use mathlib.Core.Bool.{Bool, true, false, not, cond, _&&_}
+use mathlib.Core.Bool.{not, cond, _&&_}
 use mathlib.Core.List.{List, [], _∷_, map}
 use Prim.Native.Nat.{ℕ, zero, suc, _+_, _*_, _≤_, _<_}
 use native.Mathlib.Numerals.{add-one}
 use native.Mathlib.Nat.{add-zero}
 use native.Mathlib.Omega.{arith}
-use lib.Dec.{T, eqb, ltb}
-use lib.IntN.{ℤ, pos}
+use lib.Dec.{eqb, ltb}
+use lib.IntN.{ℤ}
 use lib.ListN.{length, drop, getD}
 use lib.Seq.{drop-drop, getD-drop}
-use lib.Ieee.{Float, nan, fin, le, lt, eq}
-use lib.Ieee.Bits.{is-true}
-use lib.Ieee.Fits.{and-i}
+use lib.Ieee.{Float, nan}
 use borrow.Author.Tests.{eqb-true, eqb-false, ltb-false, lt-ltb, le-ltb}
-use Rattle.laws.specs.Floats.{zero⁺}
-use Rattle.laws.specs.Order.{le-tr, le-lt-tr}
 use Rattle.laws.specs.Lists.{All, all-map}
-use Rattle.laws.specs.Times.{Time, bound, second}
-use Rattle.numbers.specs.Seconds.{isHeld, wholeSecond}
+use Rattle.laws.specs.Times.{Time}
+use Rattle.laws.specs.Bools.{by}
+use Rattle.numbers.proofs.Seconds.{second-of-time}
 use Rattle.finality.specs.Tables.{Table, find}
 use Rattle.finality.specs.Brackets.{covers}
 use Rattle.finality.specs.Kernels.{stagesOf}
-use Rattle.finality.specs.Sheet.{Observation, Submission, Valid, coveredIn, fieldIn, fitted, found, epochOf, kept, keptOf as keptIn}
+use Rattle.finality.specs.Sheet.{Observation, Submission, Valid, fieldIn, fitted, whereFound, epochOf, kept, keep, keptOf}
+use Rattle.finality.proofs.Keeping.{kept-same}
 use Rattle.integrate.specs.Force.{model}
 use Rattle.integrate.specs.declared.kernel.State.{State}
-use Rattle.integrate.proofs.Places.{by}
 use Rattle.epochs.specs.declared.Epoch.{Epoch}
 use Rattle.windows.specs.Stage.{Setting, gravityOf, statesIn}
 use Rattle.windows.proofs.Meaning.{front-is}
 use Rattle.sighting.specs.Epoch.{epochWith}
-use Rattle.sighting.specs.Kept.{keyed, rowsFrom, numbers, recordAt, whereFound, seenBy, epochBy, observations, keptOf}
-use Rattle.sighting.proofs.Stages.{found-same, kept-same}
+use Rattle.sighting.specs.Kept.{keyed, rowsFrom, numbers, recordAt, seenBy, epochBy, observations}
 use Rattle.sheet.specs.Stages.{epochStage, kernels}
 use Rattle.sheet.specs.Submission.{Lists, submissionOf, valuesIn, observationsIn}
 use Rattle.sheet.proofs.Orbits.{ModelFits, field-is, covered-is}
@@ -65,29 +61,11 @@ observations-are (t ∷ ts) (v ∷ vs) [] h k = absurd (omega arith)
 observations-are (t ∷ ts) (v ∷ vs) (b ∷ gs) h k =
     λ i. record { at = t; observed = v; good = good-is b i } ∷ observations-are ts vs gs (omega arith) (omega arith) i
 
--- ---- the whole second of a time
-
-under : T (le (fin true 1 (pos 63)) zero⁺)
-unfolding le lt eq
-under = tt
-
-over : T (lt bound (fin false 1 (pos 63)))
-unfolding lt
-over = tt
-
-whole-is : (t : Float) → Time t → wholeSecond t ≡ second t
-unfolding wholeSecond
-whole-is t h =
-    ap (λ (b : Bool). cond b (second t) (pos 0))
-    (is-true (isHeld t) (and-i (le (fin true 1 (pos 63)) t) (lt t (fin false 1 (pos 63))) (le-tr (fin true 1 (pos 63)) zero⁺ t under (h .from-zero)) (le-lt-tr t bound (fin false 1 (pos 63)) (h .to-bound) over)))
-
 -- ---- two functions that agree on the observations keep the same
 
-keep-same : (S : Setting) (f g : Observation → Option Epoch) (P : Observation → Type 0) (os : List Observation) → ((o : Observation) → P o → f o ≡ g o) → All P os →
-    keptIn (stagesOf (kernels S)) f os ≡ keptIn (stagesOf (kernels S)) g os
-unfolding keptIn
-keep-same S f g P [] h a = refl
-keep-same S f g P (o ∷ os) h a = λ i. Rattle.finality.specs.Sheet.keep (stagesOf (kernels S)) (h o (a .0) i) (keep-same S f g P os h (a .1) i)
+keep-same : (f g : Observation → Option Epoch) (P : Observation → Type 0) (os : List Observation) → ((o : Observation) → P o → f o ≡ g o) → All P os →
+    keptOf f os ≡ keptOf g os
+keep-same f g P os h a = kept-same f g os (all-map P (λ (o : Observation). f o ≡ g o) os h a)
 
 -- ---- one epoch
 
@@ -111,12 +89,10 @@ module _ (S : Setting) (l : Lists) (few : 2 ≤ length (l .fieldTimes)) (fits : 
       (sub .accC) (sub .accD) o ≡ epochOf (stagesOf (kernels S)) sub o
   unfolding epochBy seenBy epochOf
   epoch-is o h =
-      let k = whole-is (o .at) h in
+      let k = second-of-time (o .at) h in
       (λ i. cond (o .good && covered-is S l few (o .at) i)
       (whereFound (λ c d p q. record-is (o .at) (o .observed) c d p q i) (find (k i) (fitted (stagesOf (kernels S)) sub (sub .statesC))) (find (k i) (fitted (stagesOf (kernels S)) sub (sub .statesD)))
       (find (k i) (sub .accC)) (find (k i) (sub .accD))) none)
-      ∙ ap (λ (e : Option Epoch). cond (o .good && coveredIn (stagesOf (kernels S)) sub (o .at)) e none)
-      (found-same (stagesOf (kernels S)) _ _ _ _ _)
 
   -- all of them
   pub kept-is : Valid (stagesOf (kernels S)) sub → length (l .values) ≡ length (l .times) → length (l .good) ≡ length (l .times) →
@@ -126,5 +102,4 @@ module _ (S : Setting) (l : Lists) (few : 2 ≤ length (l .fieldTimes)) (fits : 
   kept-is v hv hg =
       (λ i. keptOf (epochBy (model (S .degree) (S .static) (l .fieldTimes) (l .added)) (S .a) (S .b) (fitted (stagesOf (kernels S)) sub (sub .statesC)) (fitted (stagesOf (kernels S)) sub (sub .statesD))
       (values-are (l .accKeysC) (l .accC) i) (values-are (l .accKeysD) (l .accD) i)) (observations-are (l .times) (l .values) (l .good) hv hg i))
-      ∙ kept-same (stagesOf (kernels S)) _ (sub .obs)
-      ∙ keep-same S _ _ (λ (o : Observation). Time (o .at)) (sub .obs) epoch-is (v .obs-times)
+      ∙ keep-same _ _ (λ (o : Observation). Time (o .at)) (sub .obs) epoch-is (v .obs-times)

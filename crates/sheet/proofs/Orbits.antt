@@ -14,6 +14,7 @@ use mathlib.Core.List.{append-assoc, append-nil}
 use lib.Ieee.{Float, nan, fin, le, lt, ofInt}
 use lib.Ieee.Fits.{and-i}
 use lib.ListN.{replicate}
+use Rattle.lent.specs.Lent.{frontSize}
 use Rattle.laws.specs.Floats.{zero64, zero⁺}
 use Rattle.laws.specs.Lists.{All, all-map}
 use Rattle.laws.specs.Order.{lt-le-tr, le-tr, lt→le}
@@ -30,7 +31,7 @@ use Rattle.model.specs.Model.{fieldAt}
 use Rattle.model.specs.Stages.{blendFields, timed}
 use Rattle.model.specs.Calls.{atFits}
 use Rattle.model.proofs.Stages.{combine, timed-times, field-bracketed}
-use Rattle.integrate.specs.Force.{model, frontSize, fullForce}
+use Rattle.integrate.specs.Force.{model, fullForce}
 use Rattle.integrate.specs.declared.kernel.State.{State}
 use Rattle.fit.specs.Fit.{stateFor}
 use Rattle.windows.specs.Stage.{Setting, fitStage, statesIn}

@@ -7,28 +7,28 @@ use native.Mathlib.Numerals.{add-one}
 use native.Mathlib.Omega.{arith}
 use lib.Dec.{T, leb, eqb}
 use lib.IntN.{ℤ}
-use lib.ListN.{length, take, getD, replicate, length-append, length-map, length-replicate}
-use lib.Seq.{take-at}
+use lib.ListN.{length, take, getD, length-map}
 use lib.Ieee.{Float, nan, lt}
 use borrow.Author.Tests.{leb-true, le-leb, eqb-true, eq-eqb}
-use Rattle.laws.specs.Floats.{bits}
+use Rattle.lent.specs.Lent.{frontSize}
+use Rattle.laws.specs.Floats.{zero64}
 use Rattle.laws.specs.Checks.{all, isTime, rising, risingSeconds}
 use Rattle.laws.specs.Times.{Time}
+use Rattle.laws.specs.Bools.{both-true}
+use Rattle.laws.specs.Loops.{filled-length, filled-front}
 use Rattle.finality.specs.Tables.{Table, find}
 use Rattle.finality.specs.Brackets.{covers}
 use Rattle.finality.specs.Kernels.{stagesOf}
-use Rattle.finality.specs.Sheet.{Submission, Valid, published, coveredIn, fieldIn, fitted, orbits, epochOf, obsTime, kept}
-use Rattle.finality.proofs.Assembled.{lawful}
-use Rattle.finality.proofs.Finality.{kept-length}
+use Rattle.finality.specs.Sheet.{Submission, Valid, published, coveredIn, fieldIn, fitted, orbits, epochOf, obsTime, kept, keptOf}
+use Rattle.finality.proofs.Keeping.{kept-length}
 use Rattle.epochs.specs.Epochs.{time, residual}
 use Rattle.epochs.specs.declared.Epoch.{Epoch}
 use Rattle.detrend.specs.Revolutions.{removedOf}
 use Rattle.filter.specs.Filter.{bandPass}
-use Rattle.lent.proofs.Passed.{both-pass}
-use Rattle.integrate.specs.Force.{model, frontSize, fullForce}
+use Rattle.integrate.specs.Force.{model, fullForce}
 use Rattle.integrate.specs.declared.kernel.State.{State}
 use Rattle.fit.specs.Fit.{stateFor}
-use Rattle.sighting.specs.Kept.{keyed, numbers, epochBy, observations, keptOf}
+use Rattle.sighting.specs.Kept.{keyed, numbers, epochBy, observations}
 use Rattle.windows.specs.Stage.{Setting, statesIn}
 use Rattle.windows.specs.Slots.{Slot}
 use Rattle.windows.specs.Windows.{slotAt, windowBy, windowsServe, Ends}
@@ -44,16 +44,9 @@ use Rattle.sheet.proofs.Accepted.{Accepts, accepts, passed, model-fits,
 use Rattle.sheet.proofs.Columns.{detrended-is, passed-is}
 use Rattle.sheet.proofs.Kept.{kept-is}
 use Rattle.sheet.proofs.Grown.{observed-times}
-use Rattle.sheet.proofs.Lawful.{lawful-kernels}
 use Rattle.sheet.proofs.Final.{valid}
 
 -- ---- a column's first entries
-
-published-length : (m : ℕ) (xs : List Float) → length xs ≤ m → length (published m xs) ≡ m
-published-length m xs h = length-append xs (replicate (m - length xs) (bits 0)) ∙ omega (arith, length-replicate (m - length xs) (bits 0))
-
-first-entries : (m n : ℕ) (xs : List Float) → n ≡ length xs → take n (published m xs) ≡ xs
-first-entries m n xs e = ap (λ (k : ℕ). take k (published m xs)) e ∙ take-at xs (replicate (m - length xs) (bits 0)) (length xs) refl
 
 -- ---- the fits of one satellite on their shelf
 
@@ -94,7 +87,7 @@ length-kept : (S : Setting) (l : Lists) → length (kept (stagesOf (kernels S)) 
 length-kept S l =
     omega (
       arith,
-      kept-length (stagesOf (kernels S)) (lawful (kernels S) (lawful-kernels S)) (epochOf (stagesOf (kernels S)) (submissionOf S l)) (submissionOf S l .obs),
+      kept-length (epochOf (stagesOf (kernels S)) (submissionOf S l)) (submissionOf S l .obs),
       length-map (submissionOf S l .obs) obsTime,
       ap length (observed-times (l .times) (l .values) (l .good)),
     )
@@ -115,10 +108,10 @@ module _ (S : Setting) (l : Lists) (o₁ o₂ o₃ o₄ s : List Float) (none-fa
   -- the outputs are as long as there are observations
   places : (length o₁ ≡ m) × (length o₂ ≡ m) × (length o₃ ≡ m) × (length o₄ ≡ m)
   places =
-      let a = both-pass (eqb (length o₁) m) _ (h .outputs-fit) in
-      let b = both-pass (eqb (length o₂) m) _ (a .1) in
-      let c = both-pass (eqb (length o₃) m) _ (b .1) in
-      let d = both-pass (eqb (length o₄) m) _ (c .1) in
+      let a = both-true (eqb (length o₁) m) _ (h .outputs-fit) in
+      let b = both-true (eqb (length o₂) m) _ (a .1) in
+      let c = both-true (eqb (length o₃) m) _ (b .1) in
+      let d = both-true (eqb (length o₄) m) _ (c .1) in
       (eqb-true (length o₁) m (a .0), eqb-true (length o₂) m (b .0), eqb-true (length o₃) m (c .0), eqb-true (length o₄) m (d .0))
 
   abbrev windowOfCode : List ℤ → List Float → Float → Float → Table State
@@ -188,11 +181,11 @@ module _ (S : Setting) (l : Lists) (o₁ o₂ o₃ o₄ s : List Float) (none-fa
       let few : length es ≤ m = length-kept S l in
       let nt : n ≡ length (map time es) = q .count ∙ sym (length-map es time) in
       let nr : n ≡ length (map residual es) = q .count ∙ sym (length-map es residual) in
-      let lt : length t ≡ m = ap length (q .times) ∙ published-length m (map time es) (omega (arith, length-map es time)) in
-      let lr : length r ≡ m = ap length (q .raws) ∙ published-length m (map residual es) (omega (arith, length-map es residual)) in
+      let lt : length t ≡ m = ap length (q .times) ∙ filled-length zero64 m (map time es) (omega (arith, length-map es time)) in
+      let lr : length r ≡ m = ap length (q .raws) ∙ filled-length zero64 m (map residual es) (omega (arith, length-map es residual)) in
       let serve = columns-serve n (length t) (length r) (length s₂) (omega (arith, q .count)) lt lr (g .long ∙ f .long) in
-      let ft : take n t ≡ map time es = ap (take n) (q .times) ∙ first-entries m n (map time es) nt in
-      let fr : take n r ≡ map residual es = ap (take n) (q .raws) ∙ first-entries m n (map residual es) nr in
+      let ft : take n t ≡ map time es = ap (take n) (q .times) ∙ filled-front zero64 m n (map time es) (sym nt) in
+      let fr : take n r ≡ map residual es = ap (take n) (q .raws) ∙ filled-front zero64 m n (map residual es) (sym nr) in
       let o : m ≡ length (submissionOf S l .obs) = sym (ap length (observed-times (l .times) (l .values) (l .good))) ∙ length-map (submissionOf S l .obs) obsTime in
       record {
         count = q .count;

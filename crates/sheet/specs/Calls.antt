@@ -9,11 +9,11 @@ use lib.IntN.{ℤ}
 use lib.Ieee.{Float}
 use lib.Ieee.Scale.{finite}
 use lib.ListN.{length}
-use Rattle.laws.specs.Checks.{all, isTime, rising}
+use Rattle.laws.specs.Checks.{all, isTime, rising, degreeFine}
 use Rattle.slices.specs.Calls.{Left, settled}
 use Rattle.finality.specs.Kernels.{stagesOf}
 use Rattle.finality.specs.Sheet.{sheet, kept, final}
-use Rattle.lent.specs.Lent.{firstOf, degreeFine, countsFine, modelFits, tablesFit, wholeScratchFits, modelFine, keyedFine, rise}
+use Rattle.lent.specs.Lent.{firstOf, countsFine, modelFits, tablesFit, wholeScratchFits, modelFine, keyedFine, rise}
 use Rattle.windows.specs.Stage.{Setting}
 use Rattle.sheet.specs.Stages.{kernels}
 use Rattle.sheet.specs.Submission.{Lists, submissionOf}

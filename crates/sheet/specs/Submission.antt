@@ -8,11 +8,11 @@ use lib.Dec.{T, eqb}
 use lib.IntN.{ℤ}
 use lib.ListN.{length, drop, getD}
 use lib.Ieee.{Float, nan}
+use Rattle.lent.specs.Lent.{fieldSize}
 use Rattle.finality.specs.Tables.{Table}
 use Rattle.finality.specs.Kernels.{stagesOf}
 use Rattle.finality.specs.Sheet.{Observation, Submission, Begins}
 use Rattle.laws.specs.Checks.{all, isTime, rising, risingSeconds}
-use Rattle.model.specs.Field.{size}
 use Rattle.model.specs.Stages.{timed}
 use Rattle.windows.specs.Stage.{Setting, statesIn}
 use Rattle.sheet.specs.Stages.{kernels}
@@ -59,7 +59,7 @@ submissionOf S l =
 -- what the tests 1 to 5 of the whole path say of its lists, as far as final entries depend on them
 pub record Passed (S : Setting) (l : Lists) : Type 0 where
   pub fields : 1 < length (l .fieldTimes)
-  pub added : length (l .added) ≡ length (l .fieldTimes) * size (S .degree)
+  pub added : length (l .added) ≡ length (l .fieldTimes) * fieldSize (S .degree)
   pub statesC : length (l .statesC) ≡ 6 * length (l .keysC)
   pub statesD : length (l .statesD) ≡ 6 * length (l .keysD)
   pub accC : length (l .accC) ≡ length (l .accKeysC)

@@ -1,15 +1,15 @@
 -- The sheet program: what the numbers of a submission's text say, and what is printed of a sheet. Bytes are ASCII. Assumes nothing.
-use mathlib.Core.Path.{_≡_}
 use mathlib.Core.Bool.{Bool, true, false, cond, _&&_}
 use mathlib.Core.List.{List, [], _∷_, _++_}
 use Prim.Native.Nat.{ℕ, zero, suc, _+_, _-_, _*_, _/_, _%_, _≤_, min}
 use lib.Dec.{leb, ltb, eqb}
 use lib.IntN.{ℤ}
-use lib.ListN.{length, take, getD}
+use lib.ListN.{getD}
 use mir.Syntax.{w64}
 use mir.Val.{toZ}
 use lib.Ieee.{Float, nan, binary64, toBits}
 use Rattle.hex.specs.Digits.{digitsOf, decimalOf}
+use Rattle.hex.specs.Printing.{lineFeed}
 use Rattle.sheet_program.specs.declared.Places.{Places}
 
 -- ---- numbers of a text, words as the doubles of their bits
@@ -69,13 +69,6 @@ Near p =
 
 -- ---- output
 
-abbrev pub lineFeed : List ℕ
-lineFeed = 10 ∷ []
-
--- "refused N"
-unfoldable pub refusedText : ℕ → List ℕ
-refusedText n = (114 ∷ 101 ∷ 102 ∷ 117 ∷ 115 ∷ 101 ∷ 100 ∷ 32 ∷ []) ++ (decimalOf n ++ lineFeed)
-
 -- "kept K final F"
 unfoldable pub headText : ℕ → ℕ → List ℕ
 headText kept entries =
@@ -93,10 +86,3 @@ rowText i ts xs ys zs = termText (numberAt ts i) 32 ++ (termText (numberAt xs i)
 unfoldable pub rowsText : ℕ → ℕ → List Float → List Float → List Float → List Float → List ℕ
 rowsText i zero ts xs ys zs = []
 rowsText i (suc n) ts xs ys zs = rowText i ts xs ys zs ++ rowsText (i + 1) n ts xs ys zs
-
--- ---- how the code prints
-
--- bytes go behind what stands before `at`; `end` is where they end
-pub record Printed (bytes before : List ℕ) (at : ℕ) (after : List ℕ) (end : ℕ) : Type 0 where
-  pub ends : end ≡ at + length bytes
-  pub text : take end after ≡ take at before ++ bytes

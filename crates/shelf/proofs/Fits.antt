@@ -1,6 +1,6 @@
 -- The fit of the second satellite leaves the slots of the first alone. Assumes nothing.
-use mathlib.Core.Path.{_≡_, refl, sym, ap, _∙_, subst}
-use mathlib.Core.Bool.{Bool, true, false, _&&_}
+use mathlib.Core.Path.{_≡_, sym, ap, _∙_, subst}
+use mathlib.Core.Bool.{Bool, true, _&&_}
 use mathlib.Core.List.{List}
 use Prim.Native.Nat.{ℕ, _+_, _-_, _*_, _≤_, _<_}
 use native.Mathlib.Omega.{arith}
@@ -8,9 +8,10 @@ use lib.Dec.{T}
 use lib.Ieee.{Float, nan}
 use lib.Ieee.Fits.{and-l, and-r}
 use lib.ListN.{length, getD}
+use lib.Ieee.Bits.{is-true}
+use Rattle.laws.specs.Bools.{by}
 use Rattle.finality.specs.Tables.{Table}
 use Rattle.integrate.specs.declared.kernel.State.{State}
-use Rattle.integrate.proofs.Places.{by}
 use Rattle.windows.specs.Slots.{Slot}
 use Rattle.windows.specs.Windows.{slotAt, Filled, WindowsFit}
 use Rattle.windows.proofs.Filling.{slot-same}
@@ -18,10 +19,6 @@ use Rattle.shelf.specs.Shelf.{BothFit}
 
 fit-long : (serves : Bool) (window : Float → Float → Table State) (nodes s s' : List Float) (base satellite : ℕ) (r : Bool) → WindowsFit serves window nodes s s' base satellite r → length s' ≡ length s
 fit-long serves window nodes s s' base satellite r f = by serves (λ e. f .filled e .long) (λ e. ap length (f .unfit e))
-
-is-true : (c : Bool) → T c → c ≡ true
-is-true true t = refl
-is-true false t = absurd t
 
 module _ (serveC : Bool) (serveD : ℕ → Bool) (windowC windowD : Float → Float → Table State) (nodes s s₁ s₂ : List Float) (base : ℕ) (c d : Bool) (f : WindowsFit serveC windowC nodes s s₁ base 0 c)
     (g : WindowsFit (serveD (length s₁)) windowD nodes s₁ s₂ base 1 d) where

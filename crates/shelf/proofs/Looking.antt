@@ -11,26 +11,23 @@ use lib.IntN.{ℤ, pos, negsuc}
 use lib.Signed.{ltZ, leZ}
 use lib.Ieee.{Float, nan, inf, fin, up, down, toUnsigned, lt}
 use lib.Ieee.Fits.{and-l, and-r, down-pos}
-use lib.Ieee.Bits.{is-false}
+use lib.Ieee.Bits.{is-false, is-true}
 use lib.ListN.{length, getD}
 use borrow.Author.Tests.{eqb-true, eqb-false, ltb-false}
 use Rattle.laws.specs.Lists.{All, all-of-images}
 use Rattle.laws.specs.Checks.{isKey, below-tr}
 use Rattle.laws.specs.Times.{RisingSeconds, secondTime, second-below}
 use Rattle.laws.specs.WholeNumbers.{Is, number, number-is, is-lt}
+use Rattle.laws.specs.Bools.{by, holds}
 use Rattle.finality.specs.Tables.{Table, find, keyOf, sameSecond}
 use Rattle.finality.proofs.Lookup.{same-second}
 use Rattle.integrate.specs.Room.{stateIn}
 use Rattle.integrate.specs.declared.kernel.State.{State}
-use Rattle.integrate.proofs.Places.{by}
 use Rattle.fit.specs.declared.kernel.Held.{Held}
 use Rattle.fit.specs.declared.kernel.Held.the-variants.{Known, Missing}
 use Rattle.windows.specs.Stage.{heldOf}
 use Rattle.windows.specs.Slots.{nth, Entry, Slot}
 use Rattle.shelf.specs.Shelf.{joined, Shelved, Looked, Sought, Searched, InSlot, InSlots}
-
-yes : {b : Bool} → b ≡ true → T b
-yes e = subst T (sym e) tt
 
 -- ---- the count
 
@@ -78,11 +75,11 @@ exact i j p q h = is-lt (number i) (number j) i 0 j 0 (number-is i (omega arith)
 
 key-small : (i : ℕ) → isKey (pos i) ≡ true → i ≤ 2147483648
 unfolding isKey
-key-small i e = leb→le i 2147483648 (and-r (leZ (pos 0) (pos i)) (leZ (pos i) (pos 2147483648)) (yes e))
+key-small i e = leb→le i 2147483648 (and-r (leZ (pos 0) (pos i)) (leZ (pos i) (pos 2147483648)) (holds _ e))
 
 key-positive : (i : ℕ) → isKey (negsuc i) ≡ true → ⊥
 unfolding isKey
-key-positive i e = and-l (leZ (pos 0) (negsuc i)) (leZ (negsuc i) (pos 2147483648)) (yes e)
+key-positive i e = and-l (leZ (pos 0) (negsuc i)) (leZ (negsuc i) (pos 2147483648)) (holds _ e)
 
 -- neither below the other: the same key
 same-key : (i j : ℤ) → isKey i ≡ true → isKey j ≡ true → lt (secondTime i) (secondTime j) ≡ false → lt (secondTime j) (secondTime i) ≡ false → sameSecond i j ≡ true
@@ -93,7 +90,7 @@ same-key (pos i) (pos j) p q a b =
     let qj = key-small j q in
     by (eqb i j) (λ e. e)
     (λ e. by (ltb i j)
-    (λ l. absurd (not-both _ a (exact i j pi qj (ltb→lt i j (yes l)))))
+    (λ l. absurd (not-both _ a (exact i j pi qj (ltb→lt i j (holds _ l)))))
     (λ l. absurd (not-both _ b (exact j i qj pi (omega (arith, ltb-false i j l, eqb-false i j e))))))
 
 irreflexive : (i : ℤ) → T (ltZ i i) → ⊥
@@ -166,7 +163,7 @@ module _ (s : List Float) (at n : ℕ) (t : Float) (lo hi : ℕ) (b : Bracket s 
     lo-le = omega arith;
     hi-le = b .hi-le;
     below = λ table k h j l.
-        let here : T (ltZ (nth table m .0) k) = second-below (nth table m .0) k (yes ((λ i. lt (sym (is-second table k h) i) (sym (h .time) i)) ∙ e)) in
+        let here : T (ltZ (nth table m .0) k) = second-below (nth table m .0) k (holds _ ((λ i. lt (sym (is-second table k h) i) (sym (h .time) i)) ∙ e)) in
         by (eqb j m)
         (λ q. subst (λ (i : ℕ). T (ltZ (nth table i .0) k)) (sym (eqb-true j m q)) here)
         (λ q. below-tr (nth table j .0) (nth table m .0) k (rises table (h .orderly .rises) j m (omega (arith, eqb-false j m q, l)) (inside table k h)) here);
@@ -179,7 +176,7 @@ module _ (s : List Float) (at n : ℕ) (t : Float) (lo hi : ℕ) (b : Bracket s 
     hi-le = omega (arith, b .hi-le);
     below = b .below;
     above = λ table k h j l r.
-        let here : T (ltZ k (nth table m .0)) = second-below k (nth table m .0) (yes ((λ i. lt (sym (h .time) i) (sym (is-second table k h) i)) ∙ e)) in
+        let here : T (ltZ k (nth table m .0)) = second-below k (nth table m .0) (holds _ ((λ i. lt (sym (h .time) i) (sym (is-second table k h) i)) ∙ e)) in
         by (eqb j m)
         (λ q. subst (λ (i : ℕ). T (ltZ k (nth table i .0))) (sym (eqb-true j m q)) here)
         (λ q. below-tr k (nth table m .0) (nth table j .0) here (rises table (h .orderly .rises) m j (omega (arith, eqb-false j m q, l)) (omega (arith, h .count, r))));
@@ -192,20 +189,16 @@ module _ (s : List Float) (at n : ℕ) (t : Float) (lo hi : ℕ) (b : Bracket s 
         let same : sameSecond (nth table m .0) k ≡ true =
         same-key (nth table m .0) k key (h .key) ((λ i. lt (sym (is-second table k h) i) (sym (h .time) i)) ∙ e) ((λ i. lt (sym (h .time) i) (sym (is-second table k h) i)) ∙ f) in
         let before : (j : ℕ) → j < m → sameSecond (nth table j .0) k ≡ false = λ j l.
-        below-other (nth table j .0) k (subst (λ (i : ℤ). T (ltZ (nth table j .0) i)) (same-second (nth table m .0) k (yes same)) (rises table (h .orderly .rises) j m l (inside table k h))) in
+        below-other (nth table j .0) k (subst (λ (i : ℤ). T (ltZ (nth table j .0) i)) (same-second (nth table m .0) k (holds _ same)) (rises table (h .orderly .rises) j m l (inside table k h))) in
         ap Known (r ∙ entry-state s (at + 7 * m) (nth table m) (h .entries .each m (inside table k h)))
         ∙ ap heldOf (sym (find-met k table m (inside table k h) before same));
   }
-    where
-      is-true : (c : Bool) → T c → c ≡ true
-      is-true true u = refl
-      is-true false u = absurd u
 
 pub missed : (s : List Float) (at n : ℕ) (t : Float) (lo hi : ℕ) → Bracket s at n t lo hi → hi ≤ lo → Searched s at n t Missing
 missed s at n t lo hi b h = record {
   is = λ table k q. ap heldOf (sym (find-missed k table (λ j l.
       by (ltb j lo)
-      (λ u. below-other (nth table j .0) k (b .below table k q j (ltb→lt j lo (yes u))))
+      (λ u. below-other (nth table j .0) k (b .below table k q j (ltb→lt j lo (holds _ u))))
       (λ u. above-other (nth table j .0) k (b .above table k q j (omega (arith, ltb-false j lo u)) (omega (arith, q .count)))))));
 }
 

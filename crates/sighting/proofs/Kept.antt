@@ -1,37 +1,19 @@
 -- The epochs that are kept of the first observations, and lists filled up. Assumes nothing.
 use mathlib.Core.Path.{_≡_, refl, sym, ap, _∙_}
-use mathlib.Core.Option.{Option, none, some}
-use mathlib.Core.List.{List, [], _∷_, _++_, map, append-assoc}
+use mathlib.Core.Option.{Option}
+use mathlib.Core.List.{List, [], _∷_, _++_, map}
 use Prim.Native.Nat.{ℕ, zero, suc, _+_, _-_, _≤_, _<_}
 use native.Mathlib.Numerals.{add-one}
 use native.Mathlib.Omega.{arith}
 use lib.Ieee.{Float, nan}
-use lib.ListN.{length, take, getD, set, replicate, length-append, length-map, length-replicate}
-use lib.Seq.{take-suc, take-all, length-take-le, set-append-seam}
+use lib.ListN.{length, take, getD, set, length-map}
+use lib.Seq.{take-suc, take-all, length-take-le}
 use Rattle.laws.specs.Lists.{map-append}
-use Rattle.finality.specs.Sheet.{Observation}
+use Rattle.laws.specs.Loops.{filledUp, filled-length, filled-set}
+use Rattle.finality.specs.Sheet.{Observation, keep, keptOf}
+use Rattle.finality.proofs.Keeping.{kept-append, kept-length}
 use Rattle.epochs.specs.declared.Epoch.{Epoch}
-use Rattle.sighting.specs.Kept.{observation, observations, keep, keptOf, padded}
-
--- ---- kept of a longer list
-
-keep-append : {A : Type 0} (o : Option A) (xs ys : List A) → keep o (xs ++ ys) ≡ keep o xs ++ ys
-keep-append none xs ys = refl
-keep-append (some x) xs ys = refl
-
-kept-append : {X Y : Type 0} (f : X → Option Y) (xs ys : List X) → keptOf f (xs ++ ys) ≡ keptOf f xs ++ keptOf f ys
-unfolding keptOf
-kept-append f [] ys = refl
-kept-append f (x ∷ xs) ys = ap (keep (f x)) (kept-append f xs ys) ∙ keep-append (f x) (keptOf f xs) (keptOf f ys)
-
-keep-length : {A : Type 0} (o : Option A) (xs : List A) (n : ℕ) → length xs ≤ n → length (keep o xs) ≤ suc n
-keep-length none xs n h = omega arith
-keep-length (some x) xs n h = omega arith
-
-kept-length : {X Y : Type 0} (f : X → Option Y) (xs : List X) → length (keptOf f xs) ≤ length xs
-unfolding keptOf
-kept-length f [] = omega arith
-kept-length f (x ∷ xs) = keep-length (f x) (keptOf f xs) (length xs) (kept-length f xs)
+use Rattle.sighting.specs.Kept.{observation, observations}
 
 -- ---- the observations as one list
 
@@ -88,26 +70,14 @@ kept-none f ts vs bs = refl
 
 -- ---- lists filled up
 
-padded-set : {A : Type 0} (z v : A) (m : ℕ) (xs : List A) → length xs < m → set (padded z m xs) (length xs) v ≡ padded z m (xs ++ (v ∷ []))
-padded-set {A} z v m xs h =
-    let r : ℕ = m - suc (length xs) in
-    let e : m - length xs ≡ suc r = omega arith in
-    let g : m - length (xs ++ (v ∷ [])) ≡ r = omega (arith, length-append xs (v ∷ [])) in
-    ap (λ (k : ℕ). set (xs ++ replicate k z) (length xs) v) e ∙ set-append-seam xs z (replicate r z) v
-    ∙ sym (ap (λ (k : ℕ). (xs ++ (v ∷ [])) ++ replicate k z) g ∙ append-assoc xs (v ∷ []) (replicate r z))
-
 -- one more record's number at the place after the last
 pub set-more : {A : Type 0} (z : A) (g : Epoch → A) (m : ℕ) (es : List Epoch) (e : Epoch) → length es < m →
-    set (padded z m (map g es)) (length es) (g e) ≡ padded z m (map g (es ++ (e ∷ [])))
+    set (filledUp z m (map g es)) (length es) (g e) ≡ filledUp z m (map g (es ++ (e ∷ [])))
 set-more z g m es e h =
     let l : length (map g es) ≡ length es = length-map es g in
-    ap (λ (k : ℕ). set (padded z m (map g es)) k (g e)) (sym l)
-    ∙ padded-set z (g e) m (map g es) (omega arith)
-    ∙ ap (padded z m) (sym (map-append g es (e ∷ [])))
+    ap (λ (k : ℕ). set (filledUp z m (map g es)) k (g e)) (sym l)
+    ∙ filled-set z (g e) m (length (map g es)) (map g es) refl (omega arith)
+    ∙ ap (filledUp z m) (sym (map-append g es (e ∷ [])))
 
-pub padded-length : {A : Type 0} (z : A) (g : Epoch → A) (m : ℕ) (es : List Epoch) → length es ≤ m → length (padded z m (map g es)) ≡ m
-padded-length z g m es h = length-append (map g es) (replicate (m - length (map g es)) z) ∙ omega (arith, length-map es g, length-replicate (m - length (map g es)) z)
-
--- a cleared list is one that nothing was stored in
-pub replicate-like : {A : Type 0} (z : A) (n m : ℕ) → n ≡ m → replicate n z ≡ replicate (m - 0) z
-replicate-like z n m e = let g : n ≡ m - 0 = omega arith in ap (λ (k : ℕ). replicate k z) g
+pub filled-records : {A : Type 0} (z : A) (g : Epoch → A) (m : ℕ) (es : List Epoch) → length es ≤ m → length (filledUp z m (map g es)) ≡ m
+filled-records z g m es h = filled-length z m (map g es) (omega (arith, length-map es g))

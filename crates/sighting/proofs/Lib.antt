@@ -1,5 +1,4 @@
 pub mod Records
-pub mod Stages
 pub mod Lookups
 pub mod Kept
 pub mod Making

@@ -5,44 +5,23 @@ use mathlib.Core.Option.{Option, none, some}
 use mathlib.Core.List.{List, [], _∷_}
 use Prim.Native.Nat.{ℕ, suc, _+_, _*_, _<_}
 use native.Mathlib.Omega.{arith}
-use lib.Dec.{eqb, ltb}
-use lib.IntN.{ℤ, pos, negsuc}
+use lib.IntN.{ℤ}
 use lib.ListN.{length, getD}
 use lib.Signed.{ltZ}
 use lib.Ieee.{Float, nan}
-use borrow.Author.Tests.{eq-eqb, ne-eqb, ltb-true, ltb-false}
+use Rattle.laws.specs.Bools.{by}
 use Rattle.slices.specs.Slices.{lookup, lookupFrom}
 use Rattle.slices.specs.declared.Found.{Found}
 use Rattle.slices.specs.declared.Found.the-variants.{At, Nothing}
-use Rattle.finality.specs.Tables.{sameSecond, find}
+use Rattle.finality.specs.Tables.{find}
+use Rattle.finality.proofs.Lookup.{same-order}
 use Rattle.integrate.specs.Room.{stateIn}
 use Rattle.sighting.specs.Kept.{keyed, rowsFrom, states, numbers}
 use Rattle.sighting.specs.Work.{givenState, givenNumber}
-use Rattle.integrate.proofs.Places.{by}
 
 abbrev rowAt : {X : Type 0} → (ℕ → X) → Found → Option X
 rowAt row (At i) = some (row i)
 rowAt row Nothing = none
-
-or-comm : (a b : Bool) → (a || b) ≡ (b || a)
-or-comm true true = refl
-or-comm true false = refl
-or-comm false true = refl
-or-comm false false = refl
-
-same-number : (i j : ℕ) → eqb i j ≡ not (ltb i j || ltb j i)
-same-number i j =
-    by (ltb i j)
-    (λ h. simp (h, ne-eqb i j (λ e. omega (arith, ltb-true i j h))))
-    (λ h. by (ltb j i)
-    (λ g. simp (h, g, ne-eqb i j (λ e. omega (arith, ltb-true j i g))))
-    (λ g. simp (h, g, eq-eqb i j (omega (arith, ltb-false i j h, ltb-false j i g)))))
-
-same-key : (x k : ℤ) → sameSecond x k ≡ not (ltZ x k || ltZ k x)
-same-key (pos i) (pos j) = same-number i j
-same-key (pos i) (negsuc j) = refl
-same-key (negsuc i) (pos j) = refl
-same-key (negsuc i) (negsuc j) = same-number i j ∙ ap not (or-comm (ltb i j) (ltb j i))
 
 either : {X : Type 0} (row : ℕ → X) (b : Bool) (i : ℕ) (o : Option X) (f : Found) → o ≡ rowAt row f → cond (not b) (some (row i)) o ≡ rowAt row (cond b f (At i))
 either row true i o f h = h
@@ -52,7 +31,7 @@ find-from : {X : Type 0} (row : ℕ → X) (i : ℕ) (ks : List ℤ) (k : ℤ) �
 unfolding find rowsFrom lookupFrom
 find-from row i [] k = refl
 find-from {X} row i (x ∷ xs) k =
-    ap (λ (b : Bool). cond b (some (row i)) (find k (rowsFrom row (suc i) xs))) (same-key x k)
+    ap (λ (b : Bool). cond b (some (row i)) (find k (rowsFrom row (suc i) xs))) (same-order x k)
     ∙ either row (ltZ x k || ltZ k x) i (find k (rowsFrom row (suc i) xs)) (lookupFrom (suc i) xs k) (find-from row (suc i) xs k)
 
 find-rows : {X : Type 0} (row : ℕ → X) (ks : List ℤ) (k : ℤ) → find k (rowsFrom row 0 ks) ≡ rowAt row (lookup ks k)

@@ -1,6 +1,6 @@
 -- One record made, or none, in a work slice that stays usable. Assumes nothing.
 use mathlib.Core.Path.{_≡_, refl, sym, ap, _∙_, subst}
-use mathlib.Core.Bool.{Bool, true, false, cond, _&&_}
+use mathlib.Core.Bool.{Bool, true, false, cond, _&&_, false≢true}
 use mathlib.Core.Option.{Option, none, some}
 use mathlib.Core.List.{List, _++_}
 use Prim.Native.Nat.{ℕ, _+_, _-_, _≤_}
@@ -13,7 +13,9 @@ use borrow.Author.Tests.{leb-true, leb-false, le-leb}
 use borrow.Rule.Slice.PartMut.{midOf, putMid}
 use Rattle.laws.specs.Floats.{zero64}
 use Rattle.laws.specs.Loops.{cleared}
+use Rattle.laws.specs.Bools.{by, both-true}
 use Rattle.finality.specs.Brackets.{covers}
+use Rattle.finality.specs.Sheet.{whereFound}
 use Rattle.series.specs.Prepared.{prepared}
 use Rattle.forces.specs.Forces.{gravityWith}
 use Rattle.model.specs.Calls.{atLeft}
@@ -24,10 +26,10 @@ use Rattle.integrate.specs.declared.kernel.State.{State}
 use Rattle.sighting.specs.declared.Sighting.{Sighting}
 use Rattle.sighting.specs.declared.Made.{Made}
 use Rattle.sighting.specs.Epoch.{epochWith}
-use Rattle.sighting.specs.Kept.{recordAt, whereFound, seenBy, observation}
+use Rattle.sighting.specs.Kept.{recordAt, seenBy, observation}
 use Rattle.sighting.specs.Work.{sightingFrom, sightingOf, madeOf, Usable, Recorded, Tried, Opened}
-use Rattle.integrate.proofs.Places.{by, only-same}
-use Rattle.integrate.proofs.Front.{at-length, at-again, prepared-length, front-length, put-front, never}
+use Rattle.integrate.proofs.Places.{only-same}
+use Rattle.integrate.proofs.Front.{at-length, at-again, prepared-length, front-length, put-front}
 
 -- ---- the front of a slice written anew
 
@@ -99,37 +101,33 @@ not-opened N base w h = record { usable = λ e l. absurd (h l); only = only-same
 module _ (f : State → State → Float → Float → Epoch) where
   kept-made : (g : Bool) (x y : Option State) (p q : Option Float) (s : Sighting) → s ≡ sightingOf x y p q → (g && s .all) ≡ true →
       record { kept = true; epoch = f (s .c) (s .d) (s .axc) (s .axd) } ≡ madeOf (cond g (whereFound f x y p q) none)
-  unfolding sightingFrom whereFound
+  unfolding sightingFrom
   kept-made g x y p q s e h = subst (λ (s : Sighting). (g && s .all) ≡ true → record { kept = true; epoch = f (s .c) (s .d) (s .axc) (s .axd) } ≡ madeOf (cond g (whereFound f x y p q) none)) (sym e) (cases g x y p q) h
     where
       cases : (g : Bool) (x y : Option State) (p q : Option Float) → (g && sightingOf x y p q .all) ≡ true →
           record { kept = true; epoch = f (sightingOf x y p q .c) (sightingOf x y p q .d) (sightingOf x y p q .axc) (sightingOf x y p q .axd) } ≡ madeOf (cond g (whereFound f x y p q) none)
       cases true (some x) (some y) (some p) (some q) h = refl
-      cases true (some x) (some y) (some p) none h = absurd (never h)
-      cases true (some x) (some y) none q h = absurd (never h)
-      cases true (some x) none p q h = absurd (never h)
-      cases true none y p q h = absurd (never h)
-      cases false x y p q h = absurd (never h)
+      cases true (some x) (some y) (some p) none h = absurd (false≢true h)
+      cases true (some x) (some y) none q h = absurd (false≢true h)
+      cases true (some x) none p q h = absurd (false≢true h)
+      cases true none y p q h = absurd (false≢true h)
+      cases false x y p q h = absurd (false≢true h)
 
   none-made : (g : Bool) (x y : Option State) (p q : Option Float) (s : Sighting) → s ≡ sightingOf x y p q → (g && s .all) ≡ false →
       madeOf none ≡ madeOf (cond g (whereFound f x y p q) none)
-  unfolding sightingFrom whereFound
+  unfolding sightingFrom
   none-made g x y p q s e h = cases g x y p q (sym (ap (λ (s : Sighting). g && s .all) e) ∙ h)
     where
       cases : (g : Bool) (x y : Option State) (p q : Option Float) → (g && sightingOf x y p q .all) ≡ false → madeOf none ≡ madeOf (cond g (whereFound f x y p q) none)
-      cases true (some x) (some y) (some p) (some q) h = absurd (never (sym h))
+      cases true (some x) (some y) (some p) (some q) h = absurd (false≢true (sym h))
       cases true (some x) (some y) (some p) none h = refl
       cases true (some x) (some y) none q h = refl
       cases true (some x) none p q h = refl
       cases true none y p q h = refl
       cases false x y p q h = refl
 
-and-true : (a b : Bool) → (a && b) ≡ true → (a ≡ true) × (b ≡ true)
-and-true true b h = (refl, h)
-and-true false b h = absurd (never h)
-
 pub first-true : (a b r : Bool) → r ≡ (a && b) → r ≡ true → a ≡ true
-first-true a b r e h = and-true a b (sym e ∙ h) .0
+first-true a b r e h = both-true a b (sym e ∙ h) .0
 
 module _ (M : Model) (a b : List Float) (t v : Float) (good base : ℕ) (w : List Float) (s : Sighting) (k r : Bool)
     (ek : k ≡ ((ltb 0 good && covers (M .times) t) && s .all)) (er : r ≡ (leb base (length w) && k)) where
@@ -142,7 +140,7 @@ module _ (M : Model) (a b : List Float) (t v : Float) (good base : ℕ) (w : Lis
   unfolding seenBy
   tried-kept w' e h m = record {
     is = λ l u x y p q f. ap (λ (e : Epoch). record { kept = true; epoch = e }) (m .is u)
-        ∙ kept-made (recordAt M a b t v) (ltb 0 good && covers (M .times) t) x y p q s f (sym ek ∙ and-true (leb base (length w)) k (sym er ∙ h) .1);
+        ∙ kept-made (recordAt M a b t v) (ltb 0 good && covers (M .times) t) x y p q s f (sym ek ∙ both-true (leb base (length w)) k (sym er ∙ h) .1);
     usable = λ l u. m .usable u;
     only = m .only;
   }

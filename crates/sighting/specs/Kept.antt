@@ -1,16 +1,16 @@
 -- Rows by whole second, one epoch over them, and the epochs that are kept (document 01, module 5). Assumes nothing.
 use Prim.Native.Nat.{ℕ, suc, _*_, _-_}
 use mathlib.Core.Bool.{Bool, cond, _&&_}
-use mathlib.Core.Option.{Option, none, some}
-use mathlib.Core.List.{List, [], _∷_, _++_}
+use mathlib.Core.Option.{Option, none}
+use mathlib.Core.List.{List, [], _∷_}
 use lib.Dec.{ltb}
 use lib.IntN.{ℤ}
 use lib.Ieee.{Float, nan}
-use lib.ListN.{length, getD, replicate}
+use lib.ListN.{getD}
 use Rattle.numbers.specs.Seconds.{wholeSecond}
 use Rattle.finality.specs.Brackets.{covers}
 use Rattle.finality.specs.Tables.{Table, find}
-use Rattle.finality.specs.Sheet.{Observation}
+use Rattle.finality.specs.Sheet.{Observation, whereFound}
 use Rattle.epochs.specs.declared.Epoch.{Epoch}
 use Rattle.integrate.specs.Force.{Model, gravityAt}
 use Rattle.integrate.specs.Room.{stateIn}
@@ -44,14 +44,6 @@ numbers l = rowsFrom (λ (i : ℕ). getD (l .values) i nan) 0 (l .keys)
 unfoldable pub recordAt : Model → List Float → List Float → Float → Float → State → State → Float → Float → Epoch
 recordAt m a b t observed c d axc axd = epochWith (gravityAt m a b t) t observed (c .position) (c .velocity) (d .position) (d .velocity) axc axd
 
--- where all four look-ups succeed
-unfoldable pub whereFound : {X Y : Type 0} → (X → X → Float → Float → Y) → Option X → Option X → Option Float → Option Float → Option Y
-whereFound f none y p q = none
-whereFound f (some x) none p q = none
-whereFound f (some x) (some y) none q = none
-whereFound f (some x) (some y) (some p) none = none
-whereFound f (some x) (some y) (some p) (some q) = some (f x y p q)
-
 -- of a good and covered observation, from what four look-ups found
 unfoldable pub seenBy : Model → List Float → List Float → Observation → Option State → Option State → Option Float → Option Float → Option Epoch
 seenBy m a b o x y p q = cond (o .good && covers (m .times) (o .at)) (whereFound (recordAt m a b (o .at) (o .observed)) x y p q) none
@@ -78,15 +70,4 @@ observations (t ∷ ts) [] bs = []
 observations (t ∷ ts) (v ∷ vs) [] = []
 observations (t ∷ ts) (v ∷ vs) (b ∷ bs) = observation t v b ∷ observations ts vs bs
 
-abbrev pub keep {ℓ} : {A : Type ℓ} → Option A → List A → List A
-keep none es = es
-keep (some e) es = e ∷ es
-
 -- the records of those that are kept, in order
-unfoldable pub keptOf : {X Y : Type 0} → (X → Option Y) → List X → List Y
-keptOf f [] = []
-keptOf f (o ∷ os) = keep (f o) (keptOf f os)
-
--- m places, filled up with z
-abbrev pub padded : {A : Type 0} → A → ℕ → List A → List A
-padded z m xs = xs ++ replicate (m - length xs) z

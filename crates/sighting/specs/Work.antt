@@ -6,12 +6,13 @@ use mathlib.Core.Option.{Option, none, some}
 use mathlib.Core.List.{List}
 use lib.Ieee.{Float}
 use lib.ListN.{length, take, replicate}
+use Rattle.lent.specs.Lent.{frontSize}
 use Rattle.laws.specs.Floats.{zero64}
 use Rattle.vectors.specs.declared.Vector.{Vector}
 use Rattle.finality.specs.Sheet.{Observation}
 use Rattle.model.specs.Calls.{atLeft}
 use Rattle.epochs.specs.declared.Epoch.{Epoch}
-use Rattle.integrate.specs.Force.{Model, model, frontSize, frontAt}
+use Rattle.integrate.specs.Force.{Model, model, frontAt}
 use Rattle.integrate.specs.Room.{Only}
 use Rattle.integrate.specs.declared.kernel.State.{State}
 use Rattle.sighting.specs.declared.StateFound.{StateFound}

@@ -1,6 +1,6 @@
 -- What a public call leaves behind, in the cases of its code. Assumes nothing.
 use mathlib.Core.Path.{_≡_, refl, sym, ap, _∙_}
-use mathlib.Core.Bool.{Bool, true, false, cond, _&&_}
+use mathlib.Core.Bool.{Bool, true, false, cond, and-true}
 use mathlib.Core.List.{List, [], _∷_, map}
 use Prim.Native.Nat.{ℕ, zero, suc}
 use native.Mathlib.Omega.{arith}
@@ -40,17 +40,13 @@ module _ {Answer : Type 0} (accepted : Answer) (refused : ℕ → Answer) (new o
 
 -- ---- a call with one output, after whose work only 10 can refuse: `work` is worked out, and y, as long as what stood there, is what the code has of it
 
-and-true : (b : Bool) → b ≡ (b && true)
-and-true true = refl
-and-true false = refl
-
 cleared-like : (z s s' : List Float) → z ≡ cleared s' → length s' ≡ length s → z ≡ cleared s
 cleared-like z s s' e l = e ∙ ap (λ (k : ℕ). replicate k zero64) l
 
 module _ {Answer : Type 0} (accepted : Answer) (refused : ℕ → Answer) (work old s : List Float) (n g : ℕ) (e : n ≡ g) where
   judged : (b : Bool) (y : List Float) → n ≡ 0 → y ≡ work → b ≡ all finite y →
       handed accepted refused b (work ∷ []) (old ∷ []) s ≡ settled accepted refused g 0 (work ∷ []) (old ∷ []) s
-  judged b y h ey eb = call-handed accepted refused (work ∷ []) (old ∷ []) s b g 0 (sym h ∙ e) refl (eb ∙ ap (all finite) ey ∙ and-true (all finite work))
+  judged b y h ey eb = call-handed accepted refused (work ∷ []) (old ∷ []) s b g 0 (sym h ∙ e) refl (eb ∙ ap (all finite) ey ∙ sym (and-true (all finite work)))
 
   pub one-refused : (n ≡ 0 → ⊥) → left (refused n) (old ∷ []) s ≡ settled accepted refused g 0 (work ∷ []) (old ∷ []) s
   one-refused h = call-refused accepted refused (work ∷ []) (old ∷ []) s n g 0 e h

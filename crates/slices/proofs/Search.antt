@@ -1,17 +1,20 @@
 -- A strictly rising list of keys, the bracket of a binary search in it, and the linear search that it equals. Assumes nothing.
 use mathlib.Core.Path.{_≡_, refl, sym, _∙_, ap, subst}
-use mathlib.Core.Logic.{_⊎_, inl, inr, ⊎-elim}
+use mathlib.Core.Logic.{_⊎_, ⊎-elim}
 use Prim.Native.Nat.{ℕ, zero, suc, _+_, _-_, _/_, _<_, _≤_}
 use native.Mathlib.Nat.{eq-or-lt-of-le}
 use native.Mathlib.Omega.{arith}
 use native.Mathlib.Numerals.{add-one}
-use mathlib.Core.Bool.{Bool, true, false, not, cond, _&&_, _||_}
+use mathlib.Core.Bool.{Bool, true, false, not, cond, _||_}
 use mathlib.Core.List.{List, [], _∷_}
 use lib.Dec.{T}
 use lib.ListN.{length, getD}
 use lib.IntN.{ℤ, pos}
 use lib.Signed.{ltZ, leZ, _<ℤ_, _≤ℤ_, ltZ-yes, ltZ-no, <ℤ-≤ℤ-trans, <ℤ-irrefl}
+use lib.Ieee.Bits.{is-true}
 use Rattle.laws.specs.Checks.{risingSeconds, below-tr}
+use Rattle.laws.specs.Bools.{left-true, right-true}
+use Rattle.laws.specs.Signed.{lt-or-ge}
 use Rattle.slices.specs.Slices.{lookup, lookupFrom}
 use Rattle.slices.specs.declared.Found.the-variants.{At, Nothing}
 
@@ -25,34 +28,22 @@ of-true e = subst T (sym e) tt
 pub of-false : {b : Bool} → b ≡ false → T (not b)
 of-false e = subst (λ (t : Bool). T (not t)) (sym e) tt
 
-to-true : (b : Bool) → T b → b ≡ true
-to-true true t = refl
-to-true false t = absurd t
-
 pub lt-lt : (a b c : ℤ) → ltZ a b ≡ true → ltZ b c ≡ true → ltZ a c ≡ true
-lt-lt a b c h k = to-true (ltZ a c) (below-tr a b c (of-true h) (of-true k))
+lt-lt a b c h k = is-true (ltZ a c) (below-tr a b c (of-true h) (of-true k))
 
 -- b is at most c: c is not below b
 pub lt-le : (a b c : ℤ) → ltZ a b ≡ true → ltZ c b ≡ false → ltZ a c ≡ true
-lt-le a b c h k = to-true (ltZ a c) (<ℤ-≤ℤ-trans (ltZ-yes {a = a} {b = b} (of-true h)) (ltZ-no {a = c} {b = b} (of-false k)) .lt)
-
-and-l : (a b : Bool) → (a && b) ≡ true → a ≡ true
-and-l true b e = refl
-and-l false b e = e
-
-and-r : (a b : Bool) → (a && b) ≡ true → b ≡ true
-and-r true b e = e
-and-r false b e = let z : false ≡ true = e in absurd (of-true z)
+lt-le a b c h k = is-true (ltZ a c) (<ℤ-≤ℤ-trans (ltZ-yes {a = a} {b = b} (of-true h)) (ltZ-no {a = c} {b = b} (of-false k)) .lt)
 
 -- ---- a strictly rising list: an earlier key is below a later one
 above-first : (x : ℤ) (xs : List ℤ) → risingSeconds (x ∷ xs) ≡ true → (q : ℕ) → q < length xs → ltZ x (key-at xs q) ≡ true
 above-first x [] e q h = absurd (omega arith)
-above-first x (y ∷ ys) e zero h = and-l (ltZ x y) (risingSeconds (y ∷ ys)) e
-above-first x (y ∷ ys) e (suc q) h = lt-lt x y (key-at ys q) (and-l (ltZ x y) (risingSeconds (y ∷ ys)) e) (above-first y ys (and-r (ltZ x y) (risingSeconds (y ∷ ys)) e) q (omega arith))
+above-first x (y ∷ ys) e zero h = left-true (ltZ x y) (risingSeconds (y ∷ ys)) e
+above-first x (y ∷ ys) e (suc q) h = lt-lt x y (key-at ys q) (left-true (ltZ x y) (risingSeconds (y ∷ ys)) e) (above-first y ys (right-true (ltZ x y) (risingSeconds (y ∷ ys)) e) q (omega arith))
 
 rising-rest : (x : ℤ) (xs : List ℤ) → risingSeconds (x ∷ xs) ≡ true → risingSeconds xs ≡ true
 rising-rest x [] e = refl
-rising-rest x (y ∷ ys) e = and-r (ltZ x y) (risingSeconds (y ∷ ys)) e
+rising-rest x (y ∷ ys) e = right-true (ltZ x y) (risingSeconds (y ∷ ys)) e
 
 pub rises : (ks : List ℤ) → risingSeconds ks ≡ true → (p q : ℕ) → p < q → q < length ks → ltZ (key-at ks p) (key-at ks q) ≡ true
 rises [] e p q h l = absurd (omega arith)
@@ -115,11 +106,6 @@ module _ (ks : List ℤ) (key : ℤ) (lo hi : ℕ) (b : Bracket ks key lo hi) (m
   hit c d e =
       let h′ : hi ≤ length ks = b .hi-le in
       sym (met 0 ks key m (omega arith) (λ k l. or-l _ _ (lt-le (key-at ks k) (key-at ks m) key (rises ks e k m l (omega arith)) d)) c d ∙ ap At (omega arith))
-
-lt-or-ge : (k l : ℕ) → (k < l) ⊎ (l ≤ k)
-lt-or-ge k zero = inr (omega arith)
-lt-or-ge zero (suc l) = inl (omega arith)
-lt-or-ge (suc k) (suc l) = ⊎-elim (λ (h : k < l). inl (omega arith)) (λ (h : l ≤ k). inr (omega arith)) (lt-or-ge k l)
 
 pub over : (ks : List ℤ) (key : ℤ) (lo hi : ℕ) → Bracket ks key lo hi → hi ≤ lo → risingSeconds ks ≡ true → Nothing ≡ lookup ks key
 unfolding lookup

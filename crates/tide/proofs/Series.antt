@@ -9,7 +9,7 @@ use Rattle.numbers.specs.Constants.{earthGM, earthRadius}
 use Rattle.numbers.specs.Numbers.{sineCosine}
 use Rattle.numbers.specs.declared.SineCosine.{SineCosine}
 use Rattle.vectors.specs.declared.Vector.{Vector}
-use Rattle.series.specs.Arrays.{total}
+use Rattle.laws.specs.Sums.{sumTo}
 use Rattle.series.specs.Field.{partialsOf}
 use Rattle.series.specs.Sums.{power, allR, allLat, allLon}
 use Rattle.tide.specs.Tide.{placeOf, ordersOf}
@@ -21,11 +21,11 @@ use Rattle.tide.specs.declared.degree3.Totals.{Totals}
 
 -- the loops: one order more, one degree more
 pub one-order : (f : Tables) (n m : ℕ) → addOrder f n m (orderSums f n m) ≡ orderSums f n (m + 1)
-unfolding addOrder orderSums total
+unfolding addOrder orderSums sumTo
 one-order f n m = ap (orderSums f n) (sym (add-one m))
 
 pub one-degree : (f : Tables) (q : Float) (n : ℕ) → addDegree f q n (degreeSums f q n) ≡ degreeSums f q (n + 1)
-unfolding addDegree orderSums degreeSums power allR allLat allLon total
+unfolding addDegree orderSums degreeSums power allR allLat allLon sumTo
 one-degree f q n = ap (degreeSums f q) (sym (add-one n))
 
 -- the code's gravity at a place
@@ -38,5 +38,5 @@ summed tide at =
 
 -- is that of the series: the tables hold what it sums
 pub summed-published : (tide : SolidTide) (x : Vector) → summed tide (placeOf x) ≡ tideGravity tide x
-unfolding summed tideGravity gravityOf gradient partialsOf degreeSums tablesOf ordersOf allR allLat allLon total tri row rows sineCosine
+unfolding summed tideGravity gravityOf gradient partialsOf degreeSums tablesOf ordersOf allR allLat allLon sumTo tri row rows sineCosine
 summed-published tide x = refl

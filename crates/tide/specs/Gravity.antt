@@ -4,13 +4,14 @@ use Prim.Native.Nat.{ℕ, _+_}
 use mathlib.Core.List.{List}
 use lib.Ieee.{Float, neg}
 use Rattle.laws.specs.Floats.{_⊕_, _⊖_, _⊗_}
+use Rattle.laws.specs.Sums.{sumTo}
 use Rattle.laws.specs.WholeNumbers.{number}
 use Rattle.laws.specs.Tables.{rows}
 use Rattle.numbers.specs.Constants.{earthGM, earthRadius}
 use Rattle.numbers.specs.Numbers.{sineCosine}
 use Rattle.numbers.specs.declared.SineCosine.{SineCosine}
 use Rattle.vectors.specs.declared.Vector.{Vector}
-use Rattle.series.specs.Arrays.{at, total}
+use Rattle.series.specs.Arrays.{at}
 use Rattle.series.specs.Field.{partialsOf}
 use Rattle.series.specs.Legendre.{legendre, derived}
 use Rattle.series.specs.Sums.{Degree, degreeOf, termV, termLat, termLon, power, allR, allLat, allLon}
@@ -61,7 +62,7 @@ degreeIn f n = degreeOf (entry (f .c) n) (entry (f .s) n) (at (f .cos)) (at (f .
 
 -- the sums of degree n over its first j orders, and with order m added
 unfoldable pub orderSums : Tables → ℕ → ℕ → Sums
-orderSums f n j = let g = degreeIn f n in record { v = total (termV g) j; lat = total (termLat g) j; lon = total (termLon g) j }
+orderSums f n j = let g = degreeIn f n in record { v = sumTo (termV g) j; lat = sumTo (termLat g) j; lon = sumTo (termLon g) j }
 
 unfoldable pub addOrder : Tables → ℕ → ℕ → Sums → Sums
 addOrder f n m s = let g = degreeIn f n in record { v = s .v ⊕ termV g m; lat = s .lat ⊕ termLat g m; lon = s .lon ⊕ termLon g m }

@@ -4,6 +4,7 @@ use mathlib.Core.Bool.{Bool, true, false, _&&_}
 use lib.Dec.{T}
 use lib.Ieee.{Float, lt, le, ofBits}
 use lib.Ieee.Fits.{and-l, and-r, and-i}
+use lib.Ieee.Bits.{is-true}
 use Rattle.laws.specs.Floats.{zero64, _⊖_}
 use Rattle.laws.specs.Checks.{isTime, latest, time-says}
 use Rattle.laws.specs.Times.{Time}
@@ -14,10 +15,6 @@ use Rattle.windows.specs.Windows.{windowFine, arcBetween, Ends}
 time-is : (t : Float) → Time t → T (isTime t)
 unfolding isTime ofBits
 time-is t h = and-i (le zero64 t) (le t latest) (h .from-zero) (h .to-bound)
-
-is-true : (c : Bool) → T c → c ≡ true
-is-true true t = refl
-is-true false t = absurd t
 
 fine : (a b : Float) → Ends a b → T (lt (b ⊖ a) longest) → windowFine a b ≡ true
 unfolding windowFine

@@ -1,6 +1,6 @@
 -- Laws of the windows' slots: what one window leaves, and that the slots before it stay. Assumes nothing.
 use mathlib.Core.Path.{_≡_, refl, sym, ap, _∙_, subst}
-use mathlib.Core.Bool.{Bool, true, false, cond, _&&_}
+use mathlib.Core.Bool.{Bool, true, false, cond, _&&_, false≢true}
 use mathlib.Core.List.{List, [], _∷_}
 use Prim.Native.Nat.{ℕ, zero, suc, _+_, _-_, _*_, _/_, _≤_, _<_}
 use native.Mathlib.Numerals.{add-one}
@@ -11,22 +11,23 @@ use lib.Ieee.{Float, nan, lt}
 use lib.ListN.{length, getD, set}
 use lib.Seq.{getD-set-same, getD-set-other}
 use lib.Ieee.Fits.{and-l, and-r}
+use lib.Ieee.Bits.{is-true}
 use borrow.Author.Tests.{le-leb, lt-leb, eq-eqb, eqb-true, eqb-false}
+use Rattle.lent.specs.Lent.{frontSize}
 use Rattle.laws.specs.Floats.{_⊖_}
 use Rattle.laws.specs.Checks.{all, isTime, rising, risingSeconds, time-says}
 use Rattle.laws.specs.Order.{lt→le}
 use Rattle.laws.specs.Times.{Time}
 use Rattle.laws.specs.WholeNumbers.{number}
+use Rattle.laws.specs.Bools.{by}
+use Rattle.laws.specs.Tables.{row, row-length}
 use Rattle.finality.specs.Tables.{Table}
 use Rattle.finality.specs.Arcs.{longest, start, steps, arcOf, inside}
-use Rattle.finality.specs.Fitting.{tab}
 use Rattle.finality.proofs.Windows.{steps-short, states-short}
 use Rattle.vectors.specs.declared.Vector.{Vector}
-use Rattle.integrate.specs.Force.{frontSize}
 use Rattle.integrate.specs.Room.{Run, Only, Holds3, Orbit}
 use Rattle.integrate.specs.declared.kernel.State.{State}
 use Rattle.integrate.specs.declared.kernel.Arc.{Arc as ArcStruct}
-use Rattle.integrate.proofs.Places.{by}
 use Rattle.fit.specs.Fit.{fitOf, orbitOf}
 use Rattle.fit.specs.Contracts.{arcServes, Fits, ArcFit}
 use Rattle.fit.specs.declared.kernel.Held.{Held}
@@ -68,16 +69,11 @@ serves-arc : (N n : ℕ) (keys : List ℤ) (states room : ℕ) → N ≤ 180 →
 unfolding arcServes
 serves-arc N n keys states room a b c d e = simp (le-leb N 180 a, le-leb n 5302 b, eq-eqb states (6 * length keys) c, le-leb (frontSize N + 90173) room d, e)
 
-tab-length : {X : Type 0} (f : ℕ → X) (n : ℕ) → length (tab f n) ≡ n
-unfolding tab
-tab-length f zero = refl
-tab-length f (suc n) = lib.ListN.length-append (tab f n) (f n ∷ []) ∙ let h = tab-length f n in omega arith
-
 -- at most 3,500 states of any run lie inside
-pub inside-few : (a b : Float) → Ends a b → T (lt (b ⊖ a) longest) → (t0 : Float) (n : ℕ) → t0 ≡ start a → n ≡ steps a b → (run : Run) → length (inside t0 a b 0 (tab run (n + 1))) ≤ 3500
+pub inside-few : (a b : Float) → Ends a b → T (lt (b ⊖ a) longest) → (t0 : Float) (n : ℕ) → t0 ≡ start a → n ≡ steps a b → (run : Run) → length (inside t0 a b 0 (row run (n + 1))) ≤ 3500
 inside-few a b e short t0 n et en run =
-    subst (λ (t : Float). length (inside t a b 0 (tab run (n + 1))) ≤ 3500) (sym et)
-    (states-short a b (e .from) (e .to) (lt→le a b (e .order)) short 0 (tab run (n + 1)) (let h = tab-length run (n + 1) in omega (arith, h, en)))
+    subst (λ (t : Float). length (inside t a b 0 (row run (n + 1))) ≤ 3500) (sym et)
+    (states-short a b (e .from) (e .to) (lt→le a b (e .order)) short 0 (row run (n + 1)) (let h = row-length run (n + 1) in omega (arith, h, en)))
 
 module _ (covered : Float → Bool) (full : Float → Vector → Vector) (look : Float → Held) (a b : Float) (ends : Ends a b) where
   abbrev arc : ArcStruct
@@ -85,10 +81,6 @@ module _ (covered : Float → Bool) (full : Float → Vector → Vector) (look :
 
   abbrev table : Table State
   table = windowBy covered full look a b
-
-  yes : (c : Bool) → T c → c ≡ true
-  yes true t = refl
-  yes false t = absurd t
 
   -- a long window leaves none
   pub long-leaves : (s : List Float) (base at : ℕ) → lt (b ⊖ a) longest ≡ false → Leaves table s s base at 0
@@ -105,7 +97,7 @@ module _ (covered : Float → Bool) (full : Float → Vector → Vector) (look :
 
   short-table : T (lt (b ⊖ a) longest) → (answer : Fitted) → answer ≡ fitOf covered full look arc → table ≡ inside (start a) a b 0 (statesOf answer (orbitOf full look arc) (steps a b))
   unfolding windowBy
-  short-table short answer e = rw (yes (lt (b ⊖ a) longest) short) (ap (λ (x : Fitted). inside (start a) a b 0 (statesOf x (orbitOf full look arc) (steps a b))) (sym e))
+  short-table short answer e = rw (is-true (lt (b ⊖ a) longest) short) (ap (λ (x : Fitted). inside (start a) a b 0 (statesOf x (orbitOf full look arc) (steps a b))) (sym e))
 
   pub fits-of : (N n : ℕ) (keys : List ℤ) (states : ℕ) (s s₁ : List Float) (base : ℕ) (t0 : Float) (answer : Fitted) → t0 ≡ start a → n ≡ steps a b →
       N ≤ 180 → n ≤ 5302 → states ≡ 6 * length keys → base ≡ frontSize N → base + 90173 ≤ length s → risingSeconds keys ≡ true →
@@ -144,11 +136,11 @@ module _ (covered : Float → Bool) (full : Float → Vector → Vector) (look :
       run : Run
       run = orbitOf full look arc
 
-      is : table ≡ inside t0 a b 0 (tab run (n + 1))
+      is : table ≡ inside t0 a b 0 (row run (n + 1))
       is =
           short-table short (Rms x) (sym e ∙ f .said)
-          ∙ ap (λ (t : Float). inside t a b 0 (tab run (suc (steps a b)))) (sym et)
-          ∙ ap (λ (m : ℕ). inside t0 a b 0 (tab run m)) (let q = en in omega (arith, q))
+          ∙ ap (λ (t : Float). inside t a b 0 (row run (suc (steps a b)))) (sym et)
+          ∙ ap (λ (m : ℕ). inside t0 a b 0 (row run m)) (let q = en in omega (arith, q))
 
 -- the count in front
 pub windowed : (table : Table State) (s s₁ : List Float) (base at n : ℕ) (x : Float) → base + 150000 ≤ at → at + 24600 ≤ length s → x ≡ number n → Leaves table s s₁ base (at + 1) n → Windowed table s (set s₁ at x) base at
@@ -213,10 +205,6 @@ pub record Served (N : ℕ) (keys : List ℤ) (states : ℕ) (nodes : List Float
   pub rises : risingSeconds keys ≡ true
   pub ends : (w : ℕ) → w + 1 < length nodes → Ends (getD nodes w nan) (getD nodes (w + 1) nan)
 
-is-true : (c : Bool) → T c → c ≡ true
-is-true true t = refl
-is-true false t = absurd t
-
 pub served : (N : ℕ) (keys : List ℤ) (states : ℕ) (nodes : List Float) (satellite room : ℕ) → windowsServe N keys states nodes satellite room ≡ true → Served N keys states nodes satellite room
 unfolding windowsServe roomFor
 served N keys states nodes satellite room e =
@@ -269,12 +257,12 @@ pub fit-filled : (window : Float → Float → Table State) (nodes s s' : List F
 fit-filled window nodes s s' N satellite base serves answer e t eb f = record {
   says = sym t ∙ e;
   filled = λ h. subst (λ (m : ℕ). Filled window nodes (length nodes - 1) s s' (frontSize N) m) (omega arith) (subst (λ (m : ℕ). Filled window nodes (length nodes - 1) s s' m (m + 150000 + 24600 * satellite)) eb f);
-  unfit = λ h. absurd (Rattle.integrate.proofs.Front.never (sym h ∙ sym e ∙ t));
+  unfit = λ h. absurd (false≢true (sym h ∙ sym e ∙ t));
 }
 
 pub fit-unfit : (window : Float → Float → Table State) (nodes s : List Float) (N satellite : ℕ) (serves answer : Bool) → answer ≡ serves → answer ≡ false → WindowsFit serves window nodes s s (frontSize N) satellite false
 fit-unfit window nodes s N satellite serves answer e f = record {
   says = sym f ∙ e;
-  filled = λ h. absurd (Rattle.integrate.proofs.Front.never (sym f ∙ e ∙ h));
+  filled = λ h. absurd (false≢true (sym f ∙ e ∙ h));
   unfit = λ h. refl;
 }

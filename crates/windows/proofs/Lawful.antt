@@ -3,24 +3,23 @@ use mathlib.Core.Path.{_≡_, refl, sym, ap, _∙_}
 use mathlib.Core.Option.{Option}
 use mathlib.Core.Logic.{_⊎_, inl, inr}
 use mathlib.Core.Bool.{Bool, true, false, not, cond}
-use mathlib.Core.List.{List, [], _∷_, _++_}
-use Prim.Native.Nat.{ℕ, zero, suc, _+_, _*_, _/_, _≤_, _<_}
+use mathlib.Core.List.{List, []}
+use Prim.Native.Nat.{ℕ, suc, _*_, _/_, _≤_, _<_}
 use native.Mathlib.Nat.{le-refl, le-of-eq}
 use native.Mathlib.Omega.{arith}
 use lib.Dec.{T, leb, leb→le}
 use lib.IntN.{ℤ}
-use lib.ListN.{length, length-append}
+use lib.ListN.{length}
 use lib.Ieee.{Float, binary64, div, ofBits}
 use Rattle.laws.specs.Floats.{_⊕_, _⊘_, bits, one64, two64}
-use Rattle.laws.specs.Times.{second}
-use Rattle.finality.specs.Arcs.{Arc, Fit, step, halfStep, stepTime}
-use Rattle.finality.specs.Fitting.{tab}
+use Rattle.laws.specs.Times.{second, step, stepTime}
+use Rattle.laws.specs.Tables.{row-length, row-same}
+use Rattle.finality.specs.Arcs.{Arc, Fit, halfStep}
 use Rattle.finality.proofs.Fits.{LawfulFit}
 use Rattle.vectors.specs.Vector.{plus}
 use Rattle.vectors.specs.declared.Vector.{Vector}
 use Rattle.forces.specs.Forces.{tidesOf}
 use Rattle.integrate.specs.Room.{Run}
-use Rattle.integrate.specs.Steps.{timeOf}
 use Rattle.integrate.specs.declared.kernel.State.{State}
 use Rattle.fit.specs.Fit.{fitOf, orbitOf}
 use Rattle.fit.specs.declared.kernel.Held.{Held}
@@ -31,26 +30,15 @@ use Rattle.windows.specs.Stage.{Setting, gravityOf, fullOf, arcStruct, h
 
 -- ---- lists of states
 
-tab-length : {X : Type 0} (f : ℕ → X) (n : ℕ) → length (tab f n) ≡ n
-unfolding tab
-tab-length f zero = refl
-tab-length f (suc n) = length-append (tab f n) (f n ∷ []) ∙ let h = tab-length f n in omega arith
-
-tab-same : {X : Type 0} (f g : ℕ → X) (n : ℕ) → ((k : ℕ) → k < n → f k ≡ g k) → tab f n ≡ tab g n
-unfolding tab
-tab-same {X = X} f g zero h = refl
-tab-same {X = X} f g (suc n) h =
-    ap (λ (l : List X). l ++ (f n ∷ [])) (tab-same f g n (λ k l. h k (omega arith))) ∙ ap (λ (x : X). tab g n ++ (x ∷ [])) (h n (omega arith))
-
 states-length : (r : Fitted) (run : Run) (n : ℕ) → length (statesOf r run n) ≤ suc n
-states-length (Rms rms) run n = le-of-eq (tab-length run (suc n))
+states-length (Rms rms) run n = le-of-eq (row-length run (suc n))
 states-length (Refused k) run n = omega arith
 
 pub states-same : (r r' : Fitted) (run run' : Run) (n : ℕ) → r ≡ r' → ((k : ℕ) → k < suc n → run k ≡ run' k) → statesOf r run n ≡ statesOf r' run' n
 states-same r r' run run' n e h = each r ∙ ap (λ (q : Fitted). statesOf q run' n) e
   where
     each : (q : Fitted) → statesOf q run n ≡ statesOf q run' n
-    each (Rms rms) = tab-same run run' (suc n) h
+    each (Rms rms) = row-same run run' (suc n) h
     each (Refused k) = refl
 
 -- ---- what a fit reads
@@ -59,10 +47,6 @@ states-same r r' run run' n e h = each r ∙ ap (λ (q : Fitted). statesOf q run
 half-step : two64 ⊘ two64 ≡ halfStep
 unfolding div ofBits
 half-step = refl
-
-time-of : (t0 : Float) (k : ℕ) → timeOf t0 k ≡ stepTime t0 k
-unfolding timeOf stepTime
-time-of t0 k = refl
 
 module _ (S : Setting) (c c' : Float → Bool) (m m' : Float → List Float) (g g' : ℤ → Option State) (arc : Arc)
     (first : c (arc .t0) ≡ c' (arc .t0)) (start : g (second (arc .t0)) ≡ g' (second (arc .t0)))
@@ -74,24 +58,16 @@ module _ (S : Setting) (c c' : Float → Bool) (m m' : Float → List Float) (g 
   pull : (t : Float) (x : Vector) → m t ≡ m' t → fullOf S m t x ≡ fullOf S m' t x
   pull t x e = ap (λ (f : List Float). plus (gravityOf S f x) (tidesOf t x)) e
 
-  at-times : (k : ℕ) → k < arc .steps → m (timeOf (arc .t0) k) ≡ m' (timeOf (arc .t0) k)
-  at-times k h = ap m (time-of (arc .t0) k) ∙ at-step k h ∙ ap m' (sym (time-of (arc .t0) k))
-
-  at-halves : (k : ℕ) → k < arc .steps → m (timeOf (arc .t0) k ⊕ two64 ⊘ two64) ≡ m' (timeOf (arc .t0) k ⊕ two64 ⊘ two64)
+  at-halves : (k : ℕ) → k < arc .steps → m (stepTime (arc .t0) k ⊕ two64 ⊘ two64) ≡ m' (stepTime (arc .t0) k ⊕ two64 ⊘ two64)
   at-halves k h =
-      let e : timeOf (arc .t0) k ⊕ two64 ⊘ two64 ≡ stepTime (arc .t0) k ⊕ halfStep = (λ i. time-of (arc .t0) k i ⊕ half-step i) in
+      let e : stepTime (arc .t0) k ⊕ two64 ⊘ two64 ≡ stepTime (arc .t0) k ⊕ halfStep = ap (λ (h : Float). stepTime (arc .t0) k ⊕ h) half-step in
       ap m e ∙ at-half k h ∙ ap m' (sym e)
-
-  at-nexts : (k : ℕ) → k < arc .steps → m (timeOf (arc .t0) k ⊕ two64) ≡ m' (timeOf (arc .t0) k ⊕ two64)
-  at-nexts k h =
-      let e : timeOf (arc .t0) k ⊕ two64 ≡ stepTime (arc .t0) k ⊕ step = ap (λ (t : Float). t ⊕ two64) (time-of (arc .t0) k) in
-      ap m e ∙ at-next k h ∙ ap m' (sym e)
 
   agree : Agree (fullOf S m) (fullOf S m') (arcStruct arc)
   agree = record {
-    start = λ k h x. pull (timeOf (arc .t0) k) x (at-times k h);
-    middle = λ k h x. pull (timeOf (arc .t0) k ⊕ two64 ⊘ two64) x (at-halves k h);
-    end = λ k h x. pull (timeOf (arc .t0) k ⊕ two64) x (at-nexts k h);
+    start = λ k h x. pull (stepTime (arc .t0) k) x (at-step k h);
+    middle = λ k h x. pull (stepTime (arc .t0) k ⊕ two64 ⊘ two64) x (at-halves k h);
+    end = λ k h x. pull (stepTime (arc .t0) k ⊕ two64) x (at-next k h);
   }
 
   held-same : (t : Float) → g (second t) ≡ g' (second t) → lookOf g t ≡ lookOf g' t
@@ -100,10 +76,10 @@ module _ (S : Setting) (c c' : Float → Bool) (m m' : Float → List Float) (g 
   same-reads : SameReads c c' (fullOf S m) (fullOf S m') (lookOf g) (lookOf g') (arcStruct arc)
   same-reads = record {
     first = first;
-    last = ap c (time-of (arc .t0) (arc .steps)) ∙ covers (arc .steps) (le-refl (arc .steps)) ∙ ap c' (sym (time-of (arc .t0) (arc .steps)));
+    last = covers (arc .steps) (le-refl (arc .steps));
     force = agree;
     start = held-same (arc .t0) start;
-    places = λ n h. held-same (timeOf (arc .t0) (5 * n)) (ap (λ (t : Float). g (second t)) (time-of (arc .t0) (5 * n)) ∙ states (5 * n) (omega arith) ∙ ap (λ (t : Float). g' (second t)) (sym (time-of (arc .t0) (5 * n))));
+    places = λ n h. held-same (stepTime (arc .t0) (5 * n)) (states (5 * n) (omega arith));
   }
 
   fit-reads-same : fitStage S c m g arc ≡ fitStage S c' m' g' arc

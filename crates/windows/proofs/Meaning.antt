@@ -3,18 +3,20 @@ use mathlib.Core.Path.{_≡_, refl, sym, ap, _∙_, subst}
 use mathlib.Core.Option.{Option, none, some}
 use mathlib.Core.Bool.{Bool, true, false, cond, not, _&&_, _||_}
 use mathlib.Core.List.{List, [], _∷_, _++_}
-use Prim.Native.Nat.{ℕ, zero, suc, _+_, _*_, _/_, _≤_, _<_}
+use Prim.Native.Nat.{ℕ, zero, suc, _+_, _*_, _/_, _≤_}
 use native.Mathlib.Numerals.{add-one}
 use native.Mathlib.Nat.{add-comm}
 use native.Mathlib.Omega.{arith}
-use lib.Dec.{T, leb, eqb, ltb}
-use lib.IntN.{ℤ, pos, negsuc}
+use lib.Dec.{T, leb}
+use lib.IntN.{ℤ}
 use lib.Signed.{ltZ}
 use lib.Ieee.{Float, nan}
 use lib.ListN.{length, getD, drop, replicate, length-replicate}
+use Rattle.lent.specs.Lent.{frontSize}
 use Rattle.laws.specs.Floats.{zero64}
 use Rattle.laws.specs.Tables.{tri, rows}
 use Rattle.laws.specs.Times.{second}
+use Rattle.laws.specs.Bools.{by}
 use Rattle.numbers.specs.Seconds.{isHeld, wholeSecond}
 use Rattle.vectors.specs.Vector.{plus}
 use Rattle.vectors.specs.declared.Vector.{Vector}
@@ -27,16 +29,15 @@ use Rattle.forces.proofs.Published.{front-published}
 use Rattle.model.specs.Field.{gm, radius}
 use Rattle.model.specs.Model.{fieldAt}
 use Rattle.model.specs.Calls.{atFits, atLeft}
-use Rattle.integrate.specs.Force.{Model, model, frontSize, frontAt, fullForce}
+use Rattle.integrate.specs.Force.{Model, model, frontAt, fullForce}
 use Rattle.integrate.specs.Room.{stateIn}
 use Rattle.integrate.specs.declared.kernel.State.{State}
-use Rattle.integrate.proofs.Places.{by}
 use Rattle.finality.specs.Tables.{sameSecond, find}
+use Rattle.finality.proofs.Lookup.{same-order}
 use Rattle.slices.specs.Slices.{lookup, lookupFrom}
 use Rattle.fit.specs.Fit.{heldAt, stateFor}
 use Rattle.fit.specs.declared.kernel.Held.the-variants.{Known}
 use lib.Seq.{drop-drop, getD-drop}
-use borrow.Author.Tests.{eqb-true, eqb-false, ltb-false, lt-ltb, le-ltb}
 use Rattle.windows.specs.Stage.{Setting, front, gravityOf, fullOf, heldOf, lookOf, statesIn}
 
 abbrev pub settingOf : ℕ → List Float → List Float → List Float → Setting
@@ -65,23 +66,6 @@ stage-published N static c s x h lc ls =
 
 -- ---- the look-up of states
 
-same-natural : (i j : ℕ) → eqb i j ≡ not (ltb i j || ltb j i)
-same-natural i j =
-    by (eqb i j)
-    (λ e. let q : i ≡ j = eqb-true i j e in e ∙ sym (simp (le-ltb i j (omega (arith, q)), le-ltb j i (omega (arith, q)))))
-    (λ e. let ne = eqb-false i j e in
-    by (ltb i j) (λ l. e ∙ sym (simp l)) (λ l. let q : j < i = omega (arith, ltb-false i j l, ne) in e ∙ sym (simp (l, lt-ltb j i q))))
-
-same-second : (k key : ℤ) → sameSecond k key ≡ not (ltZ k key || ltZ key k)
-same-second (pos i) (pos j) = same-natural i j
-same-second (pos i) (negsuc j) = refl
-same-second (negsuc i) (pos j) = refl
-same-second (negsuc i) (negsuc j) =
-    by (eqb i j)
-    (λ e. let q : i ≡ j = eqb-true i j e in e ∙ sym (simp (le-ltb i j (omega (arith, q)), le-ltb j i (omega (arith, q)))))
-    (λ e. let ne = eqb-false i j e in
-    by (ltb j i) (λ l. e ∙ sym (simp l)) (λ l. let q : i < j = omega (arith, ltb-false j i l, ne) in e ∙ sym (simp (l, lt-ltb i j q))))
-
 state-after : (numbers : List Float) (n : ℕ) → stateIn (drop n numbers) 0 ≡ stateIn numbers n
 unfolding stateIn
 state-after numbers n = λ i. record {
@@ -100,8 +84,8 @@ held-from i (k ∷ keys) numbers key =
     let next : drop 6 (drop (6 * i) numbers) ≡ drop (6 * suc i) numbers = drop-drop 6 (6 * i) numbers ∙ ap (λ (m : ℕ). drop m numbers) six in
     let rest = held-from (suc i) keys numbers key ∙ ap (λ (l : List Float). heldOf (find key (statesIn keys l))) (sym next) in
     by (ltZ k key || ltZ key k)
-    (λ e. let d : sameSecond k key ≡ false = same-second k key ∙ ap not e in rw (e, d) rest)
-    (λ e. let d : sameSecond k key ≡ true = same-second k key ∙ ap not e in rw (e, d) (ap Known (sym (state-after numbers (6 * i)))))
+    (λ e. let d : sameSecond k key ≡ false = same-order k key ∙ ap not e in rw (e, d) rest)
+    (λ e. let d : sameSecond k key ≡ true = same-order k key ∙ ap not e in rw (e, d) (ap Known (sym (state-after numbers (6 * i)))))
 
 pub look-is : (keys : List ℤ) (states : List Float) (t : Float) → isHeld t ≡ true → stateFor keys states t ≡ lookOf (λ (k : ℤ). find k (statesIn keys states)) t
 unfolding stateFor lookup wholeSecond

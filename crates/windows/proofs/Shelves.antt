@@ -11,16 +11,16 @@ use lib.Ieee.{Float, nan, le, lt}
 use lib.ListN.{length, getD, set, length-set, length-append, List·getD-append}
 use lib.Seq.{getD-set-same, getD-at}
 use borrow.Author.Tests.{eqb-true, eqb-false}
-use Rattle.laws.specs.Times.{Time, second, secondTime}
+use Rattle.laws.specs.Times.{Time, second, secondTime, stepTime}
+use Rattle.laws.specs.Bools.{by}
+use Rattle.laws.specs.Tables.{row, row-length}
 use Rattle.numbers.specs.Seconds.{wholeSecond}
 use Rattle.finality.specs.Tables.{Table}
-use Rattle.finality.specs.Arcs.{inside, stepTime}
-use Rattle.finality.specs.Fitting.{tab}
-use Rattle.integrate.specs.Steps.{timeOf}
+use Rattle.finality.specs.Arcs.{inside}
 use Rattle.integrate.specs.declared.kernel.State.{State}
 use Rattle.integrate.specs.Room.{Run, stateIn, Only, Holds3, Orbit}
 use Rattle.integrate.specs.Work.{Stored}
-use Rattle.integrate.proofs.Places.{by, only-then, only-wide, only-same, stays3}
+use Rattle.integrate.proofs.Places.{only-then, only-wide, only-same, stays3}
 use Rattle.fit.proofs.Rows.{set-only}
 use Rattle.windows.specs.Slots.{within, nth, Entry, Entries, Slot, Entered, keptIf, Keeping, Keeps}
 use Rattle.windows.proofs.Times.{held-inside}
@@ -89,12 +89,12 @@ keeping-at s s' at n b t t₁ state state₁ et es e w =
 -- those of the first k steps
 unfoldable pub keptTo : Run → Float → Float → Float → ℕ → Table State
 keptTo run t0 from to zero = []
-keptTo run t0 from to (suc k) = keptTo run t0 from to k ++ keptIf (within from to (timeOf t0 k)) (wholeSecond (timeOf t0 k)) (run k)
+keptTo run t0 from to (suc k) = keptTo run t0 from to k ++ keptIf (within from to (stepTime t0 k)) (wholeSecond (stepTime t0 k)) (run k)
 
 -- how many there are
 unfoldable pub keptCount : Float → Float → Float → ℕ → ℕ
 keptCount t0 from to zero = 0
-keptCount t0 from to (suc k) = keptCount t0 from to k + cond (within from to (timeOf t0 k)) 1 0
+keptCount t0 from to (suc k) = keptCount t0 from to k + cond (within from to (stepTime t0 k)) 1 0
 
 inside-append : {X : Type 0} (t0 a b : Float) (i : ℕ) (xs ys : List X) → inside t0 a b i (xs ++ ys) ≡ inside t0 a b i xs ++ inside t0 a b (length xs + i) ys
 unfolding inside
@@ -106,27 +106,22 @@ inside-append {X} t0 a b i (x ∷ xs) ys =
     (λ e. let shift : length xs + suc i ≡ suc (length xs) + i = omega arith in
     rw e (inside-append t0 a b (suc i) xs ys ∙ ap (λ (j : ℕ). inside t0 a b (suc i) xs ++ inside t0 a b j ys) shift))
 
-tab-length : {X : Type 0} (f : ℕ → X) (n : ℕ) → length (tab f n) ≡ n
-unfolding tab
-tab-length f zero = refl
-tab-length f (suc n) = length-append (tab f n) (f n ∷ []) ∙ let h = tab-length f n in omega arith
-
 -- where both ends of the window are times these are the states inside it
 last-inside : (run : Run) (t0 from to : Float) (k : ℕ) → Time from → Time to →
-    inside t0 from to k (run k ∷ []) ≡ keptIf (within from to (timeOf t0 k)) (wholeSecond (timeOf t0 k)) (run k)
-unfolding inside timeOf stepTime
+    inside t0 from to k (run k ∷ []) ≡ keptIf (within from to (stepTime t0 k)) (wholeSecond (stepTime t0 k)) (run k)
+unfolding inside stepTime
 last-inside run t0 from to k ft ut =
-    by (within from to (timeOf t0 k))
-    (λ e. rw e (ap (λ (z : ℤ). (z, run k) ∷ []) (sym (held-inside from to (timeOf t0 k) ft ut (subst T (sym e) tt)))))
+    by (within from to (stepTime t0 k))
+    (λ e. rw e (ap (λ (z : ℤ). (z, run k) ∷ []) (sym (held-inside from to (stepTime t0 k) ft ut (subst T (sym e) tt)))))
     (λ e. rw e refl)
 
-pub kept-inside : (run : Run) (t0 from to : Float) (k : ℕ) → Time from → Time to → inside t0 from to 0 (tab run k) ≡ keptTo run t0 from to k
-unfolding keptTo tab inside
+pub kept-inside : (run : Run) (t0 from to : Float) (k : ℕ) → Time from → Time to → inside t0 from to 0 (row run k) ≡ keptTo run t0 from to k
+unfolding keptTo row inside
 kept-inside run t0 from to zero ft ut = refl
 kept-inside run t0 from to (suc k) ft ut =
-    inside-append t0 from to 0 (tab run k) (run k ∷ [])
-    ∙ ap (λ (l : Table State). l ++ inside t0 from to (length (tab run k) + 0) (run k ∷ [])) (kept-inside run t0 from to k ft ut)
-    ∙ ap (λ (j : ℕ). keptTo run t0 from to k ++ inside t0 from to j (run k ∷ [])) (let h = tab-length run k in omega arith)
+    inside-append t0 from to 0 (row run k) (run k ∷ [])
+    ∙ ap (λ (l : Table State). l ++ inside t0 from to (length (row run k) + 0) (run k ∷ [])) (kept-inside run t0 from to k ft ut)
+    ∙ ap (λ (j : ℕ). keptTo run t0 from to k ++ inside t0 from to j (run k ∷ [])) (let h = row-length run k in omega arith)
     ∙ ap (λ (l : Table State). keptTo run t0 from to k ++ l) (last-inside run t0 from to k ft ut)
 
 -- a state of the run, read from the lent numbers
@@ -160,10 +155,10 @@ kept-length : (run : Run) (t0 from to : Float) (k : ℕ) → length (keptTo run 
 unfolding keptTo keptCount
 kept-length run t0 from to zero = refl
 kept-length run t0 from to (suc k) =
-    length-append (keptTo run t0 from to k) (keptIf (within from to (timeOf t0 k)) (wholeSecond (timeOf t0 k)) (run k))
-    ∙ by (within from to (timeOf t0 k)) (λ e. simp (e, kept-length run t0 from to k)) (λ e. simp (e, kept-length run t0 from to k))
+    length-append (keptTo run t0 from to k) (keptIf (within from to (stepTime t0 k)) (wholeSecond (stepTime t0 k)) (run k))
+    ∙ by (within from to (stepTime t0 k)) (λ e. simp (e, kept-length run t0 from to k)) (λ e. simp (e, kept-length run t0 from to k))
 
-inside-length : (run : Run) (t0 from to : Float) (k : ℕ) → Time from → Time to → length (inside t0 from to 0 (tab run k)) ≡ keptCount t0 from to k
+inside-length : (run : Run) (t0 from to : Float) (k : ℕ) → Time from → Time to → length (inside t0 from to 0 (row run k)) ≡ keptCount t0 from to k
 inside-length run t0 from to k ft ut = ap (λ (l : Table State). length l) (kept-inside run t0 from to k ft ut) ∙ kept-length run t0 from to k
 
 count-below : (t0 from to : Float) (k m : ℕ) → k ≤ m → keptCount t0 from to k ≤ keptCount t0 from to m
@@ -175,7 +170,7 @@ count-below t0 from to k (suc m) h =
     (λ t. omega (arith, count-below t0 from to k m (omega (arith, eqb-false k (suc m) t))))
 
 -- at most 3,500 after k steps where the whole run leaves no more
-pub few : (t0 from to : Float) (k m : ℕ) → Time from → Time to → ((run : Run) → length (inside t0 from to 0 (tab run m)) ≤ 3500) → k ≤ m → keptCount t0 from to k ≤ 3500
+pub few : (t0 from to : Float) (k m : ℕ) → Time from → Time to → ((run : Run) → length (inside t0 from to 0 (row run m)) ≤ 3500) → k ≤ m → keptCount t0 from to k ≤ 3500
 few t0 from to k m ft ut h l =
     let a = h (λ i. stateIn [] 0) in
     let b = inside-length (λ i. stateIn [] 0) t0 from to m ft ut in
@@ -183,15 +178,15 @@ few t0 from to k m ft ut h l =
     omega (arith, a, b, c)
 
 pub shelf-more : (t0 from to : Float) (s s₁ s₂ : List Float) (base at k n r : ℕ) → base + 31818 ≤ at → k ≤ 5302 → n ≤ 3500 → Shelf t0 from to s s₁ base at k n →
-    Keeping s₁ s₂ at n (within from to (timeOf t0 k)) (wholeSecond (timeOf t0 k)) (stateIn s₁ (base + 6 * k)) r → Shelf t0 from to s s₂ base at (k + 1) r
+    Keeping s₁ s₂ at n (within from to (stepTime t0 k)) (wholeSecond (stepTime t0 k)) (stateIn s₁ (base + 6 * k)) r → Shelf t0 from to s s₂ base at (k + 1) r
 unfolding keptTo keptCount
 shelf-more t0 from to s s₁ s₂ base at k n r h lk ln f w = record {
   all = λ run m o l.
-      let next : keptTo run t0 from to (k + 1) ≡ keptTo run t0 from to k ++ keptIf (within from to (timeOf t0 k)) (wholeSecond (timeOf t0 k)) (run k) = rw add-one in
+      let next : keptTo run t0 from to (k + 1) ≡ keptTo run t0 from to k ++ keptIf (within from to (stepTime t0 k)) (wholeSecond (stepTime t0 k)) (run k) = rw add-one in
       let same : stateIn s₁ (base + 6 * k) ≡ run k = state-kept run m o (omega arith) in
-      subst (λ (x : Table State). Entries s₂ at x) (ap (λ (x : State). keptTo run t0 from to k ++ keptIf (within from to (timeOf t0 k)) (wholeSecond (timeOf t0 k)) x) same ∙ sym next)
+      subst (λ (x : Table State). Entries s₂ at x) (ap (λ (x : State). keptTo run t0 from to k ++ keptIf (within from to (stepTime t0 k)) (wholeSecond (stepTime t0 k)) x) same ∙ sym next)
       (w .all (keptTo run t0 from to k) (kept-length run t0 from to k ∙ sym (f .counted)) (f .all run m o (omega arith)));
-  counted = rw add-one (w .counted ∙ ap (λ (x : ℕ). x + cond (within from to (timeOf t0 k)) 1 0) (f .counted));
+  counted = rw add-one (w .counted ∙ ap (λ (x : ℕ). x + cond (within from to (stepTime t0 k)) 1 0) (f .counted));
   only = only-then at (at + 24599) at (at + 24599) at (at + 7 * n + 7) s s₁ s₂ (f .only) (w .only) (omega arith) (omega arith) (omega arith) (omega arith);
 }
   where

@@ -1,19 +1,20 @@
 -- The start and the steps of a window's arc lie where the code takes their whole numbers. Assumes nothing.
 use mathlib.Core.Path.{_≡_, refl, sym, ap, _∙_, subst}
-use mathlib.Core.Bool.{Bool, true, false, _&&_}
+use mathlib.Core.Bool.{true, false}
 use Prim.Native.Nat.{ℕ, zero, suc, _+_, _-_, _*_, _/_, _^_, _≤_, _<_}
 use native.Mathlib.Omega.{arith}
 use lib.Dec.{T}
 use lib.IntN.{ℤ, pos}
 use lib.Ieee.{Float, fin, binary64, add, sub, mul, div, ofBits, le, lt, eq}
-use lib.Ieee.Fits.{and-l, and-r}
+use lib.Ieee.Fits.{and-l, and-r, and-i}
 use lib.Ieee.Scale.{finite}
+use lib.Ieee.Bits.{is-true}
 use Rattle.laws.specs.Floats.{zero⁺, zero64, two64, _⊕_, _⊖_, _⊗_, _⊘_}
 use Rattle.laws.specs.Order.{le-tr, lt→le, lt-le-tr, le-lt-tr, sub-mono-l, add-mono-l}
 use Rattle.laws.specs.WholeNumbers.{Is, is-le, number, number-is, add-int, sub-int, two-mul-int, half-int, half-mono, floor, between, Floored}
-use Rattle.laws.specs.Times.{Time, bound, natural, natural-le, natural-next, second}
+use Rattle.laws.specs.Times.{Time, bound, natural, natural-le, natural-next, second, step}
 use Rattle.numbers.specs.Seconds.{isHeld, wholeSecond}
-use Rattle.finality.specs.Arcs.{halfHour, step, longest, start, steps}
+use Rattle.finality.specs.Arcs.{halfHour, longest, start, steps}
 use Rattle.finality.proofs.Windows.{k, k-le, P, N, floored, P-le, N-le, half}
 use Rattle.windows.specs.Slots.{lowest, highest, within}
 
@@ -114,14 +115,6 @@ module _ (a b : Float) (at : Time a) (bt : Time b) (ab : T (le a b)) where
 
 -- ---- the second of a time in a window is an i64
 
-yes : (b : Bool) → T b → b ≡ true
-yes true q = refl
-yes false q = absurd q
-
-both-hold : (b c : Bool) → T b → T c → T (b && c)
-both-hold true c q r = r
-both-hold false c q r = absurd q
-
 under : T (le (fin true 1 (pos 63)) zero⁺)
 unfolding le lt eq
 under = tt
@@ -132,10 +125,10 @@ over = tt
 
 pub held-inside : (from to t : Float) → Time from → Time to → T (within from to t) → wholeSecond t ≡ second t
 unfolding wholeSecond
-held-inside from to t ft ut h = rw (yes (isHeld t) held)
+held-inside from to t ft ut h = rw (is-true (isHeld t) held)
   where
     held : T (isHeld t)
     held =
-        both-hold (le (fin true 1 (pos 63)) t) (lt t (fin false 1 (pos 63)))
+        and-i (le (fin true 1 (pos 63)) t) (lt t (fin false 1 (pos 63)))
         (le-tr (fin true 1 (pos 63)) zero⁺ t under (le-tr zero⁺ from t (ft .from-zero) (and-l (le from t) (lt t to) h)))
         (lt-le-tr t to (fin false 1 (pos 63)) (and-r (le from t) (lt t to) h) (lt→le to (fin false 1 (pos 63)) (le-lt-tr to bound (fin false 1 (pos 63)) (ut .to-bound) over)))

@@ -9,10 +9,15 @@ use lib.Dec.{T, leb}
 use lib.IntN.{ℤ, pos}
 use lib.Ieee.{Float, fin, le, lt}
 use lib.ListN.{length, replicate}
+use lib.Ieee.Bits.{is-true}
+use lib.Ieee.Fits.{and-i}
 use borrow.Author.Tests.{le-leb}
+use Rattle.lent.specs.Lent.{frontSize}
 use Rattle.laws.specs.Floats.{zero64, _⊖_}
 use Rattle.laws.specs.Order.{lt→le}
 use Rattle.laws.specs.WholeNumbers.{Is, is-le, is-lt}
+use Rattle.laws.specs.Bools.{by}
+use Rattle.laws.specs.Times.{stepTime}
 use Rattle.numbers.specs.Seconds.{isHeld}
 use Rattle.vectors.specs.declared.Vector.{Vector}
 use Rattle.series.specs.Prepared.{prepared}
@@ -20,13 +25,11 @@ use Rattle.model.specs.Model.{fieldAt}
 use Rattle.model.specs.Calls.{atFits}
 use Rattle.finality.specs.Brackets.{covers}
 use Rattle.finality.specs.Tables.{Table, find}
-use Rattle.finality.specs.Arcs.{longest, start, steps, stepTime, arcOf, inside, windowOf}
+use Rattle.finality.specs.Arcs.{longest, start, steps, arcOf, inside, windowOf}
 use Rattle.finality.proofs.Windows.{k, k-le, P, N, P-le, N-le, steps-le, step-is, steps-short}
-use Rattle.integrate.specs.Steps.{timeOf}
-use Rattle.integrate.specs.Force.{model, frontSize, fullForce}
+use Rattle.integrate.specs.Force.{model, fullForce}
 use Rattle.integrate.specs.declared.kernel.State.{State}
 use Rattle.integrate.specs.declared.kernel.Arc.{Arc as ArcStruct}
-use Rattle.integrate.proofs.Places.{by}
 use Rattle.fit.specs.Fit.{fitOf, orbitOf, stateFor}
 use Rattle.fit.specs.declared.kernel.Held.{Held}
 use Rattle.fit.proofs.Locality.{Agree, SameReads, fit-same, orbit-same}
@@ -42,25 +45,23 @@ lower-is = record { is-finite = tt; value = refl }
 upper-is : Is (fin false 1 (pos 63)) 9223372036854775808 0
 upper-is = record { is-finite = tt; value = refl }
 
-both-true : (b c : Bool) → T b → T c → b && c ≡ true
-both-true true true q r = refl
-both-true true false q r = absurd r
-both-true false c q r = absurd q
+both-hold : (b c : Bool) → T b → T c → b && c ≡ true
+both-hold b c q r = is-true (b && c) (and-i b c q r)
 
 module _ (a b : Float) (e : Ends a b) where
   abbrev ab : T (le a b)
   ab = lt→le a b (e .order)
 
   -- every step's second is an i64
-  held-step : (i : ℕ) → i ≤ steps a b → isHeld (timeOf (start a) i) ≡ true
-  unfolding timeOf stepTime
+  held-step : (i : ℕ) → i ≤ steps a b → isHeld (stepTime (start a) i) ≡ true
+  unfolding stepTime
   held-step i h =
       let s = step-is a b (e .from) (e .to) ab i h in
       let p = P-le a b (e .from) (e .to) ab in
       let n = N-le a b (e .from) (e .to) ab in
       let kk = k-le a b (e .from) (e .to) ab in
       let m = steps-le a b (e .from) (e .to) ab in
-      both-true (le (fin true 1 (pos 63)) (stepTime (start a) i)) (lt (stepTime (start a) i) (fin false 1 (pos 63))) (is-le (fin true 1 (pos 63)) (stepTime (start a) i) 0 9223372036854775808 _ _ lower-is s (omega (arith, n)))
+      both-hold (le (fin true 1 (pos 63)) (stepTime (start a) i)) (lt (stepTime (start a) i) (fin false 1 (pos 63))) (is-le (fin true 1 (pos 63)) (stepTime (start a) i) 0 9223372036854775808 _ _ lower-is s (omega (arith, n)))
       (is-lt (stepTime (start a) i) (fin false 1 (pos 63)) _ _ 9223372036854775808 0 s upper-is (omega (arith, p, n, kk, m, h)))
 
   held-start : isHeld (start a) ≡ true
@@ -69,10 +70,10 @@ module _ (a b : Float) (e : Ends a b) where
       let p = P-le a b (e .from) (e .to) ab in
       let n = N-le a b (e .from) (e .to) ab in
       let kk = k-le a b (e .from) (e .to) ab in
-      both-true (le (fin true 1 (pos 63)) (start a)) (lt (start a) (fin false 1 (pos 63))) (is-le (fin true 1 (pos 63)) (start a) 0 9223372036854775808 _ _ lower-is s (omega (arith, n)))
+      both-hold (le (fin true 1 (pos 63)) (start a)) (lt (start a) (fin false 1 (pos 63))) (is-le (fin true 1 (pos 63)) (start a) 0 9223372036854775808 _ _ lower-is s (omega (arith, n)))
       (is-lt (start a) (fin false 1 (pos 63)) _ _ 9223372036854775808 0 s upper-is (omega (arith, p, n, kk)))
 
-  module _ (covered : Float → Bool) (full : Float → Vector → Vector) (look look' : Float → Held) (same : (i : ℕ) → i ≤ steps a b → look (timeOf (start a) i) ≡ look' (timeOf (start a) i)) (first : look (start a) ≡ look' (start a)) where
+  module _ (covered : Float → Bool) (full : Float → Vector → Vector) (look look' : Float → Held) (same : (i : ℕ) → i ≤ steps a b → look (stepTime (start a) i) ≡ look' (stepTime (start a) i)) (first : look (start a) ≡ look' (start a)) where
     reads : SameReads covered covered full full look look' (arcStruct (arcOf a b))
     reads = record {
       first = refl;
@@ -103,5 +104,5 @@ window-is M field ta tb ts added keys states fit a b e =
     let look' : Float → Held = lookOf (λ (key : ℤ). find key (statesIn keys states)) in
     rw (t, within) (ap (λ (l : List State). inside (start a) a b 0 l)
     ((λ i. statesOf (fitOf (covers ts) (λ u x. full-is M field ta tb ts added fit u x i) (stateFor keys states) (arcStruct (arcOf a b))) (orbitOf (λ u x. full-is M field ta tb ts added fit u x i) (stateFor keys states) (arcStruct (arcOf a b))) (steps a b))
-    ∙ look-same a b e (covers ts) full (stateFor keys states) look' (λ i h. look-is keys states (timeOf (start a) i) (held-step a b e i h)) (look-is keys states (start a) (held-start a b e)) few)))
+    ∙ look-same a b e (covers ts) full (stateFor keys states) look' (λ i h. look-is keys states (stepTime (start a) i) (held-step a b e i h)) (look-is keys states (start a) (held-start a b e)) few)))
     (λ t. rw t refl)

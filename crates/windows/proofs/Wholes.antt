@@ -14,7 +14,7 @@ use Rattle.laws.specs.Floats.{zero64, _⊗_}
 use Rattle.laws.specs.Lists.{decide}
 use Rattle.laws.specs.Signed.{p, n, d, d-pos, finite→real, Order, Strict, order-of-le, le-of-order, strict-of-lt, lt-of-strict}
 use Rattle.laws.specs.Order.{le-real-l, le-tr, le-lt-tr, lt-le-tr, lt→le, lt→nle, nlt→le, le-antisym, neg-le}
-use Rattle.laws.specs.WholeNumbers.{Is, is-le, number, number-is, ceil, floor, ceil-le, between}
+use Rattle.laws.specs.WholeNumbers.{Is, is-le, number, number-is, ceil, floor, ceil-le, between, under-div}
 use Rattle.windows.specs.Slots.{lowest, highest}
 
 -- ---- whole numbers
@@ -23,9 +23,6 @@ ceil-div-is : (a c k : ℕ) → 0 < c → k * c < a + c → a ≤ k * c → (a +
 ceil-div-is a c k C h l =
     le-antisymm (le-of-suc-le-suc (div-lt-iff-lt-mul {k = c} {x = a + (c - 1)} {y = suc k} C .1 (omega (arith, suc-mul k c))))
     (le-div-iff-mul-le C .1 (omega arith))
-
-below-div : (a c k : ℕ) → 0 < c → a ≤ k * c → a / c ≤ k
-below-div a c k C h = le-of-suc-le-suc (div-lt-iff-lt-mul {k = c} {x = a} {y = suc k} C .1 (omega (arith, suc-mul k c)))
 
 min-small : (c m j : ℕ) → min c m ≤ j → j < m → min c m ≡ c
 min-small c m j h l =
@@ -69,7 +66,7 @@ not-above m e h =
 -- ---- the cut number of a number from 0 to 2^33
 
 cut-small : (m : ℕ) (e : ℤ) → T (le (fin false m e) highest) → m * up e / down e ≤ 8589934592
-cut-small m e k = below-div (m * up e) (down e) 8589934592 (down-pos e) (at-most highest m e 8589934592 k highest-is)
+cut-small m e k = under-div (m * up e) (down e) 8589934592 (down-pos e) (at-most highest m e 8589934592 k highest-is)
 
 cut-is : (m : ℕ) (e : ℤ) → T (le (fin false m e) highest) → min (m * up e / down e) (2 ^ 64 - 1) ≡ m * up e / down e
 cut-is m e k = min-eq-left (let h = cut-small m e k in omega arith)

@@ -8,9 +8,9 @@ use lib.Ieee.{Float, nan, fin, le, lt}
 use lib.ListN.{length, getD}
 use Rattle.laws.specs.WholeNumbers.{number}
 use Rattle.laws.specs.Times.{secondTime}
+use Rattle.laws.specs.Tables.{row}
 use Rattle.finality.specs.Tables.{Table}
 use Rattle.finality.specs.Arcs.{inside}
-use Rattle.finality.specs.Fitting.{tab}
 use Rattle.integrate.specs.Room.{Run, Only, Holds3, Orbit, stateIn}
 use Rattle.integrate.specs.declared.kernel.State.{State}
 
@@ -62,6 +62,6 @@ pub record Keeping (s s' : List Float) (at n : ℕ) (b : Bool) (second : ℤ) (s
 
 -- the states of a run whose times lie inside
 pub record Keeps (t0 from to : Float) (steps : ℕ) (s s' : List Float) (base at r : ℕ) : Type 0 where
-  pub all : (run : Run) → Orbit s base run (steps + 1) → Entries s' at (inside t0 from to 0 (tab run (steps + 1)))
-  pub counted : (run : Run) → r ≡ length (inside t0 from to 0 (tab run (steps + 1)))
+  pub all : (run : Run) → Orbit s base run (steps + 1) → Entries s' at (inside t0 from to 0 (row run (steps + 1)))
+  pub counted : (run : Run) → r ≡ length (inside t0 from to 0 (row run (steps + 1)))
   pub only : Only at (at + 24599) s s'

@@ -8,18 +8,17 @@ use lib.Dec.{leb}
 use lib.IntN.{ℤ}
 use lib.ListN.{drop, replicate}
 use lib.Ieee.{Float}
+use Rattle.lent.specs.Lent.{frontSize}
 use Rattle.laws.specs.Floats.{zero64}
-use Rattle.laws.specs.Tables.{tri}
+use Rattle.laws.specs.Tables.{tri, row}
 use Rattle.laws.specs.Times.{second}
 use Rattle.finality.specs.Tables.{Table}
 use Rattle.finality.specs.Arcs.{Arc, Fit}
-use Rattle.finality.specs.Fitting.{tab}
 use Rattle.vectors.specs.Vector.{plus}
 use Rattle.vectors.specs.declared.Vector.{Vector}
 use Rattle.series.specs.Prepared.{prepared}
 use Rattle.forces.specs.Forces.{gravityWith, tidesOf}
 use Rattle.model.specs.Field.{gm, radius}
-use Rattle.integrate.specs.Force.{frontSize}
 use Rattle.integrate.specs.Room.{Run, stateIn}
 use Rattle.integrate.specs.declared.kernel.State.{State}
 use Rattle.integrate.specs.declared.kernel.Arc.{Arc as ArcStruct}
@@ -63,7 +62,7 @@ lookOf look t = heldOf (look (second t))
 
 -- the states of an orbit, one a step, where its fit is not refused
 abbrev pub statesOf : Fitted → Run → ℕ → List State
-statesOf (Rms rms) run steps = tab run (suc steps)
+statesOf (Rms rms) run steps = row run (suc steps)
 statesOf (Refused n) run steps = []
 
 -- an arc of more than 5,302 steps has no fit; no window gives one

@@ -8,13 +8,13 @@ use lib.Dec.{T, leb, eqb}
 use lib.IntN.{ℤ}
 use lib.Ieee.{Float, nan, lt}
 use lib.ListN.{length, getD}
+use Rattle.lent.specs.Lent.{frontSize}
 use Rattle.laws.specs.Floats.{zero64, _⊖_}
 use Rattle.laws.specs.Checks.{all, isTime, rising, risingSeconds}
 use Rattle.laws.specs.Times.{Time}
 use Rattle.finality.specs.Tables.{Table}
 use Rattle.finality.specs.Arcs.{longest, start, steps, arcOf, inside}
 use Rattle.vectors.specs.declared.Vector.{Vector}
-use Rattle.integrate.specs.Force.{frontSize}
 use Rattle.integrate.specs.declared.kernel.State.{State}
 use Rattle.integrate.specs.declared.kernel.Arc.{Arc as ArcStruct}
 use Rattle.fit.specs.Fit.{fitOf, orbitOf}

@@ -8,14 +8,14 @@ ghost use lib.ListN.{length, getD};
 ghost use Rattle.laws.specs.Checks.{risingSeconds};
 ghost use Rattle.laws.specs.Floats.{zero64, _⊖_};
 ghost use Rattle.laws.specs.WholeNumbers.{ceil, floor};
-ghost use Rattle.laws.specs.Times.{Time, secondTime};
+ghost use Rattle.laws.specs.Times.{stepTime, Time, secondTime};
 ghost use Rattle.numbers.specs.Seconds.{wholeSecond};
 ghost use Rattle.finality.specs.Arcs.{start, steps, longest, inside};
-ghost use Rattle.finality.specs.Fitting.{tab};
+ghost use Rattle.laws.specs.Tables.{row};
 ghost use Rattle.finality.specs.Brackets.{covers};
-ghost use Rattle.integrate.specs.Force.{model, frontSize, fullForce};
+ghost use Rattle.lent.specs.Lent.{frontSize};
+ghost use Rattle.integrate.specs.Force.{model, fullForce};
 ghost use Rattle.integrate.specs.Room.{Run, stateIn};
-ghost use Rattle.integrate.specs.Steps.{timeOf};
 ghost use Rattle.fit.specs.Fit.{stateFor};
 ghost use Rattle.windows.specs.Windows.{windowBy, windowFine, arcBetween, roomFor, windowsServe, Leaves, Windowed, Ends, Filled, WindowsFit};
 ghost use Rattle.windows.specs.Slots.{lowest, highest, within, Entered, Keeping, Keeps};
@@ -128,7 +128,7 @@ fn keep_step(
     n: usize,
 ) -> usize
     requires { ⌜ (k ≤ 5302) × (base + 31818 ≤ at) × (n ≤ 3500) × (at + 24599 ≤ length (now s)) ⌝ }
-    ensures { λ r. ⌜ Keeping (now (s .entry)) (now (s .exit)) at n (within from to (timeOf t0 k)) (wholeSecond (timeOf t0 k)) (stateIn (now (s .entry)) (base + 6 * k)) r ⌝ }
+    ensures { λ r. ⌜ Keeping (now (s .entry)) (now (s .exit)) at n (within from to (stepTime t0 k)) (wholeSecond (stepTime t0 k)) (stateIn (now (s .entry)) (base + 6 * k)) r ⌝ }
 {
     let t = integrate::kernel::time(t0, k);
     if within(from, to, t) {
@@ -141,7 +141,7 @@ fn keep_step(
 
 // The states of a run whose times lie in a window, seven numbers each, from a place on. Returns how many there are.
 fn keep(t0: f64, from: f64, to: f64, steps: usize, s: &mut [f64], base: usize, at: usize) -> usize
-    requires { ⌜ Time from × Time to × (steps ≤ 5302) × ((run : Run) → length (inside t0 from to 0 (tab run (steps + 1))) ≤ 3500) × (base + 31818 ≤ at) × (at + 24599 ≤ length (now s)) ⌝ }
+    requires { ⌜ Time from × Time to × (steps ≤ 5302) × ((run : Run) → length (inside t0 from to 0 (row run (steps + 1))) ≤ 3500) × (base + 31818 ≤ at) × (at + 24599 ≤ length (now s)) ⌝ }
     ensures { λ r. ⌜ Keeps t0 from to steps (now (s .entry)) (now (s .exit)) base at r ⌝ }
 {
     let mut n: usize = 0;
@@ -307,7 +307,7 @@ fn room_for(degree: usize, nodes: usize, room: usize) -> bool
     if degree > 180 {
         return false;
     }
-    let base = integrate::kernel::front_size(degree) + 150000;
+    let base = lent::front_size(degree) + 150000;
     if base > room {
         return false;
     }
@@ -352,7 +352,7 @@ pub fn fit_windows(
     ensures { λ r. ⌜ WindowsFit (windowsServe degree (now (keys .entry)) (length (now (states .entry))) (now (nodes .entry)) satellite (length (now (s .entry)))) (windowBy (covers (now (times .entry))) (fullForce (model degree (now (field .entry)) (now (times .entry)) (now (added .entry))) (now (a .entry)) (now (b .entry))) (stateFor (now (keys .entry)) (now (states .entry)))) (now (nodes .entry)) (now (s .entry)) (now (s .exit)) (frontSize degree) satellite r ⌝ }
 {
     if windows_serve(degree, keys, states.len(), nodes, satellite, s.len()) {
-        let base = integrate::kernel::front_size(degree);
+        let base = lent::front_size(degree);
         fit_each(
             degree,
             field,

@@ -2,7 +2,7 @@ use mathlib.Core.Path.{_≡_, refl}
 use mathlib.Core.List.{_++_}
 use Prim.Native.Nat.{_+_, _-_, _≤_}
 use lib.ListN.{length, take}
-use Rattle.band_pass_program.proofs.Laws.{bytes-starts, bytes-turn, bytes-done}
+use Rattle.hex.proofs.Printing.{bytes-starts, bytes-turn, bytes-done}
 use borrow.Author.Needs.{needs}
 use Rattle.band_pass_program.proofs.put_bytes.Statement.{statement}
 use Rattle.band_pass_program.proofs.put_bytes.Tie as tie

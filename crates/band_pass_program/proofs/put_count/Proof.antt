@@ -1,5 +1,5 @@
 use native.Mathlib.Omega.{arith}
-use Rattle.band_pass_program.proofs.Laws.{count-few, count-fits, count-prints}
+use Rattle.hex.proofs.Printing.{count-few, count-fits, count-prints}
 use borrow.Author.Needs.{needs}
 use Rattle.band_pass_program.proofs.put_count.Statement.{statement}
 use Rattle.band_pass_program.proofs.put_count.Tie as tie

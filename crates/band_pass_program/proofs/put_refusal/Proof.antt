@@ -1,5 +1,5 @@
-use Rattle.band_pass_program.proofs.Laws.{refused-prints}
 use borrow.Author.Needs.{needs}
+use Rattle.hex.proofs.Printing.{refused-prints}
 use Rattle.band_pass_program.proofs.put_refusal.Statement.{statement}
 use Rattle.band_pass_program.proofs.put_refusal.Tie as tie
 

@@ -4,7 +4,7 @@ use Prim.Native.Nat.{_+_, _-_}
 use borrow.Author.Needs.{needs}
 use lib.ListN.{length, take, replicate}
 use native.Mathlib.Nat.{sub-zero}
-use Rattle.detrend.proofs.Listing.{zeros-turn, zeros-done}
+use Rattle.laws.specs.Loops.{clear-turn, clear-done}
 use Rattle.detrend.proofs.clear_counts.Statement.{statement}
 use Rattle.detrend.proofs.clear_counts.Tie as tie
 
@@ -18,10 +18,10 @@ loop-holds : tie.Need-loop-holds Inv-loop μ-loop
 loop-holds c = (refl, rw sub-zero)
 
 loop-again : tie.Need-loop-again Inv-loop μ-loop
-loop-again c = search (needs, zeros-turn)
+loop-again c = search (needs, clear-turn)
 
 returns : tie.Need-returns Inv-loop μ-loop
-returns c = search (needs, zeros-done)
+returns c = search (needs, clear-done)
 
 pub clear-counts-spec : {M : Type 1} → statement M
 clear-counts-spec =

@@ -4,9 +4,8 @@ use mathlib.Core.Path.{_≡_, refl}
 use mathlib.Core.List.{_++_}
 use native.Mathlib.Omega.{arith}
 use lib.ListN.{length, take}
-use Rattle.laws.specs.Tables.{row}
+use Rattle.laws.specs.Tables.{row, row-none}
 use Rattle.fields.proofs.Tables.{scaledAt, scaled-turn, scaled-done}
-use Rattle.fields.proofs.Answers.{row-none}
 use Rattle.fields.proofs.rescaled_row.Statement.{statement}
 use Rattle.fields.proofs.rescaled_row.Tie as tie
 

@@ -1,9 +1,10 @@
 use mathlib.Core.Path.{_≡_, _∙_}
 use native.Mathlib.Omega.{arith}
-use Rattle.integrate.specs.Force.{model, frontSize}
+use Rattle.lent.specs.Lent.{frontSize}
+use Rattle.integrate.specs.Force.{model}
 use Rattle.sighting.specs.Kept.{keyed, observation}
 use Rattle.residuals.specs.Inputs.{inputs}
-use Rattle.residuals.proofs.Answers.{base-is, work-answers}
+use Rattle.residuals.proofs.Answers.{work-answers}
 use borrow.Author.Needs.{needs}
 use Rattle.residuals.proofs.epoch_work.Statement.{statement}
 use Rattle.residuals.proofs.epoch_work.Tie as tie
@@ -17,7 +18,7 @@ open-requires c κs = search needs
 try-epoch-requires : tie.Need-try-epoch-requires
 try-epoch-requires c κs =
     let s = c .before .before .before .before .before .before .before .before .before .before .before .before .before .before .before .before .args in
-    let e : _ ≡ frontSize (s .degree) = base-is (s .degree) _ (c .before .before .before .before .before .before .before .before .before .before .before .before .before .before .before .before .pre .degree) (c .before .before .before .before .before .front-size .ensures) in
+    let e : _ ≡ frontSize (s .degree) = c .before .before .before .before .before .front-size .ensures .0 (c .before .before .before .before .before .before .before .before .before .before .before .before .before .before .before .before .pre .degree) in
     (c .before .before .before .before .before .before .before .before .before .before .before .before .before .before .before .before .pre .statesC, c .before .before .before .before .before .before .before .before .before .before .before .before .before .before .before .before .pre .statesD, c .before .before .before .before .before .before .before .before .before .before .before .before .before .before .before .before .pre .accC, c .before .before .before .before .before .before .before .before .before .before .before .before .before .before .before .before .pre .accD, omega (arith, e, c .before .before .before .before .before .before .before .before .before .before .before .before .before .before .before .before .pre .room, c .before .before .before .«open» .ensures .only .long), c .before .before .before .«open» .ensures .usable e (omega (arith, e, c .before .before .before .before .before .before .before .before .before .before .before .before .before .before .before .before .pre .room)) (s .field .now) (s .times .now) (s .added .now))
 
 judged-requires : tie.Need-judged-requires

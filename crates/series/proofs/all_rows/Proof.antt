@@ -1,4 +1,4 @@
-use Rattle.series.specs.Arrays.{total}
+use Rattle.laws.specs.Sums.{sumTo}
 use Rattle.series.specs.Rows.{tablesOf, Holds}
 use Rattle.series.specs.Sums.{evaluation, AllSums, allV, allR, allLat, allLon, power}
 use Rattle.series.proofs.Recur.{holds-at, room-less, field-less, has-less}
@@ -23,7 +23,7 @@ abbrev μ-loop : tie.MeasureT-loop
 μ-loop degree q t u lon a b lower upper heads c s x y r qa₀ qb₀ p₀ d₀ sum₀ n₀ qa qb p d sum n = degree + 1 - n
 
 loop-holds : tie.Need-loop-holds Inv-loop μ-loop
-unfolding allV allR allLat allLon power total
+unfolding allV allR allLat allLon power sumTo
 loop-holds c =
     let s = c .before .before .before .before .before .before .before in
     (omega arith, s .pre .4, s .pre .5, s .pre .6, s .pre .7, record { av = refl; ar = refl; alat = refl; alon = refl; aq = refl })

@@ -1,7 +1,8 @@
-use Rattle.series.specs.Arrays.{total, at, from}
+use Rattle.series.specs.Arrays.{at, from}
 use Rattle.series.specs.Sums.{RowSums, degreeOf}
 use Rattle.laws.specs.Floats.{_⊕_, one64}
 use Rattle.laws.specs.WholeNumbers.{number}
+use Rattle.laws.specs.Sums.{sumTo}
 use Rattle.series.proofs.Added.{sums-more, number-first, number-next}
 use Prim.Native.Nat.{ℕ, zero, suc, _+_, _-_, _*_, _≤_, _<_}
 use mathlib.Core.Path.{_≡_, refl, sym, ap, ap₂, _∙_, subst}
@@ -23,7 +24,7 @@ abbrev μ-loop : tie.MeasureT-loop
 μ-loop n k c s x y p d v₀ lat₀ lon₀ order₀ m₀ v lat lon order m = n + 1 - m
 
 loop-holds : tie.Need-loop-holds Inv-loop μ-loop
-unfolding total
+unfolding sumTo
 loop-holds c = (omega arith, number-first, record { sv = refl; slat = refl; slon = refl })
 
 loop-again : tie.Need-loop-again Inv-loop μ-loop

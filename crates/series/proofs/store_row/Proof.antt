@@ -4,9 +4,9 @@ use mathlib.Core.Path.{_≡_, refl, sym, ap, _∙_}
 use mathlib.Core.List.{_++_}
 use native.Mathlib.Omega.{arith}
 use lib.ListN.{length, take}
-use Rattle.laws.specs.Tables.{row, row-turn}
+use Rattle.laws.specs.Tables.{row, row-turn, row-none}
 use Rattle.series.specs.Arrays.{at}
-use Rattle.series.proofs.Filling.{row-none, row-full}
+use Rattle.series.proofs.Filling.{row-full}
 use Rattle.series.proofs.store_row.Statement.{statement}
 use Rattle.series.proofs.store_row.Tie as tie
 

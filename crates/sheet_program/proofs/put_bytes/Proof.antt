@@ -1,4 +1,4 @@
-use Rattle.sheet_program.proofs.Laws.{bytes-starts, bytes-turn, bytes-done}
+use Rattle.hex.proofs.Printing.{bytes-starts, bytes-turn, bytes-done}
 use mathlib.Core.Path.{_≡_, refl}
 use mathlib.Core.List.{_++_}
 use Prim.Native.Nat.{_+_, _-_, _*_, _≤_}

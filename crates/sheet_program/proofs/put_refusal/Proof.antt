@@ -1,4 +1,5 @@
-use Rattle.sheet_program.proofs.Laws.{refused-prints, refused-counts}
+use Rattle.hex.proofs.Printing.{refused-prints}
+use Rattle.sheet_program.proofs.Laws.{refused-counts}
 use borrow.Author.Needs.{needs}
 use Rattle.sheet_program.proofs.put_refusal.Statement.{statement}
 use Rattle.sheet_program.proofs.put_refusal.Tie as tie

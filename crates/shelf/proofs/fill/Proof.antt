@@ -1,7 +1,8 @@
 use Prim.Native.Nat.{ℕ}
 use lib.ListN.{length}
+use Rattle.lent.specs.Lent.{frontSize}
 use Rattle.finality.specs.Brackets.{covers}
-use Rattle.integrate.specs.Force.{model, frontSize, fullForce}
+use Rattle.integrate.specs.Force.{model, fullForce}
 use Rattle.fit.specs.Fit.{stateFor}
 use Rattle.windows.specs.Windows.{windowBy, windowsServe}
 use Rattle.shelf.proofs.Fits.{both-fit}

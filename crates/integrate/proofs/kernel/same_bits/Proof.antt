@@ -1,8 +1,9 @@
 use mathlib.Core.Path.{_≡_, sym, subst}
+use mathlib.Core.Bool.{false≢true}
 use lib.Dec.{T}
 use borrow.Author.Tests.{eqb-true}
 use Rattle.laws.specs.SameBits.{value-of-bits}
-use Rattle.integrate.proofs.Front.{never, eq-no-nan}
+use Rattle.integrate.proofs.Front.{eq-no-nan}
 use borrow.Author.Needs.{needs}
 use Rattle.integrate.proofs.kernel.same_bits.Statement.{statement}
 use Rattle.integrate.proofs.kernel.same_bits.Tie as tie
@@ -17,10 +18,10 @@ returns : tie.Need-returns
 returns c = λ h. value-of-bits _ _ (subst T (sym (c .before .before .good .0 .1)) tt) (subst T (sym (c .before .before .good .1 .0 .1)) tt) (eqb-true _ _ h)
 
 returns-2 : tie.Need-returns-2
-returns-2 c = λ h. absurd (never h)
+returns-2 c = λ h. absurd (false≢true h)
 
 returns-3 : tie.Need-returns-3
-returns-3 c = λ h. absurd (never h)
+returns-3 c = λ h. absurd (false≢true h)
 
 pub same-bits-spec : {M : Type 1} → statement M
 same-bits-spec =

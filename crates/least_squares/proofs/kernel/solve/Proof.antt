@@ -1,10 +1,10 @@
 use mathlib.Core.Path.{_≡_, refl, sym, ap, _∙_}
-use mathlib.Core.Bool.{true, false}
+use mathlib.Core.Bool.{true, false, false≢true}
 use Prim.Native.Nat.{ℕ, suc, _+_, _*_, _-_, _≤_, _<_}
 use native.Mathlib.Omega.{arith}
 use lib.ListN.{length}
 use borrow.Author.Needs.{needs}
-use Rattle.least_squares.proofs.Laws.{stage-more, singular-is, fine-more, fine-not, length-flatten, never}
+use Rattle.least_squares.proofs.Laws.{stage-more, singular-is, fine-more, fine-not, length-flatten}
 use Rattle.least_squares.specs.Elimination.{fine, singular, stage, view}
 use Rattle.least_squares.proofs.kernel.solve.Statement.{statement}
 use Rattle.least_squares.proofs.kernel.solve.Tie as tie
@@ -27,7 +27,7 @@ returns c =
     let q = c .before .before .before .pivot in (
       sym (fine-not (s .p) (s .a .now) (loop .c) (s .p) (omega arith)
           (sym (singular-is (s .p) (s .a .now) (loop .c) (loop .a) (q .result) (loop .inv .2) (q .ensures .0) _ (c .before .too-small .ensures)) ∙ c .if1 .taken)),
-      λ e. absurd (never e),
+      λ e. absurd (false≢true e),
     )
 
 eliminate-requires : tie.Need-eliminate-requires Inv-loop μ-loop

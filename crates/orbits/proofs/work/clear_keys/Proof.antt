@@ -4,7 +4,7 @@ use Prim.Native.Nat.{_+_, _-_}
 use lib.IntN.{pos}
 use lib.ListN.{length, take, replicate}
 use native.Mathlib.Nat.{sub-zero}
-use Rattle.orbits.proofs.Keeping.{zeros-turn, zeros-done}
+use Rattle.laws.specs.Loops.{clear-turn, clear-done}
 use borrow.Author.Needs.{needs}
 use Rattle.orbits.proofs.work.clear_keys.Statement.{statement}
 use Rattle.orbits.proofs.work.clear_keys.Tie as tie
@@ -19,10 +19,10 @@ loop-holds : tie.Need-loop-holds Inv-loop μ-loop
 loop-holds c = (refl, rw sub-zero)
 
 loop-again : tie.Need-loop-again Inv-loop μ-loop
-loop-again c = search (needs, zeros-turn)
+loop-again c = search (needs, clear-turn)
 
 returns : tie.Need-returns Inv-loop μ-loop
-returns c = search (needs, zeros-done)
+returns c = search (needs, clear-done)
 
 pub clear-keys-spec : {M : Type 1} → statement M
 clear-keys-spec =

@@ -1,9 +1,8 @@
 use mathlib.Core.Path.{_≡_, _∙_}
 use native.Mathlib.Omega.{arith}
 use lib.ListN.{length}
-use Rattle.integrate.specs.Force.{frontSize}
+use Rattle.lent.specs.Lent.{frontSize}
 use Rattle.residuals.specs.Calls.{lists}
-use Rattle.residuals.proofs.Answers.{base-is}
 use Rattle.residuals.proofs.Turns.{blank-is}
 use borrow.Author.Needs.{needs}
 use Rattle.residuals.proofs.filling.fill.Statement.{statement}
@@ -13,7 +12,7 @@ fill-from-requires : tie.Need-fill-from-requires
 fill-from-requires c κs =
     let s = c .before .before .before .before .before .before .before .before .before .before .before .before .before .before .before .before .before .before .before .before .before .before .before .before .before .before .before .before .before .before .before .before .before .before .before .before .before .before .before .args in
     let p = c .before .before .before .before .before .before .before .before .before .before .before .before .before .before .before .before .before .before .before .before .before .before .before .before .before .before .before .before .before .before .before .before .before .before .before .before .before .before .before .pre in
-    let e : _ ≡ frontSize (s .degree) = base-is (s .degree) _ (p .0 .degree) (c .before .before .before .before .before .before .before .before .before .before .before .before .before .before .before .before .before .before .before .before .before .before .before .front-size .ensures) in
+    let e : _ ≡ frontSize (s .degree) = c .before .before .before .before .before .before .before .before .before .before .before .before .before .before .before .before .before .before .before .before .before .before .before .front-size .ensures .0 (p .0 .degree) in
     (p .0 .statesC, p .0 .statesD, p .0 .accC, p .0 .accD, e, p .1, p .2, record { outputs = c .before .before .before .before .before .before .before .before .before .before .before .before .before .before .before .before .before .clear-lists .ensures ∙ blank-is (length (s .obstimes .now)) (lists (s .outtimes .now) (s .outresiduals .now) (s .outterms .now) (s .outmids .now) (s .outvels .now)) (p .3); room = omega (arith, e, p .0 .room, c .before .before .before .before .before .before .before .before .«open» .ensures .only .long); usable = c .before .before .before .before .before .before .before .before .«open» .ensures .usable e (omega (arith, e, p .0 .room)) (s .field .now) (s .times .now) (s .added .now) })
 
 returns : tie.Need-returns

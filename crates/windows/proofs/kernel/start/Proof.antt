@@ -1,7 +1,8 @@
 use mathlib.Core.Path.{_≡_, refl, sym, ap, _∙_, subst}
 use lib.Ieee.{Float}
 use Rattle.laws.specs.Floats.{_⊗_}
-use Rattle.finality.specs.Arcs.{start, step}
+use Rattle.laws.specs.Times.{step}
+use Rattle.finality.specs.Arcs.{start}
 use Rattle.windows.proofs.Times.{start-low, start-high}
 use borrow.Author.Needs.{needs}
 use Rattle.windows.proofs.kernel.start.Statement.{statement}

@@ -5,7 +5,8 @@ use lib.Dec.{T}
 use lib.Ieee.{Float, le}
 use Rattle.laws.specs.Floats.{zero64, _⊕_, _⊖_, _⊘_}
 use Rattle.laws.specs.WholeNumbers.{ceil}
-use Rattle.finality.specs.Arcs.{halfHour, step, start, steps}
+use Rattle.laws.specs.Times.{step}
+use Rattle.finality.specs.Arcs.{halfHour, start, steps}
 use Rattle.finality.proofs.Windows.{steps-short}
 use Rattle.windows.specs.Slots.{highest}
 use Rattle.windows.proofs.Times.{steps-low, steps-high}
