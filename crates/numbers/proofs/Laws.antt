@@ -119,24 +119,6 @@ not-held false f = refl
 not-lt : (x y : Float) → le x y ≡ true → lt y x ≡ false
 not-lt x y h = not-held (lt y x) (λ l. lt-irr x (le-lt-tr x y x (subst T (sym h) tt) l))
 
--- `eighth` where it is known how its tests go
-module _ (m x a : Float) where
-  pub steep-flat : lt x m ≡ true → le (x ⊘ m) bend ≡ true → a ≡ angleNear (x ⊘ m) → halfPi ⊖ (zero64 ⊕ a) ≡ eighth m x
-  unfolding eighth angle
-  steep-flat i j f = rw (f, i, not-lt (x ⊘ m) bend j)
-
-  pub steep-bent : lt x m ≡ true → lt bend (x ⊘ m) ≡ true → a ≡ angleNear ((x ⊘ m ⊖ one64) ⊘ (x ⊘ m ⊕ one64)) → halfPi ⊖ (π/4 ⊕ a) ≡ eighth m x
-  unfolding eighth angle
-  steep-bent i j f = rw (f, i, j)
-
-  pub gentle-bent : le m x ≡ true → lt bend (m ⊘ x) ≡ true → a ≡ angleNear ((m ⊘ x ⊖ one64) ⊘ (m ⊘ x ⊕ one64)) → π/4 ⊕ a ≡ eighth m x
-  unfolding eighth angle
-  gentle-bent i j f = rw (f, not-lt m x i, j)
-
-  pub gentle-flat : le m x ≡ true → le (m ⊘ x) bend ≡ true → a ≡ angleNear (m ⊘ x) → zero64 ⊕ a ≡ eighth m x
-  unfolding eighth angle
-  gentle-flat i j f = rw (f, not-lt m x i, not-lt (m ⊘ x) bend j)
-
 real-below : (x y : Float) → lt x y ≡ true → isNan x ≡ false
 unfolding lt isNan
 real-below nan y h = sym h
@@ -150,12 +132,6 @@ real-above (inf s) nan h = sym h
 real-above (fin s m e) nan h = sym h
 real-above c (inf s) h = refl
 real-above c (fin s m e) h = refl
-
-real-from : (x : Float) → le zero64 x ≡ true → isNan x ≡ false
-unfolding lt eq le isNan ofBits
-real-from nan h = sym h
-real-from (inf s) h = refl
-real-from (fin s m e) h = refl
 
 apart : (s : Bool) (a : ℕ) (t : Bool) (b : ℕ) → T (level s a t b) → T (Ieee·below s a t b) → ⊥
 apart false a false b h k =
@@ -194,16 +170,84 @@ apart-above x y h = not-held (eq x y) (λ l. lt→nle y x (subst T (sym h) tt) (
 lt-asym : (x y : Float) → lt x y ≡ true → lt y x ≡ false
 lt-asym x y h = not-held (lt y x) (λ l. lt-irr x (lt-tr x y x (subst T (sym h) tt) l))
 
--- the point is not left of the axis
-pub upward : (v x r : Float) → lt zero64 v ≡ true → le zero64 x ≡ true → r ≡ eighth v x → r ≡ arctangent v x
-unfolding arctangent left magnitude below
-upward v x r h p k =
-    k ∙ rw (real-above zero64 v h, real-from x p, apart-above v zero64 h, not-lt zero64 x p, lt-asym zero64 v h)
+lt-nan : (c : Float) → lt c nan ≡ false
+unfolding lt
+lt-nan nan = refl
+lt-nan (inf s) = refl
+lt-nan (fin s m e) = refl
 
-pub mirrored : (v x r : Float) → lt v zero64 ≡ true → le zero64 x ≡ true → r ≡ eighth (neg v) x → neg r ≡ arctangent v x
+and-false : (b : Bool) → b && false ≡ false
+and-false true = refl
+and-false false = refl
+
+none : (a b : ℕ) → T (ltb a (0 * b)) → ⊥
+none a b h = let l = ltb→lt a (0 * b) h in omega (arith, l)
+
+one-above : T (lt one64 zero64) → ⊥
+unfolding lt ofBits
+one-above h = h
+
+minus-below : T (lt (neg one64) zero64)
+unfolding lt neg ofBits
+minus-below = tt
+
+-- the point is right of the axis
+angle-nan : angle nan ≡ nan
+unfolding angle angleNear add lt ofBits
+angle-nan = refl
+
+upward-nan : (x : Float) → eighth nan x ≡ arctangent nan x
+unfolding arctangent isNan eighth div
+upward-nan x = rw (lt-nan x) angle-nan
+
+upward-real : (v x : Float) → isNan v ≡ false → lt v zero64 ≡ false → lt zero64 x ≡ true → eighth v x ≡ arctangent v x
+unfolding arctangent left magnitude below
+upward-real v x n h p = rw (n, real-above zero64 x p, apart-above x zero64 p, and-false (eq v zero64), lt-asym zero64 x p, h)
+
+upward : (v x : Float) → lt v zero64 ≡ false → lt zero64 x ≡ true → eighth v x ≡ arctangent v x
+unfolding isNan
+upward nan x h p = upward-nan x
+upward (inf s) x h p = upward-real (inf s) x refl h p
+upward (fin s m e) x h p = upward-real (fin s m e) x refl h p
+
+pub neg-not-below : (v : Float) → lt v zero64 ≡ true → lt (neg v) zero64 ≡ false
+unfolding lt neg ofBits
+neg-not-below nan h = refl
+neg-not-below (inf true) h = refl
+neg-not-below (inf false) h = sym h
+neg-not-below (fin true m e) h = not-held _ (none (m * up e * 1) (down e))
+neg-not-below (fin false m e) h = absurd (none (m * up e * 1) (down e) (subst T (sym h) tt))
+
+-- mirrored downwards
+pub mirrored : (v x r : Float) → lt v zero64 ≡ true → lt zero64 x ≡ true → r ≡ arctangent (neg v) x → neg r ≡ arctangent v x
 unfolding arctangent left magnitude below
 mirrored v x r h p k =
-    ap neg k ∙ rw (real-below v zero64 h, real-from x p, apart-below v zero64 h, not-lt zero64 x p, h)
+    ap neg (k ∙ sym (upward (neg v) x (neg-not-below v h) p)) ∙ rw (real-below v zero64 h, real-above zero64 x p, apart-below v zero64 h, lt-asym zero64 x p, h)
+
+-- only one bound is in question on either side of zero
+pub not-above : (v : Float) → lt v zero64 ≡ true → lt one64 v ≡ false
+not-above v h = not-held (lt one64 v) (λ l. one-above (lt-tr one64 v zero64 l (subst T (sym h) tt)))
+
+pub not-under : (v : Float) → lt v zero64 ≡ false → lt v (neg one64) ≡ false
+not-under v h = not-held (lt v (neg one64)) (λ l. subst T h (lt-tr v (neg one64) zero64 l minus-below))
+
+-- `eighth` where it is known how its tests go
+module _ (m x a : Float) (g : (lt m zero64 ≡ false) × (lt zero64 x ≡ true)) where
+  pub steep-flat : lt x m ≡ true → le (x ⊘ m) bend ≡ true → a ≡ angleNear (x ⊘ m) → halfPi ⊖ (zero64 ⊕ a) ≡ arctangent m x
+  unfolding eighth angle
+  steep-flat i j f = (rw (f, i, not-lt (x ⊘ m) bend j)) ∙ upward m x (g .0) (g .1)
+
+  pub steep-bent : lt x m ≡ true → lt bend (x ⊘ m) ≡ true → a ≡ angleNear ((x ⊘ m ⊖ one64) ⊘ (x ⊘ m ⊕ one64)) → halfPi ⊖ (π/4 ⊕ a) ≡ arctangent m x
+  unfolding eighth angle
+  steep-bent i j f = (rw (f, i, j)) ∙ upward m x (g .0) (g .1)
+
+  pub gentle-bent : le m x ≡ true → lt bend (m ⊘ x) ≡ true → a ≡ angleNear ((m ⊘ x ⊖ one64) ⊘ (m ⊘ x ⊕ one64)) → π/4 ⊕ a ≡ arctangent m x
+  unfolding eighth angle
+  gentle-bent i j f = (rw (f, not-lt m x i, j)) ∙ upward m x (g .0) (g .1)
+
+  pub gentle-flat : le m x ≡ true → le (m ⊘ x) bend ≡ true → a ≡ angleNear (m ⊘ x) → zero64 ⊕ a ≡ arctangent m x
+  unfolding eighth angle
+  gentle-flat i j f = (rw (f, not-lt m x i, not-lt (m ⊘ x) bend j)) ∙ upward m x (g .0) (g .1)
 
 -- ---- sine and cosine
 

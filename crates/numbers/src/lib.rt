@@ -4,9 +4,11 @@ ghost use Prim.Native.Nat.{suc, _<_, _≤_, _/_};
 ghost use lib.Signed.{mag};
 ghost use lib.ListN.{length};
 ghost use lib.Dec.{T};
+ghost use mathlib.Core.Bool.{true, false};
+ghost use lib.Ieee.{lt};
 ghost use lib.Ieee.Scale.{finite};
 ghost use Rattle.numbers.specs.Numbers.{power, horner, alternating, downward, magnitude, angleNear, angle, eighth, left, below, arctangent, arcsine, sineNear, cosineNear, near, rounded, quarter, rest, sineAt, cosineAt, sine, cosine, sineCosineAt, sineCosine, halved, halfPi};
-ghost use Rattle.laws.specs.Floats.{_⊘_};
+ghost use Rattle.laws.specs.Floats.{_⊘_, zero64};
 ghost use Rattle.numbers.specs.Seconds.{wholeSecond};
 
 // 2! to 16!
@@ -291,10 +293,11 @@ pub fn arctangent(y: f64, x: f64) -> f64
     below(y, left(x, eighth(magnitude(y), magnitude(x))))
 }
 
-// As `eighth`, for the m and x of an arcsine. There m alone says, but for a few roundings, which way the tests of `eighth` and `angle` go,
-// and says it long before x is known; those tests then only confirm, and `eighth` does what they do not confirm.
+// arctangent(m, x) for the m and x of an arcsine. There m alone says, but for a few roundings, which way the tests of `eighth` and `angle`
+// go, and says it long before x is known; those tests then only confirm, and arctangent does what they do not confirm.
 fn risen(m: f64, x: f64) -> f64
-    ensures { λ r. ⌜ r ≡ eighth m x ⌝ }
+    requires { ⌜ (lt m zero64 ≡ false) × (lt zero64 x ≡ true) ⌝ }
+    ensures { λ r. ⌜ r ≡ arctangent m x ⌝ }
 {
     if m > 0.7071067811865476 {
         if m > x {
@@ -317,31 +320,26 @@ fn risen(m: f64, x: f64) -> f64
             return 0.0 + angle_near(q);
         }
     }
-    eighth(m, x)
+    arctangent(m, x)
 }
 
-// arctangent(v, x), where x is hardly ever below zero and v is hardly ever zero.
-fn rightward(v: f64, x: f64) -> f64
-    ensures { λ r. ⌜ r ≡ arctangent v x ⌝ }
-{
-    if x >= 0.0 {
-        if v > 0.0 {
-            return risen(v, x);
-        }
-        if v < 0.0 {
-            return -risen(-v, x);
-        }
-    }
-    arctangent(v, x)
-}
-
+// The sign is a branch, which is taken before the root is known.
 pub fn arcsine(v: f64) -> f64
     ensures { λ r. ⌜ r ≡ arcsine v ⌝ }
 {
-    if v < -1.0 || v > 1.0 {
-        return 0.0 / 0.0;
+    if v < 0.0 {
+        if v < -1.0 {
+            return 0.0 / 0.0;
+        }
+        let x = root::root((1.0 - v) * (1.0 + v));
+        if x > 0.0 { -risen(-v, x) } else { arctangent(v, x) }
+    } else {
+        if v > 1.0 {
+            return 0.0 / 0.0;
+        }
+        let x = root::root((1.0 - v) * (1.0 + v));
+        if x > 0.0 { risen(v, x) } else { arctangent(v, x) }
     }
-    rightward(v, root::root((1.0 - v) * (1.0 + v)))
 }
 
 // a to the n, times c: the exponent falls by halving, and at 1 the last square is left out.
