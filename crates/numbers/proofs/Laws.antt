@@ -183,14 +183,6 @@ and-false false = refl
 none : (a b : ℕ) → T (ltb a (0 * b)) → ⊥
 none a b h = let l = ltb→lt a (0 * b) h in omega (arith, l)
 
-one-above : T (lt one64 zero64) → ⊥
-unfolding lt ofBits
-one-above h = h
-
-minus-below : T (lt (neg one64) zero64)
-unfolding lt neg ofBits
-minus-below = tt
-
 -- the point is right of the axis
 angle-nan : angle nan ≡ nan
 unfolding angle angleNear add lt ofBits
@@ -224,14 +216,7 @@ unfolding arctangent left magnitude below
 mirrored v x r h p k =
     ap neg (k ∙ sym (upward (neg v) x (neg-not-below v h) p)) ∙ rw (real-below v zero64 h, real-above zero64 x p, apart-below v zero64 h, lt-asym zero64 x p, h)
 
--- only one bound is in question on either side of zero
-pub not-above : (v : Float) → lt v zero64 ≡ true → lt one64 v ≡ false
-not-above v h = not-held (lt one64 v) (λ l. one-above (lt-tr one64 v zero64 l (subst T (sym h) tt)))
-
-pub not-under : (v : Float) → lt v zero64 ≡ false → lt v (neg one64) ≡ false
-not-under v h = not-held (lt v (neg one64)) (λ l. subst T h (lt-tr v (neg one64) zero64 l minus-below))
-
--- `eighth` where it is known how its tests go
+-- `eighth` where it is known how its tests go, to the right of the axis
 module _ (m x a : Float) (g : (lt m zero64 ≡ false) × (lt zero64 x ≡ true)) where
   pub steep-flat : lt x m ≡ true → le (x ⊘ m) bend ≡ true → a ≡ angleNear (x ⊘ m) → halfPi ⊖ (zero64 ⊕ a) ≡ arctangent m x
   unfolding eighth angle

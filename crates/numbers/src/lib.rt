@@ -248,7 +248,7 @@ fn angle_near(q: f64) -> f64
 fn angle(q: f64) -> f64
     ensures { λ r. ⌜ r ≡ angle q ⌝ }
 {
-    if q > 0.4142135623730951 {
+    if q > BEND {
         FOURTH_PI + angle_near((q - 1.0) / (q + 1.0))
     } else {
         0.0 + angle_near(q)
@@ -323,22 +323,18 @@ fn risen(m: f64, x: f64) -> f64
     arctangent(m, x)
 }
 
-// The sign is a branch, which is taken before the root is known.
+// The sign is a branch, since it is known long before the root is.
 pub fn arcsine(v: f64) -> f64
     ensures { λ r. ⌜ r ≡ arcsine v ⌝ }
 {
-    if v < 0.0 {
-        if v < -1.0 {
-            return 0.0 / 0.0;
-        }
-        let x = root::root((1.0 - v) * (1.0 + v));
-        if x > 0.0 { -risen(-v, x) } else { arctangent(v, x) }
+    if v < -1.0 || v > 1.0 {
+        return 0.0 / 0.0;
+    }
+    let x = root::root((1.0 - v) * (1.0 + v));
+    if x > 0.0 {
+        if v < 0.0 { -risen(-v, x) } else { risen(v, x) }
     } else {
-        if v > 1.0 {
-            return 0.0 / 0.0;
-        }
-        let x = root::root((1.0 - v) * (1.0 + v));
-        if x > 0.0 { risen(v, x) } else { arctangent(v, x) }
+        arctangent(v, x)
     }
 }
 
