@@ -6,14 +6,15 @@ use Prim.Native.Nat.{ℕ, zero, suc, _+_, _-_, _*_, _^_, _/_, _%_, _≤_, _<_, c
 use native.Mathlib.Nat.{not-suc-le-zero, div-eq-of-lt, div-eq-sub-div}
 use native.Mathlib.Numerals.{add-one}
 use native.Mathlib.Omega.{arith}
-use lib.Dec.{T, eqb, ltb, eqb·suc-zero}
+use lib.Dec.{T, eqb, ltb, eqb·suc-zero, eqb→eq, ltb→lt}
+use lib.Ieee.Fits.{and-l, and-r}
 use lib.ListN.{getD}
 use borrow.Author.Tests.{ne-eqb, eq-eqb}
 use lib.IntN.{ℤ}
 use lib.Ieee.Scale.{finite}
-use lib.Ieee.{Float, Format, prec, low, emax, nan, inf, fin, add, sub, sum, round, size, nearest, odd, units, binary64, ne, eq, lt, le, isNan, div, ofBits, neg, up, down}
+use lib.Ieee.{Float, Format, prec, low, emax, nan, inf, fin, add, sub, sum, round, size, nearest, odd, units, binary64, ne, eq, lt, le, level, below as Ieee·below, isNan, div, ofBits, neg, up, down}
 use Rattle.numbers.specs.declared.SineCosine.{SineCosine}
-use Rattle.laws.specs.Order.{lt-irr, le-lt-tr}
+use Rattle.laws.specs.Order.{lt-irr, lt-tr, le-lt-tr, lt→nle, eq→le}
 use Rattle.laws.specs.Floats.{zero64, one64, _⊗_, _⊖_, _⊕_, _⊘_}
 use Rattle.laws.specs.SameBits.{ne-isNan, same-sign}
 use Rattle.numbers.specs.Numbers.{choose, sineCosineAt, sineNear, cosineNear, sineAt, cosineAt, rest, quarter, magnitude, halfPi, π/4, bend, angleNear, angle, below, left, eighth, arctangent, power, powerIn, hornerFrom, alternating, downward}
@@ -102,10 +103,6 @@ arctangent-open y x g h a = rw (sym (ne-isNan y) ∙ g, sym (ne-isNan x) ∙ h, 
 
 -- ---- arcsine
 
-not-true : (b : Bool) → not b ≡ true → b ≡ false
-not-true true h = sym h
-not-true false h = refl
-
 not-held : (b : Bool) → (T b → ⊥) → b ≡ false
 not-held true f = absurd (f tt)
 not-held false f = refl
@@ -113,58 +110,120 @@ not-held false f = refl
 not-lt : (x y : Float) → le x y ≡ true → lt y x ≡ false
 not-lt x y h = not-held (lt y x) (λ l. lt-irr x (le-lt-tr x y x (subst T (sym h) tt) l))
 
+real-below : (x y : Float) → lt x y ≡ true → isNan x ≡ false
+unfolding lt isNan
+real-below nan y h = sym h
+real-below (inf s) y h = refl
+real-below (fin s m e) y h = refl
+
+real-above : (c x : Float) → lt c x ≡ true → isNan x ≡ false
+unfolding lt isNan
+real-above nan nan h = sym h
+real-above (inf s) nan h = sym h
+real-above (fin s m e) nan h = sym h
+real-above c (inf s) h = refl
+real-above c (fin s m e) h = refl
+
+apart : (s : Bool) (a : ℕ) (t : Bool) (b : ℕ) → T (level s a t b) → T (Ieee·below s a t b) → ⊥
+apart false a false b h k =
+    let e = eqb→eq a b (and-l (eqb a b) _ h) in
+    let l = ltb→lt a b k in
+    omega (arith, e, l)
+apart false a true b h k = k
+apart true a false b h k =
+    let e = eqb→eq a b (and-l (eqb a b) _ h) in
+    let o = eqb→eq a 0 (and-r (eqb a b) (eqb a 0) h) in
+    let l = ltb→lt 0 (a + b) k in
+    omega (arith, e, o, l)
+apart true a true b h k =
+    let e = eqb→eq a b (and-l (eqb a b) _ h) in
+    let l = ltb→lt b a k in
+    omega (arith, e, l)
+
+eq-not-lt : (x y : Float) → T (eq x y) → T (lt x y) → ⊥
+unfolding eq lt
+eq-not-lt nan y h k = h
+eq-not-lt (inf s) nan h k = h
+eq-not-lt (inf true) (inf true) h k = k
+eq-not-lt (inf true) (inf false) h k = h
+eq-not-lt (inf false) (inf t) h k = k
+eq-not-lt (inf s) (fin t n d) h k = h
+eq-not-lt (fin s m e) nan h k = h
+eq-not-lt (fin s m e) (inf t) h k = h
+eq-not-lt (fin s m e) (fin t n d) h k = apart s (m * up e * down d) t (n * up d * down e) h k
+
+apart-below : (x y : Float) → lt x y ≡ true → eq x y ≡ false
+apart-below x y h = not-held (eq x y) (λ l. eq-not-lt x y l (subst T (sym h) tt))
+
+apart-above : (x y : Float) → lt y x ≡ true → eq x y ≡ false
+apart-above x y h = not-held (eq x y) (λ l. lt→nle y x (subst T (sym h) tt) (eq→le x y l))
+
+lt-asym : (x y : Float) → lt x y ≡ true → lt y x ≡ false
+lt-asym x y h = not-held (lt y x) (λ l. lt-irr x (lt-tr x y x (subst T (sym h) tt) l))
+
 lt-nan : (c : Float) → lt c nan ≡ false
 unfolding lt
 lt-nan nan = refl
 lt-nan (inf s) = refl
 lt-nan (fin s m e) = refl
 
-real-from-lt : (c v : Float) → lt c (magnitude v) ≡ true → isNan v ≡ false
-unfolding magnitude lt isNan
-real-from-lt c nan h = sym h ∙ lt-nan c
-real-from-lt c (inf s) h = refl
-real-from-lt c (fin s m e) h = refl
+and-false : (b : Bool) → b && false ≡ false
+and-false true = refl
+and-false false = refl
 
-real-from-le : (v x : Float) → le (magnitude v) x ≡ true → isNan v ≡ false
-unfolding magnitude lt eq le isNan
-real-from-le nan x h = sym h
-real-from-le (inf s) x h = refl
-real-from-le (fin s m e) x h = refl
+none : (a b : ℕ) → T (ltb a (0 * b)) → ⊥
+none a b h = let l = ltb→lt a (0 * b) h in omega (arith, l)
 
-real-root : (x : Float) → le zero64 x ≡ true → isNan x ≡ false
-unfolding lt eq le isNan ofBits
-real-root nan h = sym h
-real-root (inf s) h = refl
-real-root (fin s m e) h = refl
+-- the point is right of the axis
+angle-nan : angle nan ≡ nan
+unfolding angle angleNear add lt ofBits
+angle-nan = refl
 
--- no mirroring to the left
-direct : (v x : Float) → isNan v ≡ false → ne v zero64 ≡ true → le zero64 x ≡ true → below v (eighth (magnitude v) x) ≡ arctangent v x
-unfolding arctangent left magnitude ne
-direct v x n z p = rw (n, real-root x p, not-true (eq v zero64) z, not-lt zero64 x p)
+upward-nan : (x : Float) → eighth nan x ≡ arctangent nan x
+unfolding arctangent isNan eighth div
+upward-nan x = rw (lt-nan x) angle-nan
 
-module _ (v x m a r : Float) (z : ne v zero64 ≡ true) (p : le zero64 x ≡ true) (e : m ≡ magnitude v) where
-  steep : (c : Float) → lt c m ≡ true → r ≡ below v (eighth m x) → r ≡ arctangent v x
-  steep c h k = k ∙ ap (λ n. below v (eighth n x)) e ∙ direct v x (real-from-lt c v (sym (ap (lt c) e) ∙ h)) z p
+upward-real : (v x : Float) → isNan v ≡ false → lt v zero64 ≡ false → lt zero64 x ≡ true → eighth v x ≡ arctangent v x
+unfolding arctangent left magnitude below
+upward-real v x n h p = rw (n, real-above zero64 x p, apart-above x zero64 p, and-false (eq v zero64), lt-asym zero64 x p, h)
 
-  gentle : le m x ≡ true → r ≡ below v (eighth m x) → r ≡ arctangent v x
-  gentle h k = k ∙ ap (λ n. below v (eighth n x)) e ∙ direct v x (real-from-le v x (sym (ap (λ n. le n x) e) ∙ h)) z p
+upward : (v x : Float) → lt v zero64 ≡ false → lt zero64 x ≡ true → eighth v x ≡ arctangent v x
+unfolding isNan
+upward nan x h p = upward-nan x
+upward (inf s) x h p = upward-real (inf s) x refl h p
+upward (fin s m e) x h p = upward-real (fin s m e) x refl h p
 
-  pub steep-flat : (c : Float) → lt c m ≡ true → lt x m ≡ true → le (x ⊘ m) bend ≡ true → a ≡ angleNear (x ⊘ m) → r ≡ below v (halfPi ⊖ (zero64 ⊕ a)) → r ≡ arctangent v x
+pub neg-not-below : (v : Float) → lt v zero64 ≡ true → lt (neg v) zero64 ≡ false
+unfolding lt neg ofBits
+neg-not-below nan h = refl
+neg-not-below (inf true) h = refl
+neg-not-below (inf false) h = sym h
+neg-not-below (fin true m e) h = not-held _ (none (m * up e * 1) (down e))
+neg-not-below (fin false m e) h = absurd (none (m * up e * 1) (down e) (subst T (sym h) tt))
+
+-- mirrored downwards
+pub mirrored : (v x r : Float) → lt v zero64 ≡ true → lt zero64 x ≡ true → r ≡ arctangent (neg v) x → neg r ≡ arctangent v x
+unfolding arctangent left magnitude below
+mirrored v x r h p k =
+    ap neg (k ∙ sym (upward (neg v) x (neg-not-below v h) p)) ∙ rw (real-below v zero64 h, real-above zero64 x p, apart-below v zero64 h, lt-asym zero64 x p, h)
+
+-- `eighth` where it is known how its tests go, to the right of the axis
+module _ (m x a : Float) (g : (lt m zero64 ≡ false) × (lt zero64 x ≡ true)) where
+  pub steep-flat : lt x m ≡ true → le (x ⊘ m) bend ≡ true → a ≡ angleNear (x ⊘ m) → halfPi ⊖ (zero64 ⊕ a) ≡ arctangent m x
   unfolding eighth angle
-  steep-flat c h i j f k = steep c h (k ∙ rw (f, i, not-lt (x ⊘ m) bend j))
+  steep-flat i j f = (rw (f, i, not-lt (x ⊘ m) bend j)) ∙ upward m x (g .0) (g .1)
 
-  pub steep-bent : (c : Float) → lt c m ≡ true → lt x m ≡ true → lt bend (x ⊘ m) ≡ true → a ≡ angleNear ((x ⊘ m ⊖ one64) ⊘ (x ⊘ m ⊕ one64))
-      → r ≡ below v (halfPi ⊖ (π/4 ⊕ a)) → r ≡ arctangent v x
+  pub steep-bent : lt x m ≡ true → lt bend (x ⊘ m) ≡ true → a ≡ angleNear ((x ⊘ m ⊖ one64) ⊘ (x ⊘ m ⊕ one64)) → halfPi ⊖ (π/4 ⊕ a) ≡ arctangent m x
   unfolding eighth angle
-  steep-bent c h i j f k = steep c h (k ∙ rw (f, i, j))
+  steep-bent i j f = (rw (f, i, j)) ∙ upward m x (g .0) (g .1)
 
-  pub gentle-bent : le m x ≡ true → lt bend (m ⊘ x) ≡ true → a ≡ angleNear ((m ⊘ x ⊖ one64) ⊘ (m ⊘ x ⊕ one64)) → r ≡ below v (π/4 ⊕ a) → r ≡ arctangent v x
+  pub gentle-bent : le m x ≡ true → lt bend (m ⊘ x) ≡ true → a ≡ angleNear ((m ⊘ x ⊖ one64) ⊘ (m ⊘ x ⊕ one64)) → π/4 ⊕ a ≡ arctangent m x
   unfolding eighth angle
-  gentle-bent i j f k = gentle i (k ∙ rw (f, not-lt m x i, j))
+  gentle-bent i j f = (rw (f, not-lt m x i, j)) ∙ upward m x (g .0) (g .1)
 
-  pub gentle-flat : le m x ≡ true → le (m ⊘ x) bend ≡ true → a ≡ angleNear (m ⊘ x) → r ≡ below v (zero64 ⊕ a) → r ≡ arctangent v x
+  pub gentle-flat : le m x ≡ true → le (m ⊘ x) bend ≡ true → a ≡ angleNear (m ⊘ x) → zero64 ⊕ a ≡ arctangent m x
   unfolding eighth angle
-  gentle-flat i j f k = gentle i (k ∙ rw (f, not-lt m x i, not-lt (m ⊘ x) bend j))
+  gentle-flat i j f = (rw (f, not-lt m x i, not-lt (m ⊘ x) bend j)) ∙ upward m x (g .0) (g .1)
 
 -- ---- sine and cosine
 

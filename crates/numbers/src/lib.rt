@@ -4,9 +4,11 @@ ghost use Prim.Native.Nat.{suc, _<_, _≤_, _/_};
 ghost use lib.Signed.{mag};
 ghost use lib.ListN.{length};
 ghost use lib.Dec.{T};
+ghost use mathlib.Core.Bool.{true, false};
+ghost use lib.Ieee.{lt};
 ghost use lib.Ieee.Scale.{finite};
 ghost use Rattle.numbers.specs.Numbers.{power, horner, alternating, downward, magnitude, angleNear, angle, eighth, left, below, arctangent, arcsine, sineNear, cosineNear, near, rounded, quarter, rest, sineAt, cosineAt, sine, cosine, sineCosineAt, sineCosine, halved, halfPi};
-ghost use Rattle.laws.specs.Floats.{_⊘_};
+ghost use Rattle.laws.specs.Floats.{_⊘_, zero64};
 ghost use Rattle.numbers.specs.Seconds.{wholeSecond};
 
 // 2! to 16!
@@ -246,7 +248,7 @@ fn angle_near(q: f64) -> f64
 fn angle(q: f64) -> f64
     ensures { λ r. ⌜ r ≡ angle q ⌝ }
 {
-    if q > 0.4142135623730951 {
+    if q > BEND {
         FOURTH_PI + angle_near((q - 1.0) / (q + 1.0))
     } else {
         0.0 + angle_near(q)
@@ -291,45 +293,49 @@ pub fn arctangent(y: f64, x: f64) -> f64
     below(y, left(x, eighth(magnitude(y), magnitude(x))))
 }
 
-// arctangent(v, x) for the x that arcsine has. The magnitude of v alone says, but for a few roundings, which way the tests of `eighth` and
-// `angle` go, and says it long before x is there; those tests then only confirm, and arctangent does what they do not confirm.
-fn risen(v: f64, x: f64) -> f64
-    ensures { λ r. ⌜ r ≡ arctangent v x ⌝ }
+// arctangent(m, x) for the m and x of an arcsine. There m alone says, but for a few roundings, which way the tests of `eighth` and `angle`
+// go, and says it long before x is known; those tests then only confirm, and arctangent does what they do not confirm.
+fn risen(m: f64, x: f64) -> f64
+    requires { ⌜ (lt m zero64 ≡ false) × (lt zero64 x ≡ true) ⌝ }
+    ensures { λ r. ⌜ r ≡ arctangent m x ⌝ }
 {
-    if v != 0.0 && x >= 0.0 {
-        let m = magnitude(v);
-        if m > 0.7071067811865476 {
-            if m > x {
-                let q = x / m;
-                if m > 0.9238795325112867 {
-                    if q <= BEND {
-                        return below(v, HALF_PI - (0.0 + angle_near(q)));
-                    }
-                } else if q > BEND {
-                    return below(v, HALF_PI - (FOURTH_PI + angle_near((q - 1.0) / (q + 1.0))));
+    if m > 0.7071067811865476 {
+        if m > x {
+            let q = x / m;
+            if m > 0.9238795325112867 {
+                if q <= BEND {
+                    return HALF_PI - (0.0 + angle_near(q));
                 }
-            }
-        } else if m <= x {
-            let q = m / x;
-            if m > 0.3826834323650898 {
-                if q > BEND {
-                    return below(v, FOURTH_PI + angle_near((q - 1.0) / (q + 1.0)));
-                }
-            } else if q <= BEND {
-                return below(v, 0.0 + angle_near(q));
+            } else if q > BEND {
+                return HALF_PI - (FOURTH_PI + angle_near((q - 1.0) / (q + 1.0)));
             }
         }
+    } else if m <= x {
+        let q = m / x;
+        if m > 0.3826834323650898 {
+            if q > BEND {
+                return FOURTH_PI + angle_near((q - 1.0) / (q + 1.0));
+            }
+        } else if q <= BEND {
+            return 0.0 + angle_near(q);
+        }
     }
-    arctangent(v, x)
+    arctangent(m, x)
 }
 
+// The sign is a branch, since it is known long before the root is.
 pub fn arcsine(v: f64) -> f64
     ensures { λ r. ⌜ r ≡ arcsine v ⌝ }
 {
     if v < -1.0 || v > 1.0 {
         return 0.0 / 0.0;
     }
-    risen(v, root::root((1.0 - v) * (1.0 + v)))
+    let x = root::root((1.0 - v) * (1.0 + v));
+    if x > 0.0 {
+        if v < 0.0 { -risen(-v, x) } else { risen(v, x) }
+    } else {
+        arctangent(v, x)
+    }
 }
 
 // a to the n, times c: the exponent falls by halving, and at 1 the last square is left out.
