@@ -6,10 +6,20 @@ use crate::timing::Bench;
 use pozsmeteg::raw;
 use std::hint::black_box;
 
-// The machine's instruction behind a call, as ours is.
+// The machine's instruction, and the Rust's arcsine and power, behind a call, as ours are.
 #[inline(never)]
 extern "C" fn machine_root(x: f64) -> f64 {
     x.sqrt()
+}
+
+#[inline(never)]
+extern "C" fn rust_arcsine(x: f64) -> f64 {
+    arcsine(x)
+}
+
+#[inline(never)]
+extern "C" fn rust_power(a: f64, n: u32, c: f64) -> f64 {
+    power(a, n, c)
 }
 
 fn each(xs: &[f64], f: impl Fn(f64) -> f64) -> Vec<f64> {
@@ -34,5 +44,7 @@ pub fn works(bench: &mut Bench) {
     bench.compare("cosine", 200, 1000, &mut || each(&angles, |x| sine_cosine(x).1), &mut || each(&angles, |x| raw::cosine(x)));
     bench.compare("arctangent", 200, 1000, &mut || each(&units, |x| arctangent(x, 0.3)), &mut || each(&units, |x| raw::arctangent(x, 0.3)));
     bench.compare("arcsine", 200, 1000, &mut || each(&units, arcsine), &mut || each(&units, |x| raw::arcsine(x)));
+    bench.compare("arcsine, behind a call", 200, 1000, &mut || each(&units, |x| black_box(rust_arcsine as extern "C" fn(f64) -> f64)(x)), &mut || each(&units, |x| raw::arcsine(x)));
+    bench.compare("power, n = 20, behind a call", 200, 1000, &mut || each(&units, |x| black_box(rust_power as extern "C" fn(f64, u32, f64) -> f64)(x, black_box(20), 1.0)), &mut || each(&units, |x| raw::power(x, black_box(20), 1.0)));
     bench.compare("power, n = 20", 200, 1000, &mut || each(&units, |x| power(x, black_box(20), 1.0)), &mut || each(&units, |x| raw::power(x, black_box(20), 1.0)));
 }
