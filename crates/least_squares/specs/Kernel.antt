@@ -5,7 +5,8 @@ use mathlib.Core.Bool.{Bool, true, false, cond, _&&_}
 use mathlib.Core.List.{List}
 use lib.Dec.{ltb, eqb}
 use lib.Ieee.{Float}
-use lib.ListN.{length}
+use lib.ListN.{length, replicate}
+use Rattle.laws.specs.Floats.{zero64}
 use Rattle.least_squares.specs.declared.kernel.Estimate.{Estimate}
 use Rattle.least_squares.specs.LeastSquares.{solvable, solved}
 
@@ -33,3 +34,4 @@ shaped15 rows misfits = cond (ltb 100000 misfits) false (eqb rows (misfits * 15)
 pub record Estimated (rows y : List Float) (s : Estimate) : Type 0 where
   pub said : s .fine ≡ (shaped15 (length rows) (length y) && solvable rows y 15)
   pub values : s .fine ≡ true → s .beta ≡ solved rows y 15
+  pub none : s .fine ≡ false → s .beta ≡ replicate 15 zero64

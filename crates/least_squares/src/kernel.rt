@@ -205,19 +205,22 @@ fn shaped(rows: usize, misfits: usize) -> bool
     rows == misfits * 15
 }
 
-// The kernel: least squares of fifteen columns, without residuals.
+// The kernel: least squares of fifteen columns, without residuals; zeros where it finds none.
 pub fn fifteen(rows: &[f64], y: &[f64]) -> Estimate
     ensures { λ r. ⌜ Estimated (now (rows .entry)) (now (y .entry)) r ⌝ }
 {
-    let mut a = [0.0; 240];
-    if !shaped(rows.len(), y.len()) {
-        return Estimate {
-            fine: false,
-            beta: [0.0; 15],
-        };
+    if shaped(rows.len(), y.len()) {
+        let mut a = [0.0; 240];
+        normal(rows, y, 15, &mut a);
+        if solve(&mut a, 15) {
+            return Estimate {
+                fine: true,
+                beta: betas(&a),
+            };
+        }
     }
-    normal(rows, y, 15, &mut a);
-    let fine = solve(&mut a, 15);
-    let beta = betas(&a);
-    Estimate { fine, beta }
+    Estimate {
+        fine: false,
+        beta: [0.0; 15],
+    }
 }
