@@ -153,7 +153,7 @@ module _ (S : Setting) (l : Lists) (outputs : List (List Float)) (room : ℕ) wh
   pub accepts : sheetRefusal S l outputs room ≡ 0 → Accepts S l outputs room
   unfolding refusalOf listsRise
   accepts h =
-      let t = all-pass (degreeFine (S .degree)) _ (lengthsAgree S l (placesFit l outputs) room) (numbersFine S l) (listsRise l) h in
+      let t = all-pass (degreeFine (S .degree)) _ (lengthsAgree S l (placesFit l outputs) room) (numbersFine S l) _ h in
       let k = counts-say (t .counts) in
       let n = lengths-say (t .lengths) in
       let v = values-say (t .values) in

@@ -50,14 +50,16 @@ numbersFine S l =
     && ((keyedFine (l .keysC) (l .statesC) && keyedFine (l .keysD) (l .statesD)) && (keyedFine (l .accKeysC) (l .accC) && keyedFine (l .accKeysD) (l .accD))))
     && (all isTime (l .nodes) && (all isTime (l .times) && all finite (l .values)))
 
-unfoldable pub listsRise : Lists → Bool
-listsRise l = rise (l .fieldTimes) (l .keysC) (l .keysD) (l .accKeysC) (l .accKeysD) && (rising (l .nodes) && rising (l .times))
+-- times of fields, keys of C and D and of their accelerometer values, nodes, times of observations
+unfoldable pub listsRise : List Float → List ℤ → List ℤ → List ℤ → List ℤ → List Float → List Float → Bool
+listsRise fields keysC keysD accKeysC accKeysD nodes times = rise fields keysC keysD accKeysC accKeysD && (rising nodes && rising times)
 
 unfoldable pub refusalOf : Setting → Lists → Bool → ℕ → ℕ
 refusalOf S l outputs room =
     firstOf (degreeFine (S .degree))
     (countsAllowed (length (l .fieldTimes)) (length (l .keysC)) (length (l .keysD)) (length (l .accKeysC)) (length (l .accKeysD)) (length (l .nodes)) (length (l .times)))
-    (lengthsAgree S l outputs room) (numbersFine S l) (listsRise l)
+    (lengthsAgree S l outputs room) (numbersFine S l)
+    (listsRise (l .fieldTimes) (l .keysC) (l .keysD) (l .accKeysC) (l .accKeysD) (l .nodes) (l .times))
 
 -- a place for each observation in each output
 abbrev pub placesFit : Lists → List (List Float) → Bool

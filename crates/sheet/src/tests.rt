@@ -124,26 +124,15 @@ fn numbers_fine(
 }
 
 fn lists_rise(
-    degree: usize,
-    field: &[f64],
-    a: &[f64],
-    b: &[f64],
     times: &[f64],
-    added: &[f64],
     ckeys: &[i64],
-    cstates: &[f64],
     dkeys: &[i64],
-    dstates: &[f64],
     cacckeys: &[i64],
-    caccs: &[f64],
     dacckeys: &[i64],
-    daccs: &[f64],
     nodes: &[f64],
     obstimes: &[f64],
-    obsvalues: &[f64],
-    good: &[u8],
 ) -> bool
-    ensures { λ r. ⌜ r ≡ listsRise (lists (now (times .entry)) (now (added .entry)) (now (ckeys .entry)) (now (cstates .entry)) (now (dkeys .entry)) (now (dstates .entry)) (now (cacckeys .entry)) (now (caccs .entry)) (now (dacckeys .entry)) (now (daccs .entry)) (now (nodes .entry)) (now (obstimes .entry)) (now (obsvalues .entry)) (now (good .entry))) ⌝ }
+    ensures { λ r. ⌜ r ≡ listsRise (now (times .entry)) (now (ckeys .entry)) (now (dkeys .entry)) (now (cacckeys .entry)) (now (dacckeys .entry)) (now (nodes .entry)) (now (obstimes .entry)) ⌝ }
 {
     slices::both(
         lent::rise(times, ckeys, dkeys, cacckeys, dacckeys),
@@ -227,25 +216,6 @@ pub(crate) fn refusal(
         obsvalues,
         good,
     );
-    let order = lists_rise(
-        degree,
-        field,
-        a,
-        b,
-        times,
-        added,
-        ckeys,
-        cstates,
-        dkeys,
-        dstates,
-        cacckeys,
-        caccs,
-        dacckeys,
-        daccs,
-        nodes,
-        obstimes,
-        obsvalues,
-        good,
-    );
+    let order = lists_rise(times, ckeys, dkeys, cacckeys, dacckeys, nodes, obstimes);
     lent::first_of(lent::degree_fine(degree), counts, lengths, values, order)
 }
