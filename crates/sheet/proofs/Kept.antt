@@ -25,7 +25,7 @@ use Rattle.finality.proofs.Keeping.{kept-same}
 use Rattle.integrate.specs.Force.{model}
 use Rattle.integrate.specs.declared.kernel.State.{State}
 use Rattle.epochs.specs.declared.Epoch.{Epoch}
-use Rattle.windows.specs.Stage.{Setting, gravityOf, statesIn}
+use Rattle.windows.specs.Stage.{Setting, fieldGravity, statesIn}
 use Rattle.windows.proofs.Meaning.{front-is}
 use Rattle.sighting.specs.Epoch.{epochWith}
 use Rattle.sighting.specs.Kept.{keyed, rowsFrom, numbers, recordAt, seenBy, epochBy, observations}
@@ -75,7 +75,7 @@ module _ (S : Setting) (l : Lists) (few : 2 ≤ length (l .fieldTimes)) (fits : 
 
   record-is : (t v : Float) (c d : State) (p q : Float) →
       recordAt (model (S .degree) (S .static) (l .fieldTimes) (l .added)) (S .a) (S .b) t v c d p q ≡ epochStage S t v (fieldIn (stagesOf (kernels S)) sub t) c d p q
-  unfolding recordAt epochStage gravityOf
+  unfolding recordAt epochStage fieldGravity
   record-is t v c d p q =
       (λ i. epochWith (λ x. Rattle.forces.specs.Forces.gravityWith (S .degree) (Rattle.model.specs.Field.gm (S .static)) (Rattle.model.specs.Field.radius (S .static)) (S .a) (S .b)
       (front-is (S .degree) (S .static) (l .fieldTimes) (l .added) t fits i) x) t v (c .position) (c .velocity) (d .position) (d .velocity) p q)

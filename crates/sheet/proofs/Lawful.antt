@@ -4,7 +4,7 @@ use mathlib.Core.List.{List}
 use lib.Ieee.{Float}
 use Rattle.finality.proofs.Assembled.{LawfulKernels}
 use Rattle.integrate.specs.declared.kernel.State.{State}
-use Rattle.windows.specs.Stage.{Setting, gravityOf}
+use Rattle.windows.specs.Stage.{Setting, fieldGravity}
 use Rattle.windows.proofs.Lawful.{lawful-fit}
 use Rattle.sighting.proofs.Records.{epoch-time}
 use Rattle.detrend.proofs.Parts.{length-revolved}
@@ -13,7 +13,7 @@ use Rattle.sheet.specs.Stages.{epochStage, kernels}
 
 stage-time : (S : Setting) (t v : Float) (f : List Float) (x y : State) (p q : Float) → epochStage S t v f x y p q .t ≡ t
 unfolding epochStage
-stage-time S t v f x y p q = epoch-time (gravityOf S f) t v (x .position) (x .velocity) (y .position) (y .velocity) p q
+stage-time S t v f x y p q = epoch-time (fieldGravity S f) t v (x .position) (x .velocity) (y .position) (y .velocity) p q
 
 pub lawful-kernels : (S : Setting) → LawfulKernels (kernels S)
 lawful-kernels S = record {

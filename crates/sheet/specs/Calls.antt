@@ -84,9 +84,6 @@ finalCount S l = final (stagesOf (kernels S)) (submissionOf S l)
 
 -- ---- the arguments of the call
 
-abbrev pub setting : ℕ → List Float → List Float → List Float → Setting
-setting N field a b = record { degree = N; static = field; a = a; b = b }
-
 abbrev pub lists : List Float → List Float → List ℤ → List Float → List ℤ → List Float → List ℤ → List Float → List ℤ → List Float → List Float → List Float → List Float → List ℕ → Lists
 lists fieldTimes added keysC statesC keysD statesD accKeysC accC accKeysD accD nodes times values good = record {
   fieldTimes = fieldTimes;

@@ -4,7 +4,7 @@ use lib.Ieee.{Float}
 use Rattle.finality.specs.Kernels.{Kernels}
 use Rattle.model.specs.Stages.{combinedField, blendFields}
 use Rattle.integrate.specs.declared.kernel.State.{State}
-use Rattle.windows.specs.Stage.{Setting, gravityOf, fitStage}
+use Rattle.windows.specs.Stage.{Setting, fieldGravity, fitStage}
 use Rattle.epochs.specs.declared.Epoch.{Epoch}
 use Rattle.epochs.specs.Epochs.{time, residual}
 use Rattle.sighting.specs.Epoch.{epochWith}
@@ -14,7 +14,7 @@ use Rattle.filter.specs.Filter.{pass}
 -- one epoch (module 5)
 unfoldable pub epochStage : Setting → Float → Float → List Float → State → State → Float → Float → Epoch
 epochStage S t observed field c d axc axd =
-    epochWith (gravityOf S field) t observed (c .position) (c .velocity) (d .position) (d .velocity) axc axd
+    epochWith (fieldGravity S field) t observed (c .position) (c .velocity) (d .position) (d .velocity) axc axd
 
 -- all of them
 abbrev pub kernels : Setting → Kernels

@@ -8,7 +8,8 @@ ghost use lib.Ieee.Scale.{finite};
 ghost use Rattle.laws.specs.Checks.{all};
 ghost use Rattle.laws.specs.Loops.{cleared};
 ghost use Rattle.slices.specs.Calls.{left};
-ghost use Rattle.sheet.specs.Calls.{setting, lists, sheetCall};
+ghost use Rattle.windows.specs.Stage.{setting};
+ghost use Rattle.sheet.specs.Calls.{lists, sheetCall};
 
 // How many epochs are kept and how many of them are final, or a refusal's number.
 pub enum SheetAnswer {

@@ -3,7 +3,8 @@ ghost use mathlib.Core.Path.{_≡_};
 ghost use mathlib.Core.List.{[], _∷_};
 ghost use lib.Dec.{eqb};
 ghost use Rattle.laws.specs.Checks.{all};
-ghost use Rattle.sheet.specs.Calls.{countsAllowed, lengthsAgree, numbersFine, listsRise, refusalOf, setting, lists};
+ghost use Rattle.windows.specs.Stage.{setting};
+ghost use Rattle.sheet.specs.Calls.{countsAllowed, lengthsAgree, numbersFine, listsRise, refusalOf, lists};
 
 // Counts of fields, states, accelerometer values, nodes and observations.
 fn counts_allowed(

@@ -5,7 +5,8 @@ ghost use Prim.Native.Nat.{_-_};
 ghost use lib.ListN.{length};
 ghost use Rattle.finality.specs.Sheet.{horizonOf, countTo};
 ghost use Rattle.horizon.specs.Horizon.{endsOf};
-ghost use Rattle.sheet.specs.Calls.{sheetRefusal, setting, lists, Worked};
+ghost use Rattle.windows.specs.Stage.{setting};
+ghost use Rattle.sheet.specs.Calls.{sheetRefusal, lists, Worked};
 
 // How many pairs of neighbouring nodes there are.
 fn windows_of(nodes: usize) -> usize

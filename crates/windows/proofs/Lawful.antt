@@ -26,7 +26,7 @@ use Rattle.fit.specs.declared.kernel.Held.{Held}
 use Rattle.fit.specs.declared.kernel.Fitted.{Fitted}
 use Rattle.fit.specs.declared.kernel.Fitted.the-variants.{Fitted as Rms, Refused}
 use Rattle.fit.proofs.Locality.{Agree, SameReads, fit-same, orbit-same}
-use Rattle.windows.specs.Stage.{Setting, gravityOf, fullOf, arcStruct, heldOf, lookOf, statesOf, fitStage}
+use Rattle.windows.specs.Stage.{Setting, fieldGravity, fullOf, arcStruct, heldOf, lookOf, statesOf, fitStage}
 
 -- ---- lists of states
 
@@ -56,7 +56,7 @@ module _ (S : Setting) (c c' : Float → Bool) (m m' : Float → List Float) (g 
     (at-next : (i : ℕ) → i < arc .steps → m (stepTime (arc .t0) i ⊕ step) ≡ m' (stepTime (arc .t0) i ⊕ step))
     (states : (i : ℕ) → i ≤ arc .steps → g (second (stepTime (arc .t0) i)) ≡ g' (second (stepTime (arc .t0) i))) where
   pull : (t : Float) (x : Vector) → m t ≡ m' t → fullOf S m t x ≡ fullOf S m' t x
-  pull t x e = ap (λ (f : List Float). plus (gravityOf S f x) (tidesOf t x)) e
+  pull t x e = ap (λ (f : List Float). plus (fieldGravity S f x) (tidesOf t x)) e
 
   at-halves : (k : ℕ) → k < arc .steps → m (stepTime (arc .t0) k ⊕ two64 ⊘ two64) ≡ m' (stepTime (arc .t0) k ⊕ two64 ⊘ two64)
   at-halves k h =

@@ -23,7 +23,7 @@ use Rattle.vectors.specs.declared.Vector.{Vector}
 use Rattle.series.specs.Legendre.{aOf, bOf}
 use Rattle.series.specs.Prepared.{prepared}
 use Rattle.series.proofs.Published.{prepared-prepared}
-use Rattle.tide.specs.Gravity.{gravityOf as publishedGravity}
+use Rattle.tide.specs.Gravity.{gravityOf}
 use Rattle.forces.specs.Forces.{gravityWith, tidesOf}
 use Rattle.forces.proofs.Published.{front-published}
 use Rattle.model.specs.Field.{gm, radius}
@@ -38,10 +38,7 @@ use Rattle.slices.specs.Slices.{lookup, lookupFrom}
 use Rattle.fit.specs.Fit.{heldAt, stateFor}
 use Rattle.fit.specs.declared.kernel.Held.the-variants.{Known}
 use lib.Seq.{drop-drop, getD-drop}
-use Rattle.windows.specs.Stage.{Setting, front, gravityOf, fullOf, heldOf, lookOf, statesIn}
-
-abbrev pub settingOf : ℕ → List Float → List Float → List Float → Setting
-settingOf N field a b = record { degree = N; static = field; a = a; b = b }
+use Rattle.windows.specs.Stage.{setting, front, fieldGravity, fullOf, heldOf, lookOf, statesIn}
 
 -- the numbers before a run's states are the field at t and what the degree gives, where the lengths fit
 pub front-is : (N : ℕ) (field ts added : List Float) (t : Float) → atFits N (length field) (length ts) (length added) (length (prepared N (replicate (frontSize N) zero64))) ≡ true →
@@ -50,15 +47,15 @@ unfolding frontAt atLeft front
 front-is N field ts added t e = rw e (ap (λ (m : ℕ). fieldAt N field ts added t ++ drop (2 * tri m) (prepared N (replicate (frontSize N) zero64))) (add-one N))
 
 pub full-is : (N : ℕ) (field a b ts added : List Float) → atFits N (length field) (length ts) (length added) (length (prepared N (replicate (frontSize N) zero64))) ≡ true → (t : Float) (x : Vector) →
-    fullForce (model N field ts added) a b t x ≡ fullOf (settingOf N field a b) (fieldAt N field ts added) t x
-unfolding fullForce gravityOf
+    fullForce (model N field ts added) a b t x ≡ fullOf (setting N field a b) (fieldAt N field ts added) t x
+unfolding fullForce fieldGravity
 full-is N field a b ts added e t x =
     ap (λ (l : List Float). plus (gravityWith N (gm field) (radius field) a b l x) (tidesOf t x)) (front-is N field ts added t e)
 
 -- with the Legendre tables that `Legendre::new` fills, the stage's gravity of a field of coefficients c, s is that of their published series
 pub stage-published : (N : ℕ) (static c s : List Float) (x : Vector) → N ≤ 180 → length c ≡ tri (N + 1) → length s ≡ tri (N + 1) →
-    gravityOf (settingOf N static (rows aOf (N + 1)) (rows bOf (N + 1))) (c ++ s) x ≡ publishedGravity N (gm static) (radius static) c s x
-unfolding gravityOf front
+    fieldGravity (setting N static (rows aOf (N + 1)) (rows bOf (N + 1))) (c ++ s) x ≡ gravityOf N (gm static) (radius static) c s x
+unfolding fieldGravity front
 stage-published N static c s x h lc ls =
     let w : List Float = replicate (frontSize N) zero64 in
     ap (λ (m : ℕ). gravityWith N (gm static) (radius static) (rows aOf (N + 1)) (rows bOf (N + 1)) ((c ++ s) ++ drop (2 * tri m) (prepared N w)) x) (sym (add-one N))

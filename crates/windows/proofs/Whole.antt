@@ -33,11 +33,11 @@ use Rattle.integrate.specs.declared.kernel.Arc.{Arc as ArcStruct}
 use Rattle.fit.specs.Fit.{fitOf, orbitOf, stateFor}
 use Rattle.fit.specs.declared.kernel.Held.{Held}
 use Rattle.fit.proofs.Locality.{Agree, SameReads, fit-same, orbit-same}
-use Rattle.windows.specs.Stage.{Setting, fullOf, arcStruct, lookOf, statesOf, fitStage, statesIn}
+use Rattle.windows.specs.Stage.{Setting, setting, fullOf, arcStruct, lookOf, statesOf, fitStage, statesIn}
 use Rattle.windows.specs.Windows.{windowBy, Ends}
 use Rattle.windows.proofs.Times.{start-is}
 use Rattle.windows.proofs.Lawful.{states-same}
-use Rattle.windows.proofs.Meaning.{settingOf, full-is, look-is}
+use Rattle.windows.proofs.Meaning.{full-is, look-is}
 
 lower-is : Is (fin true 1 (pos 63)) 0 9223372036854775808
 lower-is = record { is-finite = tt; value = refl }
@@ -92,7 +92,7 @@ module _ (a b : Float) (e : Ends a b) where
 pub window-is : (M : ℕ) (field ta tb ts added : List Float) (keys : List ℤ) (states : List Float) → atFits M (length field) (length ts) (length added) (length (prepared M (replicate (frontSize M) zero64))) ≡ true →
     (a b : Float) → Ends a b →
     windowBy (covers ts) (fullForce (model M field ts added) ta tb) (stateFor keys states) a b
-    ≡ windowOf (fitStage (settingOf M field ta tb)) (covers ts) (fieldAt M field ts added) (λ (key : ℤ). find key (statesIn keys states)) a b
+    ≡ windowOf (fitStage (setting M field ta tb)) (covers ts) (fieldAt M field ts added) (λ (key : ℤ). find key (statesIn keys states)) a b
 unfolding windowBy windowOf fitStage
 window-is M field ta tb ts added keys states fit a b e =
     by (lt (b ⊖ a) longest)
@@ -100,7 +100,7 @@ window-is M field ta tb ts added keys states fit a b e =
     let short : T (lt (b ⊖ a) longest) = subst T (sym t) tt in
     let few : steps a b ≤ 5302 = let h = steps-short a b (e .from) (e .to) (lt→le a b (e .order)) short in omega (arith, h) in
     let within : leb (steps a b) 5302 ≡ true = le-leb (steps a b) 5302 few in
-    let full : Float → Vector → Vector = fullOf (settingOf M field ta tb) (fieldAt M field ts added) in
+    let full : Float → Vector → Vector = fullOf (setting M field ta tb) (fieldAt M field ts added) in
     let look' : Float → Held = lookOf (λ (key : ℤ). find key (statesIn keys states)) in
     rw (t, within) (ap (λ (l : List State). inside (start a) a b 0 l)
     ((λ i. statesOf (fitOf (covers ts) (λ u x. full-is M field ta tb ts added fit u x i) (stateFor keys states) (arcStruct (arcOf a b))) (orbitOf (λ u x. full-is M field ta tb ts added fit u x i) (stateFor keys states) (arcStruct (arcOf a b))) (steps a b))

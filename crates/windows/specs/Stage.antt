@@ -35,19 +35,22 @@ pub record Setting : Type 0 where
   pub a : List Float
   pub b : List Float
 
+abbrev pub setting : ℕ → List Float → List Float → List Float → Setting
+setting N static a b = record { degree = N; static = static; a = a; b = b }
+
 -- a field at one time with the numbers behind it that the degree alone gives
 unfoldable pub front : ℕ → List Float → List Float
 front N field = field ++ drop (2 * tri (suc N)) (prepared N (replicate (frontSize N) zero64))
 
 -- the gravity of a field
-unfoldable pub gravityOf : Setting → List Float → Vector → Vector
-gravityOf S field x = gravityWith (S .degree) (gm (S .static)) (radius (S .static)) (S .a) (S .b) (front (S .degree) field) x
+unfoldable pub fieldGravity : Setting → List Float → Vector → Vector
+fieldGravity S field x = gravityWith (S .degree) (gm (S .static)) (radius (S .static)) (S .a) (S .b) (front (S .degree) field) x
 
 -- ---- the fit of an arc (module 4)
 
 -- with the tides: the full attraction, from the field as a function of the time
 abbrev pub fullOf : Setting → (Float → List Float) → Float → Vector → Vector
-fullOf S at t x = plus (gravityOf S (at t) x) (tidesOf t x)
+fullOf S at t x = plus (fieldGravity S (at t) x) (tidesOf t x)
 
 abbrev pub arcStruct : Arc → ArcStruct
 arcStruct arc = record { t0 = arc .t0; steps = arc .steps; node = arc .node; period = arc .period }

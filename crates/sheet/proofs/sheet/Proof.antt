@@ -1,4 +1,5 @@
-use Rattle.sheet.specs.Calls.{setting, lists}
+use Rattle.windows.specs.Stage.{setting}
+use Rattle.sheet.specs.Calls.{lists}
 use Rattle.sheet.proofs.Answers.{refused, passes, accepted, unfit, kept-within}
 use borrow.Author.Needs.{needs}
 use Rattle.sheet.proofs.sheet.Statement.{statement}
