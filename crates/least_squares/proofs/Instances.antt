@@ -11,8 +11,8 @@ use Rattle.numbers.specs.Numbers.{magnitude}
 use Rattle.slices.specs.Calls.{left}
 use Rattle.slices.specs.declared.Outcome.{Outcome}
 use Rattle.slices.specs.declared.Outcome.the-variants.{Accepted, Refused}
-use Rattle.least_squares.specs.Elimination.{view, flatten, augmented, swapped, eliminated, reaches, largest, pivotRow, tooSmall, turn, stage, singular, fine}
-use Rattle.least_squares.specs.LeastSquares.{valueAt, normalAt, equations, solvable, coefficientAt, solved, fittedAt, residualAt, residualsOf}
+use Rattle.least_squares.specs.Elimination.{swapped, eliminated, reaches, largest, pivotRow, tooSmall, turn, stage, singular, fine}
+use Rattle.least_squares.specs.LeastSquares.{valueAt, normalAt, solvable, coefficientAt, solved, fittedAt, residualAt, residualsOf}
 use Rattle.least_squares.specs.Calls.{upTo, refusal, failure, leastSquaresCall}
 
 -- 3, 4 and −1
@@ -26,9 +26,9 @@ abbrev minusOne : Float
 minusOne = bits 0xbff0000000000000
 
 pub fits : leastSquaresCall (one64 ∷ one64 ∷ []) (two64 ∷ four ∷ []) 1 (zero64 ∷ []) (zero64 ∷ zero64 ∷ []) ≡ left Accepted ((three ∷ []) ∷ (minusOne ∷ one64 ∷ []) ∷ []) []
-unfolding ofBits ofFields odd units round sum add sub mul div neg lt le ne eq span climb size sumTo magnitude row flatten augmented swapped eliminated reaches largest pivotRow tooSmall turn stage singular fine valueAt normalAt equations solvable coefficientAt solved fittedAt residualAt residualsOf upTo refusal failure leastSquaresCall
+unfolding ofBits ofFields odd units round sum add sub mul div neg lt le ne eq span climb size sumTo magnitude row swapped eliminated reaches largest pivotRow tooSmall turn stage singular fine valueAt normalAt solvable coefficientAt solved fittedAt residualAt residualsOf upTo refusal failure leastSquaresCall
 fits = refl
 
 pub refused : leastSquaresCall (zero64 ∷ zero64 ∷ []) (two64 ∷ four ∷ []) 1 (one64 ∷ []) (one64 ∷ one64 ∷ []) ≡ left (Refused 9) ((zero64 ∷ []) ∷ (zero64 ∷ zero64 ∷ []) ∷ []) []
-unfolding ofBits ofFields odd units round sum add sub mul div neg lt le ne eq span climb size sumTo magnitude row flatten augmented swapped eliminated reaches largest pivotRow tooSmall turn stage singular fine valueAt normalAt equations solvable coefficientAt solved fittedAt residualAt residualsOf upTo refusal failure leastSquaresCall
+unfolding ofBits ofFields odd units round sum add sub mul div neg lt le ne eq span climb size sumTo magnitude row swapped eliminated reaches largest pivotRow tooSmall turn stage singular fine valueAt normalAt solvable coefficientAt solved fittedAt residualAt residualsOf upTo refusal failure leastSquaresCall
 refused = refl

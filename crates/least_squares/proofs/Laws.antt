@@ -14,11 +14,11 @@ use borrow.Author.Tests.{lt-ltb, le-ltb, eq-eqb, ne-eqb, ltb-true, ltb-false, eq
 use Rattle.laws.specs.Floats.{_⊖_, _⊗_, _⊘_, zero64}
 use Rattle.laws.specs.Tables.{row, row-at, row-length}
 use Rattle.laws.specs.Bools.{by}
-use Rattle.least_squares.specs.Elimination.{Matrix, augmented, eliminated, fine, flatten, largest, pivotRow, reaches, reduced, singular, stage, swapped, tooSmall, turn, view}
-use Rattle.least_squares.specs.LeastSquares.{normalAt, equations}
+use Rattle.least_squares.specs.Elimination.{Matrix, largest, reaches, tooSmall}
+use Rattle.least_squares.specs.Flat.{augmented, eliminatedTo, fineIn, flatten, pivotRowIn, reducedTo, singularIn, stageIn, swappedTo, turnIn, view, equations}
+use Rattle.least_squares.specs.LeastSquares.{normalAt}
 use Rattle.numbers.specs.Numbers.{magnitude}
 
--- a case on a test, with the equation in each case
 -- the list l is the matrix m
 pub record Holds (l : List Float) (m : Matrix) : Type 0 where
   pub long : length l ≡ 240
@@ -77,24 +77,24 @@ holds-same l m m' h e = record { long = h .long; at = λ i j a b. h .at i j a b 
 -- ---- one row reduced
 
 module _ (c i k : ℕ) (m : Matrix) where
-  pub reduced-none : (i' j : ℕ) → m i' j ≡ reduced c i 0 m i' j
-  unfolding reduced
+  pub reduced-none : (i' j : ℕ) → m i' j ≡ reducedTo c i 0 m i' j
+  unfolding reducedTo
   reduced-none i' j = by (eqb i' i) (λ e. simp (e, le-ltb j 0 (omega arith))) (λ e. simp e)
 
-  pub reduced-more : (i' j : ℕ) → (i' ≡ i → j ≡ k → ⊥) → reduced c i k m i' j ≡ reduced c i (k + 1) m i' j
-  unfolding reduced
+  pub reduced-more : (i' j : ℕ) → (i' ≡ i → j ≡ k → ⊥) → reducedTo c i k m i' j ≡ reducedTo c i (k + 1) m i' j
+  unfolding reducedTo
   reduced-more i' j h = by (eqb i' i) (λ e. simp (e, ltb-step j k (h (eqb-true i' i e)))) (λ e. simp e)
 
-  pub reduced-at : m i k ⊖ m i c ⊘ m c c ⊗ m c k ≡ reduced c i (k + 1) m i k
-  unfolding reduced
+  pub reduced-at : m i k ⊖ m i c ⊘ m c c ⊗ m c k ≡ reducedTo c i (k + 1) m i k
+  unfolding reducedTo
   reduced-at = simp (eq-eqb i i refl, lt-ltb k (k + 1) (omega arith))
 
-  pub reduced-row : (i' j : ℕ) → (i' ≡ i → ⊥) → reduced c i k m i' j ≡ m i' j
-  unfolding reduced
+  pub reduced-row : (i' j : ℕ) → (i' ≡ i → ⊥) → reducedTo c i k m i' j ≡ m i' j
+  unfolding reducedTo
   reduced-row i' j h = simp (ne-eqb i' i h)
 
-  pub reduced-col : (i' : ℕ) → reduced c i k m i' k ≡ m i' k
-  unfolding reduced
+  pub reduced-col : (i' : ℕ) → reducedTo c i k m i' k ≡ m i' k
+  unfolding reducedTo
   reduced-col i' = by (eqb i' i) (λ e. simp (e, le-ltb k k (omega arith))) (λ e. simp e)
 
 -- ---- m with one place changed
@@ -110,16 +110,16 @@ store-put l m i j v a b h =
 -- ---- two rows change places
 
 module _ (c q k : ℕ) (m : Matrix) where
-  pub swapped-none : (i j : ℕ) → m i j ≡ swapped c q 0 m i j
-  unfolding swapped
+  pub swapped-none : (i j : ℕ) → m i j ≡ swappedTo c q 0 m i j
+  unfolding swappedTo
   swapped-none i j = simp (le-ltb j 0 (omega arith))
 
-  pub swapped-col : (i : ℕ) → swapped c q k m i k ≡ m i k
-  unfolding swapped
+  pub swapped-col : (i : ℕ) → swappedTo c q k m i k ≡ m i k
+  unfolding swappedTo
   swapped-col i = simp (le-ltb k k (omega arith))
 
-  pub swapped-more : (i j : ℕ) → put (put (swapped c q k m) c k (m q k)) q k (m c k) i j ≡ swapped c q (k + 1) m i j
-  unfolding swapped
+  pub swapped-more : (i j : ℕ) → put (put (swappedTo c q k m) c k (m q k)) q k (m c k) i j ≡ swappedTo c q (k + 1) m i j
+  unfolding swappedTo
   swapped-more i j =
       by (eqb j k)
       (λ e. let t = lt-ltb j (k + 1) (omega (arith, eqb-true j k e)) in
@@ -137,49 +137,49 @@ module _ (c q k : ℕ) (m : Matrix) where
 -- ---- the rows but one reduced
 
 module _ (c n w : ℕ) (m : Matrix) where
-  pub eliminated-none : (i j : ℕ) → m i j ≡ eliminated c 0 w m i j
-  unfolding eliminated
+  pub eliminated-none : (i j : ℕ) → m i j ≡ eliminatedTo c 0 w m i j
+  unfolding eliminatedTo
   eliminated-none i j = simp (le-ltb i 0 (omega arith))
 
   -- row c is passed over
-  pub eliminated-skip : n ≡ c → (i j : ℕ) → eliminated c n w m i j ≡ eliminated c (n + 1) w m i j
-  unfolding eliminated
+  pub eliminated-skip : n ≡ c → (i j : ℕ) → eliminatedTo c n w m i j ≡ eliminatedTo c (n + 1) w m i j
+  unfolding eliminatedTo
   eliminated-skip h i j =
       by (eqb i c)
       (λ e. simp (e, le-ltb i n (omega (arith, eqb-true i c e)), lt-ltb i (n + 1) (omega (arith, eqb-true i c e))))
       (λ e. simp (e, ltb-step i n (λ q. eqb-false i c e (omega arith))))
 
-  pub eliminated-row : (j : ℕ) → eliminated c n w m c j ≡ m c j
-  unfolding eliminated
+  pub eliminated-row : (j : ℕ) → eliminatedTo c n w m c j ≡ m c j
+  unfolding eliminatedTo
   eliminated-row j = by (ltb c n) (λ e. simp (e, eq-eqb c c refl)) (λ e. simp e)
 
-  pub eliminated-next : (j : ℕ) → eliminated c n w m n j ≡ m n j
-  unfolding eliminated
+  pub eliminated-next : (j : ℕ) → eliminatedTo c n w m n j ≡ m n j
+  unfolding eliminatedTo
   eliminated-next j = simp (le-ltb n n (omega arith))
 
-  pub eliminated-at : (n ≡ c → ⊥) → (j : ℕ) → cond (ltb j w) (m n j ⊖ m n c ⊘ m c c ⊗ m c j) (m n j) ≡ eliminated c (n + 1) w m n j
-  unfolding eliminated
+  pub eliminated-at : (n ≡ c → ⊥) → (j : ℕ) → cond (ltb j w) (m n j ⊖ m n c ⊘ m c c ⊗ m c j) (m n j) ≡ eliminatedTo c (n + 1) w m n j
+  unfolding eliminatedTo
   eliminated-at h j = simp (lt-ltb n (n + 1) (omega arith), ne-eqb n c h)
 
-  pub eliminated-else : (i j : ℕ) → (i ≡ n → ⊥) → eliminated c n w m i j ≡ eliminated c (n + 1) w m i j
-  unfolding eliminated
+  pub eliminated-else : (i j : ℕ) → (i ≡ n → ⊥) → eliminatedTo c n w m i j ≡ eliminatedTo c (n + 1) w m i j
+  unfolding eliminatedTo
   eliminated-else i j h = simp (ltb-step i n h)
 
   -- row n is reduced, in a matrix x that is this one
-  pub eliminated-more : (x : Matrix) → (n ≡ c → ⊥) → c < 15 → n < 15 → ((i j : ℕ) → i < 15 → j < 16 → x i j ≡ eliminated c n w m i j) →
-      (i j : ℕ) → i < 15 → j < 16 → reduced c n w x i j ≡ eliminated c (n + 1) w m i j
-  unfolding reduced
+  pub eliminated-more : (x : Matrix) → (n ≡ c → ⊥) → c < 15 → n < 15 → ((i j : ℕ) → i < 15 → j < 16 → x i j ≡ eliminatedTo c n w m i j) →
+      (i j : ℕ) → i < 15 → j < 16 → reducedTo c n w x i j ≡ eliminatedTo c (n + 1) w m i j
+  unfolding reducedTo
   eliminated-more x h hc hn e i j a b =
       by (eqb i n)
       (λ t. let q : i ≡ n = eqb-true i n t in
       simp (
         t,
-        e i j a b ∙ ap (λ (r : ℕ). eliminated c n w m r j) q ∙ eliminated-next j,
-        e i c a (omega arith) ∙ ap (λ (r : ℕ). eliminated c n w m r c) q ∙ eliminated-next c,
+        e i j a b ∙ ap (λ (r : ℕ). eliminatedTo c n w m r j) q ∙ eliminated-next j,
+        e i c a (omega arith) ∙ ap (λ (r : ℕ). eliminatedTo c n w m r c) q ∙ eliminated-next c,
         e c c hc (omega arith) ∙ eliminated-row c,
         e c j hc b ∙ eliminated-row j,
       )
-      (eliminated-at h j ∙ ap (λ (r : ℕ). eliminated c (n + 1) w m r j) (sym q)))
+      (eliminated-at h j ∙ ap (λ (r : ℕ). eliminatedTo c (n + 1) w m r j) (sym q)))
       (λ t. simp t (e i j a b ∙ eliminated-else i j (eqb-false i n t)))
 
 -- ---- a matrix filled place by place
@@ -239,30 +239,30 @@ row-whole s f i n h e l = sym (take-all i s (omega arith)) ∙ h ∙ ap (row f) 
 
 -- ---- one column more
 
-module _ (p : ℕ) (l : List Float) (c : ℕ) (a : List Float) (q : ℕ) (ha : a ≡ stage p l c) (hq : q ≡ largest (view a) c (p - (c + 1))) where
-  row-is : q ≡ pivotRow p c (stage p l c)
-  unfolding pivotRow
+module _ (p : ℕ) (l : List Float) (c : ℕ) (a : List Float) (q : ℕ) (ha : a ≡ stageIn p l c) (hq : q ≡ largest (view a) c (p - (c + 1))) where
+  row-is : q ≡ pivotRowIn p c (stageIn p l c)
+  unfolding pivotRowIn
   row-is = hq ∙ ap (λ (x : List Float). largest (view x) c (p - (c + 1))) ha
 
-  pub stage-more : (s e : List Float) → s ≡ flatten (swapped c q (p + 1) (view a)) → e ≡ flatten (eliminated c p (p + 1) (view s)) → e ≡ stage p l (c + 1)
-  unfolding stage turn
+  pub stage-more : (s e : List Float) → s ≡ flatten (swappedTo c q (p + 1) (view a)) → e ≡ flatten (eliminatedTo c p (p + 1) (view s)) → e ≡ stageIn p l (c + 1)
+  unfolding stageIn turnIn
   stage-more s e hs he = rw add-one (he ∙ simp (hs, row-is, ha))
 
-  pub singular-is : (b : Bool) → b ≡ tooSmall (getD a (q * 16 + c) nan) → b ≡ singular p l c
-  unfolding singular
+  pub singular-is : (b : Bool) → b ≡ tooSmall (getD a (q * 16 + c) nan) → b ≡ singularIn p l c
+  unfolding singularIn
   singular-is b hb = hb ∙ simp (row-is, ha)
 
-pub fine-more : (p : ℕ) (l : List Float) (c : ℕ) → fine p l c ≡ true → singular p l c ≡ false → fine p l (c + 1) ≡ true
-unfolding fine
+pub fine-more : (p : ℕ) (l : List Float) (c : ℕ) → fineIn p l c ≡ true → singularIn p l c ≡ false → fineIn p l (c + 1) ≡ true
+unfolding fineIn
 fine-more p l c f s = rw add-one (simp (f, s))
 
-pub fine-not : (p : ℕ) (l : List Float) (c n : ℕ) → c < n → singular p l c ≡ true → fine p l n ≡ false
-unfolding fine
+pub fine-not : (p : ℕ) (l : List Float) (c n : ℕ) → c < n → singularIn p l c ≡ true → fineIn p l n ≡ false
+unfolding fineIn
 fine-not p l c zero h s = absurd (omega arith)
 fine-not p l c (suc n) h s =
     by (eqb c n)
-    (λ e. let q : singular p l n ≡ true = rw (eqb-true c n e) at s in
-    by (fine p l n) (λ t. simp (t, q)) (λ t. simp t))
+    (λ e. let q : singularIn p l n ≡ true = rw (eqb-true c n e) at s in
+    by (fineIn p l n) (λ t. simp (t, q)) (λ t. simp t))
     (λ e. simp (fine-not p l c n (omega (arith, eqb-false c n e)) s))
 
 pub length-flatten : (m : Matrix) → length (flatten m) ≡ 240

@@ -1,4 +1,5 @@
 pub mod Laws
+pub mod Matrices
 pub mod FifteenColumns
 pub mod Shapes
 pub mod Pivot

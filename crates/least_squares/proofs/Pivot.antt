@@ -1,7 +1,6 @@
 -- The chosen pivot is the last of the largest, NaN counting as largest. Assumes nothing.
 use mathlib.Core.Path.{_≡_, sym, ap, subst, _∙_}
 use mathlib.Core.Bool.{true, false, cond, not, false≢true}
-use mathlib.Core.List.{List}
 use Prim.Native.Nat.{ℕ, zero, suc, _+_, _-_, _≤_, _<_}
 use native.Mathlib.Decide.{decLe}
 use native.Mathlib.Omega.{arith}
@@ -12,7 +11,7 @@ use Rattle.laws.specs.Signed.{real}
 use Rattle.laws.specs.Order.{le-tr, le-rfl, le-total, lt→le, nle→lt}
 use Rattle.laws.specs.Bools.{by, holds}
 use Rattle.numbers.specs.Numbers.{magnitude}
-use Rattle.least_squares.specs.Elimination.{Matrix, view, reaches, largest, pivotRow}
+use Rattle.least_squares.specs.Elimination.{Matrix, reaches, largest, pivotRow}
 
 -- ---- the order that NaN tops is total
 
@@ -100,6 +99,6 @@ largest-is m c zero = record {
 largest-is m c (suc n) = grown m c n (largest m c n) (largest-is m c n)
 
 -- of column c's pivot, in a matrix of p rows
-pub pivot-is : (p c : ℕ) (l : List Float) → LastOfLargest (view l) c (p - (c + 1)) (pivotRow p c l)
+pub pivot-is : (p c : ℕ) (m : Matrix) → LastOfLargest m c (p - (c + 1)) (pivotRow p c m)
 unfolding pivotRow
-pivot-is p c l = largest-is (view l) c (p - (c + 1))
+pivot-is p c m = largest-is m c (p - (c + 1))

@@ -9,24 +9,24 @@ use lib.ListN.{length}
 use borrow.Author.Tests.{lt-ltb, le-ltb, eq-eqb, ne-eqb, ltb-true, ltb-false, eqb-true, eqb-false}
 use Rattle.laws.specs.Tables.{row}
 use Rattle.laws.specs.Bools.{by}
-use Rattle.least_squares.specs.Elimination.{fine, stage, view}
+use Rattle.least_squares.specs.Flat.{fineIn, stageIn, view, equations}
 use Rattle.least_squares.specs.Kernel.{coefficientsOf, shapeFits, solvableFor, solvedElse}
-use Rattle.least_squares.specs.LeastSquares.{coefficientAt, equations, solvable, solved}
+use Rattle.least_squares.specs.LeastSquares.{coefficientAt, solvable}
+use Rattle.least_squares.proofs.Matrices.{solvable-flat, solved-flat}
 
-solvable-is : (rows y : List Float) (p : ℕ) (n : List Float) (t g : Bool) → n ≡ equations rows y p → t ≡ fine p n p → t ≡ g → g ≡ solvable rows y p
-unfolding solvable
-solvable-is rows y p n t g hn ht h = sym h ∙ ht ∙ ap (λ (x : List Float). fine p x p) hn
+solvable-is : (rows y : List Float) (p : ℕ) (n : List Float) (t g : Bool) → p ≤ 15 → n ≡ equations rows y p → t ≡ fineIn p n p → t ≡ g → g ≡ solvable rows y p
+solvable-is rows y p n t g few hn ht h = sym h ∙ ht ∙ ap (λ (x : List Float). fineIn p x p) hn ∙ solvable-flat p few rows y
 
-module _ (rows y : List Float) (p : ℕ) (n : List Float) (t : Bool) (hn : n ≡ equations rows y p) (ht : t ≡ fine p n p) where
+module _ (rows y : List Float) (p : ℕ) (few : p ≤ 15) (n : List Float) (t : Bool) (hn : n ≡ equations rows y p) (ht : t ≡ fineIn p n p) where
   pub found : t ≡ true → true ≡ solvable rows y p
-  found h = solvable-is rows y p n t true hn ht h
+  found h = solvable-is rows y p n t true few hn ht h
 
   pub none : t ≡ false → false ≡ solvable rows y p
-  none h = solvable-is rows y p n t false hn ht h
+  none h = solvable-is rows y p n t false few hn ht h
 
-  pub found-is : (b s b' : List Float) → t ≡ true → (t ≡ true → s ≡ stage p n p) → b' ≡ row (coefficientAt (view s) p) p → b' ≡ solvedElse rows y p b
-  unfolding solvedElse solved
-  found-is b s b' h hs hb = simp (sym (found h)) (hb ∙ simp (hs h, hn))
+  pub found-is : (b s b' : List Float) → t ≡ true → (t ≡ true → s ≡ stageIn p n p) → b' ≡ row (coefficientAt (view s) p) p → b' ≡ solvedElse rows y p b
+  unfolding solvedElse
+  found-is b s b' h hs hb = simp (sym (found h)) (hb ∙ simp (hs h, hn) (solved-flat p few rows y))
 
   pub none-is : (b : List Float) → t ≡ false → b ≡ solvedElse rows y p b
   unfolding solvedElse

@@ -9,30 +9,26 @@ use lib.ListN.{getD, length}
 use Rattle.laws.specs.Floats.{_⊖_, _⊗_, _⊘_}
 use Rattle.laws.specs.Sums.{sumTo}
 use Rattle.laws.specs.Tables.{row}
-use Rattle.least_squares.specs.Elimination.{Matrix, view, flatten, augmented, stage, fine}
+use Rattle.least_squares.specs.Elimination.{Matrix, stage, fine}
 
 -- column j of row r; column p is the observation
 unfoldable pub valueAt : List Float → List Float → ℕ → ℕ → ℕ → Float
 valueAt rows y p r j = cond (ltb j p) (getD rows (r * p + j) nan) (getD y r nan)
 
--- an entry of the normal equations
+-- the normal equations, with their right-hand side in column p
 unfoldable pub normalAt : List Float → List Float → ℕ → Matrix
 normalAt rows y p i j = sumTo (λ (r : ℕ). valueAt rows y p r i ⊗ valueAt rows y p r j) (length y)
 
--- the normal equations, augmented by their right-hand side in column p
-unfoldable pub equations : List Float → List Float → ℕ → List Float
-equations rows y p = flatten (augmented p (normalAt rows y p))
-
 -- every pivot is large enough
 unfoldable pub solvable : List Float → List Float → ℕ → Bool
-solvable rows y p = fine p (equations rows y p) p
+solvable rows y p = fine p (normalAt rows y p) p
 
 -- a coefficient, from the matrix after the last column's turn
 unfoldable pub coefficientAt : Matrix → ℕ → ℕ → Float
 coefficientAt m p i = m i p ⊘ m i i
 
 unfoldable pub solved : List Float → List Float → ℕ → List Float
-solved rows y p = row (coefficientAt (view (stage p (equations rows y p) p)) p) p
+solved rows y p = row (coefficientAt (stage p (normalAt rows y p) p) p) p
 
 -- what the coefficients give for row r
 unfoldable pub fittedAt : List Float → List Float → ℕ → ℕ → Float

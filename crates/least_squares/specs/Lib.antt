@@ -1,4 +1,5 @@
 pub mod Elimination
 pub mod LeastSquares
+pub mod Flat
 pub mod Kernel
 pub mod Calls

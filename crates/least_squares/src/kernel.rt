@@ -7,8 +7,9 @@ ghost use lib.ListN.{length, replicate};
 ghost use Rattle.laws.specs.Floats.{zero64};
 ghost use Rattle.laws.specs.Tables.{row};
 ghost use Rattle.numbers.specs.Numbers.{magnitude as magnitudeOf};
-ghost use Rattle.least_squares.specs.Elimination.{view, flatten, swapped, reduced, eliminated, reaches as reachesOf, largest, tooSmall, stage, fine};
-ghost use Rattle.least_squares.specs.LeastSquares.{valueAt, normalAt, equations, coefficientAt, solvable};
+ghost use Rattle.least_squares.specs.Elimination.{reaches as reachesOf, largest, tooSmall};
+ghost use Rattle.least_squares.specs.Flat.{view, flatten, swappedTo, reducedTo, eliminatedTo, stageIn, fineIn, equations};
+ghost use Rattle.least_squares.specs.LeastSquares.{valueAt, normalAt, coefficientAt, solvable};
 ghost use Rattle.least_squares.specs.Kernel.{shapeFits, solvedElse, solvableFor, coefficientsOf, shaped15, Estimated};
 
 fn value(rows: &[f64], y: &[f64], p: usize, r: usize, j: usize) -> f64
@@ -84,7 +85,7 @@ fn pivot(a: &[f64; 240], p: usize, c: usize) -> usize
 
 fn swap_rows(a: &mut [f64; 240], p: usize, c: usize, q: usize)
     requires { ⌜ (p ≤ 15) × (c < p) × (q < p) × (length (now a) ≡ 240) ⌝ }
-    ensures { λ _. ⌜ now (a .exit) ≡ flatten (swapped c q (p + 1) (view (now (a .entry)))) ⌝ }
+    ensures { λ _. ⌜ now (a .exit) ≡ flatten (swappedTo c q (p + 1) (view (now (a .entry)))) ⌝ }
 {
     let w = p + 1;
     for k in 0..w {
@@ -97,7 +98,7 @@ fn swap_rows(a: &mut [f64; 240], p: usize, c: usize, q: usize)
 
 fn reduce_row(a: &mut [f64; 240], p: usize, c: usize, i: usize)
     requires { ⌜ (p ≤ 15) × (c < p) × (i < p) × (i ≡ c → ⊥) × (length (now a) ≡ 240) ⌝ }
-    ensures { λ _. ⌜ now (a .exit) ≡ flatten (reduced c i (p + 1) (view (now (a .entry)))) ⌝ }
+    ensures { λ _. ⌜ now (a .exit) ≡ flatten (reducedTo c i (p + 1) (view (now (a .entry)))) ⌝ }
 {
     let f = a[i * 16 + c] / a[c * 16 + c];
     let w = p + 1;
@@ -109,7 +110,7 @@ fn reduce_row(a: &mut [f64; 240], p: usize, c: usize, i: usize)
 
 fn eliminate(a: &mut [f64; 240], p: usize, c: usize)
     requires { ⌜ (p ≤ 15) × (c < p) × (length (now a) ≡ 240) ⌝ }
-    ensures { λ _. ⌜ now (a .exit) ≡ flatten (eliminated c p (p + 1) (view (now (a .entry)))) ⌝ }
+    ensures { λ _. ⌜ now (a .exit) ≡ flatten (eliminatedTo c p (p + 1) (view (now (a .entry)))) ⌝ }
 {
     for i in 0..p {
         if i != c {
@@ -121,7 +122,7 @@ fn eliminate(a: &mut [f64; 240], p: usize, c: usize)
 // Whether every pivot was large enough.
 fn solve(a: &mut [f64; 240], p: usize) -> bool
     requires { ⌜ (p ≤ 15) × (length (now a) ≡ 240) ⌝ }
-    ensures { λ r. ⌜ (r ≡ fine p (now (a .entry)) p) × (r ≡ true → now (a .exit) ≡ stage p (now (a .entry)) p) ⌝ }
+    ensures { λ r. ⌜ (r ≡ fineIn p (now (a .entry)) p) × (r ≡ true → now (a .exit) ≡ stageIn p (now (a .entry)) p) ⌝ }
 {
     for c in 0..p {
         let q = pivot(a, p, c);

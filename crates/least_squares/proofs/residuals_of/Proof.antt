@@ -5,7 +5,6 @@ use lib.ListN.{length, take, set, length-set}
 use borrow.Author.Needs.{needs}
 use Rattle.least_squares.proofs.Laws.{row-more, row-whole, row-end}
 use Rattle.laws.specs.Tables.{row}
-use Rattle.least_squares.specs.Elimination.{view}
 use Rattle.least_squares.specs.LeastSquares.{fittedAt, residualAt, residualsOf}
 use Rattle.least_squares.proofs.residuals_of.Statement.{statement}
 use Rattle.least_squares.proofs.residuals_of.Tie as tie

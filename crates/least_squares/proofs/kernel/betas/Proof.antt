@@ -5,7 +5,7 @@ use Prim.Native.Nat.{ℕ, suc, _+_, _*_, _-_, _≤_, _<_}
 use mathlib.Core.Path.{_≡_, refl, sym, ap, _∙_}
 use borrow.Author.Needs.{needs}
 use Rattle.laws.specs.Tables.{row}
-use Rattle.least_squares.specs.Elimination.{view}
+use Rattle.least_squares.specs.Flat.{view}
 use Rattle.least_squares.specs.LeastSquares.{coefficientAt}
 use Rattle.least_squares.proofs.kernel.betas.Statement.{statement}
 use Rattle.least_squares.proofs.kernel.betas.Tie as tie

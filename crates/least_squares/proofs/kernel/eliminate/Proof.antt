@@ -8,13 +8,13 @@ use lib.Ieee.{Float, nan}
 use borrow.Author.Needs.{needs}
 use Rattle.least_squares.proofs.Laws.{Holds, as-it-is, whole, flat-holds, holds-same, eliminated-none, eliminated-skip, eliminated-more}
 use Rattle.least_squares.proofs.Laws.{filled}
-use Rattle.least_squares.specs.Elimination.{Matrix, eliminated, flatten, largest, reduced, swapped, view}
+use Rattle.least_squares.specs.Flat.{eliminatedTo, reducedTo, view}
 use Rattle.least_squares.proofs.kernel.eliminate.Statement.{statement}
 use Rattle.least_squares.proofs.kernel.eliminate.Tie as tie
 
 abbrev Inv-loop : tie.InvT-loop
 Inv-loop a₀ p c i₀ a i =
-    (i ≤ p) × Holds a (eliminated c i (p + 1) (view a₀))
+    (i ≤ p) × Holds a (eliminatedTo c i (p + 1) (view a₀))
 
 abbrev μ-loop : tie.MeasureT-loop
 μ-loop a₀ p c i₀ a i = p - i
@@ -37,7 +37,7 @@ loop-again c =
     (λ w. (
       omega arith,
       rw (w .3 ∙ w .2 .ensures)
-          (holds-same _ _ _ (flat-holds (reduced (s .c) (loop .i) (s .p + 1) (view (loop .a))))
+          (holds-same _ _ _ (flat-holds (reducedTo (s .c) (loop .i) (s .p + 1) (view (loop .a))))
           (λ i j a b. eliminated-more (s .c) (loop .i) (s .p + 1) m (view (loop .a)) (w .0 .taken) (omega arith) (omega arith) (h .at) i j a b)),
     ))
     (λ w. (omega arith, rw (w .1) (holds-same _ _ _ h (λ i j a b. eliminated-skip (s .c) (loop .i) (s .p + 1) m (w .0 .left) i j))))

@@ -8,7 +8,8 @@ use lib.Ieee.{Float, nan}
 use borrow.Author.Needs.{needs}
 use Rattle.least_squares.proofs.Laws.{Holds, as-it-is, whole, holds-same, store, filled-none, filled-at, filled-more, filled-row}
 use Rattle.least_squares.proofs.Laws.{filled, filled-all}
-use Rattle.least_squares.specs.Elimination.{Matrix, eliminated, flatten, largest, reduced, swapped, view}
+use Rattle.least_squares.specs.Elimination.{Matrix}
+use Rattle.least_squares.specs.Flat.{view}
 use Rattle.least_squares.specs.LeastSquares.{normalAt}
 use Rattle.least_squares.proofs.kernel.normal.Statement.{statement}
 use Rattle.least_squares.proofs.kernel.normal.Tie as tie

@@ -8,7 +8,8 @@ use lib.ListN.{length, getD}
 use lib.Ieee.{Float, nan}
 use borrow.Author.Needs.{needs}
 use Rattle.least_squares.proofs.Laws.{Holds, as-it-is, store, whole, ltb-step}
-use Rattle.least_squares.specs.Elimination.{Matrix, eliminated, flatten, largest, reaches, reduced, swapped, view}
+use Rattle.least_squares.specs.Elimination.{largest, reaches}
+use Rattle.least_squares.specs.Flat.{view}
 use Rattle.numbers.specs.Numbers.{magnitude}
 use Rattle.least_squares.proofs.kernel.pivot.Statement.{statement}
 use Rattle.least_squares.proofs.kernel.pivot.Tie as tie

@@ -7,13 +7,13 @@ use lib.ListN.{length, getD}
 use lib.Ieee.{Float, nan}
 use borrow.Author.Needs.{needs}
 use Rattle.least_squares.proofs.Laws.{Holds, as-it-is, store, whole, ltb-step}
-use Rattle.least_squares.specs.Elimination.{Matrix, eliminated, flatten, largest, reduced, swapped, view}
+use Rattle.least_squares.specs.Flat.{reducedTo, view}
 use Rattle.least_squares.proofs.kernel.reduce_row.Statement.{statement}
 use Rattle.least_squares.proofs.kernel.reduce_row.Tie as tie
 
 abbrev Inv-loop : tie.InvT-loop
 Inv-loop a₀ p c i f w k₀ a k =
-    (k ≤ w) × (w ≡ p + 1) × Holds a (reduced c i k (view a₀))
+    (k ≤ w) × (w ≡ p + 1) × Holds a (reducedTo c i k (view a₀))
 
 abbrev μ-loop : tie.MeasureT-loop
 μ-loop a₀ p c i f w k₀ a k = w - k
@@ -31,7 +31,7 @@ loop-again c =
     let h = loop .inv .2 in (
       omega arith,
       refl,
-      store (loop .a) (reduced (s .c) (s .i) (loop .k) m) (reduced (s .c) (s .i) (loop .k + 1) m) (s .i) (loop .k) _ (omega arith) (omega arith) h
+      store (loop .a) (reducedTo (s .c) (s .i) (loop .k) m) (reducedTo (s .c) (s .i) (loop .k + 1) m) (s .i) (loop .k) _ (omega arith) (omega arith) h
           (simp (
             h .at (s .i) (loop .k) (omega arith) (omega arith) ∙ reduced-col (s .c) (s .i) (loop .k) m (s .i),
             h .at (s .c) (loop .k) (omega arith) (omega arith) ∙ reduced-col (s .c) (s .i) (loop .k) m (s .c),

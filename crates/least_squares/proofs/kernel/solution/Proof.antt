@@ -5,7 +5,7 @@ use lib.ListN.{length, take, set, length-set}
 use borrow.Author.Needs.{needs}
 use Rattle.least_squares.proofs.Laws.{row-more, row-whole}
 use Rattle.laws.specs.Tables.{row}
-use Rattle.least_squares.specs.Elimination.{view}
+use Rattle.least_squares.specs.Flat.{view}
 use Rattle.least_squares.specs.LeastSquares.{coefficientAt}
 use Rattle.least_squares.proofs.kernel.solution.Statement.{statement}
 use Rattle.least_squares.proofs.kernel.solution.Tie as tie

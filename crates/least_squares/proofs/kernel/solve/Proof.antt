@@ -5,19 +5,19 @@ use native.Mathlib.Omega.{arith}
 use lib.ListN.{length}
 use borrow.Author.Needs.{needs}
 use Rattle.least_squares.proofs.Laws.{stage-more, singular-is, fine-more, fine-not, length-flatten}
-use Rattle.least_squares.specs.Elimination.{fine, singular, stage, view}
+use Rattle.least_squares.specs.Flat.{fineIn, stageIn}
 use Rattle.least_squares.proofs.kernel.solve.Statement.{statement}
 use Rattle.least_squares.proofs.kernel.solve.Tie as tie
 
 abbrev Inv-loop : tie.InvT-loop
 Inv-loop a₀ p c₀ a c =
-    (c ≤ p) × (fine p a₀ c ≡ true) × (a ≡ stage p a₀ c) × (length a ≡ 240)
+    (c ≤ p) × (fineIn p a₀ c ≡ true) × (a ≡ stageIn p a₀ c) × (length a ≡ 240)
 
 abbrev μ-loop : tie.MeasureT-loop
 μ-loop a₀ p c₀ a c = p - c
 
 loop-holds : tie.Need-loop-holds Inv-loop μ-loop
-unfolding fine stage
+unfolding fineIn stageIn
 loop-holds c = (omega arith, refl, refl, c .pre .1)
 
 returns : tie.Need-returns Inv-loop μ-loop

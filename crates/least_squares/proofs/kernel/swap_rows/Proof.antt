@@ -7,13 +7,13 @@ use lib.ListN.{length, getD}
 use lib.Ieee.{Float, nan}
 use borrow.Author.Needs.{needs}
 use Rattle.least_squares.proofs.Laws.{Holds, as-it-is, store, whole, ltb-step}
-use Rattle.least_squares.specs.Elimination.{Matrix, eliminated, flatten, largest, reduced, swapped, view}
+use Rattle.least_squares.specs.Flat.{swappedTo, view}
 use Rattle.least_squares.proofs.kernel.swap_rows.Statement.{statement}
 use Rattle.least_squares.proofs.kernel.swap_rows.Tie as tie
 
 abbrev Inv-loop : tie.InvT-loop
 Inv-loop a₀ p c q w k₀ a k =
-    (k ≤ w) × (w ≡ p + 1) × Holds a (swapped c q k (view a₀))
+    (k ≤ w) × (w ≡ p + 1) × Holds a (swappedTo c q k (view a₀))
 
 abbrev μ-loop : tie.MeasureT-loop
 μ-loop a₀ p c q w k₀ a k = w - k
