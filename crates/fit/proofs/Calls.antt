@@ -21,11 +21,11 @@ use Rattle.slices.specs.Slices.{copied}
 use Rattle.slices.specs.Calls.{left, settled}
 use Rattle.slices.proofs.Calls.{call-refused, call-failed, call-handed}
 use Rattle.slices.proofs.Laws.{copied-all}
-use Rattle.lent.specs.Lent.{fieldsFine, few, lengthsFit, statesFit, modelFine, keyedFine, frontSize, Front}
+use Rattle.lent.specs.Lent.{fitRoom, fieldsFine, few, lengthsFit, statesFit, modelFine, keyedFine, frontSize, Front}
 use Rattle.lent.proofs.Passed.{all-pass, degree-passes, states-pass, lengths-room}
 use Rattle.finality.specs.Brackets.{covers}
 use Rattle.integrate.specs.declared.kernel.Arc.{Arc}
-use Rattle.integrate.specs.Room.{Run, Orbit, flat}
+use Rattle.integrate.specs.Room.{runSize, Run, Orbit, flat}
 use Rattle.integrate.specs.Force.{model, fullForce}
 use Rattle.integrate.specs.Calls.{outFits, arcFits}
 use Rattle.integrate.proofs.Calls.{out-passes, flat-part}
@@ -37,13 +37,14 @@ use Rattle.fit.specs.Fit.{Observed, stateFor, fitOf, fitFrom, fittedFrom
 use Rattle.fit.specs.Contracts.{Fits, arcServes, ArcFit}
 use Rattle.fit.specs.Handing.{Handed}
 use Rattle.fit.specs.Calls.{numberOf, rmsIn, refusal, fitCall}
+use Rattle.fit.specs.Room.{workSize}
 
 -- ---- the tests
 
 pub record Passed (N : ℕ) (arc : Arc) (ks : List ℤ) (states out scratch : ℕ) : Type 0 where
   pub degree : N ≤ 180
   pub few : arc .steps ≤ 5302
-  pub room : frontSize N + 150000 ≤ scratch
+  pub room : frontSize N + fitRoom ≤ scratch
   pub each : out ≡ 6 * (arc .steps + 1)
   pub rows : states ≡ 6 * length ks
   pub order : risingSeconds ks ≡ true
@@ -94,7 +95,7 @@ fit-late covered full look arc =
 
 -- ---- handing out
 
-module _ (x : Float) (N steps base : ℕ) (w out o1 w1 : List Float) (h : N ≤ 180) (k : steps ≤ 5302) (l : frontSize N + 31818 ≤ length w) (q : length out ≡ 6 * (steps + 1))
+module _ (x : Float) (N steps base : ℕ) (w out o1 w1 : List Float) (h : N ≤ 180) (k : steps ≤ 5302) (l : frontSize N + runSize ≤ length w) (q : length out ≡ 6 * (steps + 1))
     (e : Front N base) (c : o1 ≡ copied (take (base + 6 * (steps + 1) - base) (drop base w)) out) (cl : w1 ≡ cleared w)
     (f g t : Bool) (ef : f ≡ finite x) (eg : g ≡ all finite o1) (et : t ≡ f && g) where
   part-is : take (base + 6 * (steps + 1) - base) (drop base w) ≡ take (6 * (steps + 1)) (drop (frontSize N) w)
@@ -153,7 +154,7 @@ module _ (N : ℕ) (field a b ts fs : List Float) (ks : List ℤ) (ss : List Flo
     unfolding arcServes
     fitted =
         let q = fit-passed h in
-        af .fits (simp (le-leb N 180 (q .degree), le-leb (arc .steps) 5302 (q .few), eq-eqb (length ss) (6 * length ks) (q .rows), le-leb (frontSize N + 90173) (length scratch) (omega (arith, q .room)), q .order))
+        af .fits (simp (le-leb N 180 (q .degree), le-leb (arc .steps) 5302 (q .few), eq-eqb (length ss) (6 * length ks) (q .rows), le-leb (frontSize N + workSize) (length scratch) (omega (arith, q .room)), q .order))
 
     pub fit-long : length s1 ≡ length scratch
     fit-long = fitted .only .long

@@ -10,7 +10,7 @@ use lib.ListN.{length}
 use borrow.Author.Tests.{le-leb, lt-leb, eq-eqb, ne-eqb}
 use Rattle.lent.specs.Lent.{frontSize, Front}
 use Rattle.integrate.specs.Force.{runFits}
-use Rattle.integrate.specs.Room.{Run, Only, Orbit}
+use Rattle.integrate.specs.Room.{runSize, Run, Only, Orbit}
 use Rattle.integrate.specs.Work.{Ran}
 use Rattle.integrate.specs.declared.kernel.Arc.{Arc}
 use Rattle.vectors.specs.declared.Vector.{Vector}
@@ -19,16 +19,17 @@ use Rattle.fit.specs.declared.kernel.Held.{Held}
 use Rattle.fit.specs.declared.kernel.Fitted.{Fitted as Fit}
 use Rattle.fit.specs.declared.kernel.Fitted.the-variants.{Refused}
 use Rattle.fit.specs.Contracts.{Fits, arcServes, Serving, ArcFit}
+use Rattle.fit.specs.Room.{workSize}
 
-fits-here : (N steps room : ℕ) → N ≤ 180 → steps ≤ 5302 → frontSize N + 31818 ≤ room → runFits N steps room ≡ true
+fits-here : (N steps room : ℕ) → N ≤ 180 → steps ≤ 5302 → frontSize N + runSize ≤ room → runFits N steps room ≡ true
 unfolding runFits
-fits-here N steps room h k l = simp (le-leb N 180 h, le-leb steps 5302 k, le-leb (frontSize N + 31818) room l)
+fits-here N steps room h k l = simp (le-leb N 180 h, le-leb steps 5302 k, le-leb (frontSize N + runSize) room l)
 
-pub flew : (N steps base : ℕ) (w w' : List Float) (run : Run) → Ran (runFits N steps (length w)) w w' (frontSize N) steps run → steps ≤ 5302 → base + 31818 ≤ length w → N ≤ 180 → base ≡ frontSize N →
-    Orbit w' base run (steps + 1) × Only 0 (base + 31818) w w'
+pub flew : (N steps base : ℕ) (w w' : List Float) (run : Run) → Ran (runFits N steps (length w)) w w' (frontSize N) steps run → steps ≤ 5302 → base + runSize ≤ length w → N ≤ 180 → base ≡ frontSize N →
+    Orbit w' base run (steps + 1) × Only 0 (base + runSize) w w'
 flew N steps base w w' run r k l h e =
     let f = r .flown (fits-here N steps (length w) h k (omega arith)) in
-    (subst (λ (n : ℕ). Orbit w' n run (steps + 1)) (sym e) (f .states), subst (λ (n : ℕ). Only 0 (n + 31818) w w') (sym e) (f .only))
+    (subst (λ (n : ℕ). Orbit w' n run (steps + 1)) (sym e) (f .states), subst (λ (n : ℕ). Only 0 (n + runSize) w w') (sym e) (f .only))
 
 -- ---- the guard of a fit
 
@@ -49,14 +50,14 @@ module _ (N steps : ℕ) (keys : List ℤ) (states room : ℕ) where
   serves-states g h k = not-serving (simp (le-leb N 180 g, le-leb steps 5302 h, ne-eqb states (6 * length keys) k))
 
   module _ (g : N ≤ 180) (h : steps ≤ 5302) (k : states ≡ 6 * length keys) (base : ℕ) (e : Front N base) where
-    pub serves-room : room < base + 90173 → Serving N steps keys states room false
+    pub serves-room : room < base + workSize → Serving N steps keys states room false
     unfolding arcServes
-    serves-room l = not-serving (simp (le-leb N 180 g, le-leb steps 5302 h, eq-eqb states (6 * length keys) k, lt-leb (frontSize N + 90173) room (omega (arith, e .0 g))))
+    serves-room l = not-serving (simp (le-leb N 180 g, le-leb steps 5302 h, eq-eqb states (6 * length keys) k, lt-leb (frontSize N + workSize) room (omega (arith, e .0 g))))
 
-    pub serves-keys : base + 90173 ≤ room → (b : Bool) → b ≡ risingSeconds keys → Serving N steps keys states room b
+    pub serves-keys : base + workSize ≤ room → (b : Bool) → b ≡ risingSeconds keys → Serving N steps keys states room b
     unfolding arcServes
     serves-keys l b q = record {
-      says = simp (le-leb N 180 g, le-leb steps 5302 h, eq-eqb states (6 * length keys) k, le-leb (frontSize N + 90173) room (omega (arith, e .0 g)), sym q);
+      says = simp (le-leb N 180 g, le-leb steps 5302 h, eq-eqb states (6 * length keys) k, le-leb (frontSize N + workSize) room (omega (arith, e .0 g)), sym q);
       degree = λ _. g;
       few = λ _. h;
       each = λ _. k;

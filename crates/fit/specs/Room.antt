@@ -10,9 +10,27 @@ use lib.ListN.{length, getD}
 use Rattle.vectors.specs.declared.Vector.{Vector}
 use Rattle.integrate.specs.declared.kernel.State.{State}
 use Rattle.fit.specs.Fit.{Observed, axis, nth}
-use Rattle.integrate.specs.Room.{Holds3}
+use Rattle.integrate.specs.Room.{runSize, Holds3}
 use Rattle.laws.specs.Floats.{_⊖_}
 use Rattle.laws.specs.WholeNumbers.{number}
+
+-- where the parts of a fit's work begin, counted from the states of a run on, which come first: at most 1,061 observed steps, four numbers each; the base positions
+-- at them and the misfits, three each; the rows of the design, one for each misfit
+abbrev pub observedPart : ℕ
+observedPart = runSize
+
+abbrev pub basePart : ℕ
+basePart = observedPart + 4 * 1061
+
+abbrev pub misfitPart : ℕ
+misfitPart = basePart + 3 * 1061
+
+abbrev pub designPart : ℕ
+designPart = misfitPart + 3 * 1061
+
+-- and where they end
+abbrev pub workSize : ℕ
+workSize = designPart + 15 * (3 * 1061)
 
 -- observations, four numbers each
 pub record Observes (s : List Float) (at : ℕ) (obs : List Observed) : Type 0 where
@@ -25,10 +43,10 @@ stepNumber x = cond (lt (fin true 1 (pos 0)) x) (cond (lt x (fin false 1 (pos 64
 
 -- where row r finds its observed coordinate and its run's, in scratch from b on
 unfoldable pub stepAt : List Float → ℕ → ℕ → ℕ
-stepAt s b r = stepNumber (getD s (b + 31818 + 4 * (r / 3)) nan)
+stepAt s b r = stepNumber (getD s (b + observedPart + 4 * (r / 3)) nan)
 
 unfoldable pub placeAt : List Float → ℕ → ℕ → Float
-placeAt s b r = getD s (b + 31818 + 4 * (r / 3) + 1 + r % 3) nan
+placeAt s b r = getD s (b + observedPart + 4 * (r / 3) + 1 + r % 3) nan
 
 unfoldable pub runAt : List Float → ℕ → ℕ → Float
 runAt s b r = getD s (b + 6 * stepAt s b r + r % 3) nan

@@ -1,10 +1,5 @@
-// Orbits fitted to observed positions (document 01, module 4), in one lent slice. From `base` on, behind the numbers that a run needs:
-//        0  states of one run, six numbers each
-//    31818  observed steps: step, x, y, z
-//    36062  base positions at the observed steps
-//    39245  misfits
-//    42428  rows of the design, 15 numbers each
-//    90173  end
+// Orbits fitted to observed positions (document 01, module 4), in one lent slice. From `base` on, behind the numbers that a run needs, stand the states of one
+// run, six numbers each, and the parts below.
 ghost use mathlib.Core.Path.{_≡_};
 ghost use mathlib.Core.Bool.{true};
 ghost use mathlib.Core.List.{List, _++_};
@@ -16,13 +11,27 @@ ghost use Rattle.laws.specs.Checks.{risingSeconds};
 ghost use Rattle.numbers.specs.Seconds.{wholeSecond};
 ghost use Rattle.slices.specs.Slices.{lookup};
 ghost use Rattle.finality.specs.Brackets.{covers};
-ghost use Rattle.integrate.specs.Room.{Only, Orbit};
+ghost use Rattle.integrate.specs.Room.{runSize, Only, Orbit};
 ghost use Rattle.lent.specs.Lent.{frontSize};
 ghost use Rattle.integrate.specs.Force.{model, fullForce, attractionOf, runOf};
 ghost use Rattle.integrate.specs.declared.kernel.Force.the-variants.{Full, J2};
 ghost use Rattle.fit.specs.Fit.{stateFor, seen, observed, startOf, scaleOf, movedOf, updatedOf, rmsOf};
-ghost use Rattle.fit.specs.Room.{stepNumber, stepAt, placeAt, runAt};
+ghost use Rattle.fit.specs.Room.{basePart, workSize, stepNumber, stepAt, placeAt, runAt};
 ghost use Rattle.fit.specs.Contracts.{Measured, Based, Columned, Stored, Noted, Observing, Designed, Differentiated, Linearised, Rounded, Finished, FitFrom, Fits, arcServes, Serving, ArcFit};
+
+// Observed steps: step, x, y, z.
+const OBSERVED: usize = 31_818;
+
+// Base positions at the observed steps.
+const BASES: usize = 36_062;
+
+const MISFITS: usize = 39_245;
+
+// Rows of the design, 15 numbers each.
+const DESIGN: usize = 42_428;
+
+// The end of the work.
+const WORK: usize = 90_173;
 
 // The state at a second, if there is one.
 pub enum Held {
@@ -75,8 +84,8 @@ fn fly(
     s: &mut [f64],
     base: usize,
 )
-    requires { ⌜ (arc .steps ≤ 5302) × (base + 31818 ≤ length (now s)) × (degree ≤ 180) × (base ≡ frontSize degree) ⌝ }
-    ensures { λ _. ⌜ Orbit (now (s .exit)) base (runOf (attractionOf force (model degree (now (field .entry)) (now (times .entry)) (now (added .entry))) (now (a .entry)) (now (b .entry))) arc p) (arc .steps + 1) × Only 0 (base + 31818) (now (s .entry)) (now (s .exit)) ⌝ }
+    requires { ⌜ (arc .steps ≤ 5302) × (base + runSize ≤ length (now s)) × (degree ≤ 180) × (base ≡ frontSize degree) ⌝ }
+    ensures { λ _. ⌜ Orbit (now (s .exit)) base (runOf (attractionOf force (model degree (now (field .entry)) (now (times .entry)) (now (added .entry))) (now (a .entry)) (now (b .entry))) arc p) (arc .steps + 1) × Only 0 (base + runSize) (now (s .entry)) (now (s .exit)) ⌝ }
 {
     integrate::kernel::run(force, degree, field, a, b, times, added, arc, p, s);
 }
@@ -98,15 +107,15 @@ fn step_of(x: f64) -> usize
 
 // The step of row r's observation.
 fn step_at(s: &[f64], base: usize, r: usize) -> usize
-    requires { ⌜ (r < 3183) × (base + 36062 ≤ length (now s)) ⌝ }
+    requires { ⌜ (r < 3183) × (base + basePart ≤ length (now s)) ⌝ }
     ensures { λ k. ⌜ (k ≡ stepAt (now (s .entry)) base r) × (k ≤ 5302) ⌝ }
 {
-    step_of(s[base + 31818 + 4 * (r / 3)])
+    step_of(s[base + OBSERVED + 4 * (r / 3)])
 }
 
 // The run's coordinate for row r.
 fn run_at(s: &[f64], base: usize, r: usize) -> f64
-    requires { ⌜ (r < 3183) × (base + 36062 ≤ length (now s)) ⌝ }
+    requires { ⌜ (r < 3183) × (base + basePart ≤ length (now s)) ⌝ }
     ensures { λ v. ⌜ v ≡ runAt (now (s .entry)) base r ⌝ }
 {
     let k = step_at(s, base, r);
@@ -115,39 +124,39 @@ fn run_at(s: &[f64], base: usize, r: usize) -> f64
 
 // The observed coordinate of row r.
 fn place_at(s: &[f64], base: usize, r: usize) -> f64
-    requires { ⌜ (r < 3183) × (base + 36062 ≤ length (now s)) ⌝ }
+    requires { ⌜ (r < 3183) × (base + basePart ≤ length (now s)) ⌝ }
     ensures { λ v. ⌜ v ≡ placeAt (now (s .entry)) base r ⌝ }
 {
-    s[base + 31818 + 4 * (r / 3) + 1 + r % 3]
+    s[base + OBSERVED + 4 * (r / 3) + 1 + r % 3]
 }
 
 fn misfits(s: &mut [f64], base: usize, n: usize)
-    requires { ⌜ (n ≤ 1061) × (base + 90173 ≤ length (now s)) ⌝ }
+    requires { ⌜ (n ≤ 1061) × (base + workSize ≤ length (now s)) ⌝ }
     ensures { λ _. ⌜ Measured (now (s .entry)) (now (s .exit)) base (3 * n) ⌝ }
 {
     for r in 0..3 * n {
         let v = place_at(s, base, r) - run_at(s, base, r);
-        s[base + 39245 + r] = v;
+        s[base + MISFITS + r] = v;
     }
 }
 
 fn bases(s: &mut [f64], base: usize, n: usize)
-    requires { ⌜ (n ≤ 1061) × (base + 90173 ≤ length (now s)) ⌝ }
+    requires { ⌜ (n ≤ 1061) × (base + workSize ≤ length (now s)) ⌝ }
     ensures { λ _. ⌜ Based (now (s .entry)) (now (s .exit)) base (3 * n) ⌝ }
 {
     for r in 0..3 * n {
         let v = run_at(s, base, r);
-        s[base + 36062 + r] = v;
+        s[base + BASES + r] = v;
     }
 }
 
 fn column(s: &mut [f64], base: usize, n: usize, i: usize)
-    requires { ⌜ (n ≤ 1061) × (i < 15) × (base + 90173 ≤ length (now s)) ⌝ }
+    requires { ⌜ (n ≤ 1061) × (i < 15) × (base + workSize ≤ length (now s)) ⌝ }
     ensures { λ _. ⌜ Columned (now (s .entry)) (now (s .exit)) base (3 * n) i ⌝ }
 {
     for r in 0..3 * n {
-        let v = run_at(s, base, r) - s[base + 36062 + r];
-        s[base + 42428 + (15 * r + i)] = v;
+        let v = run_at(s, base, r) - s[base + BASES + r];
+        s[base + DESIGN + (15 * r + i)] = v;
     }
 }
 
@@ -225,13 +234,13 @@ fn note(
     base: usize,
     n: usize,
 ) -> usize
-    requires { ⌜ (risingSeconds (now keys) ≡ true) × (length (now states) ≡ 6 * length (now keys)) × (n ≤ c) × (c < 1061) × (base + 90173 ≤ length (now s)) ⌝ }
+    requires { ⌜ (risingSeconds (now keys) ≡ true) × (length (now states) ≡ 6 * length (now keys)) × (n ≤ c) × (c < 1061) × (base + workSize ≤ length (now s)) ⌝ }
     ensures { λ r. ⌜ Noted (now (s .entry)) (now (s .exit)) base n (seen (5 * c) (stateFor (now (keys .entry)) (now (states .entry)) (stepTime t0 (5 * c)))) r ⌝ }
 {
     let held = state_for(keys, states, integrate::kernel::time(t0, 5 * c));
     match held {
         Held::Known(state) => {
-            put_observed(s, base + 31818 + 4 * n, 5 * c, state.position);
+            put_observed(s, base + OBSERVED + 4 * n, 5 * c, state.position);
             n + 1
         }
         Held::Missing => n,
@@ -246,7 +255,7 @@ fn observe(
     s: &mut [f64],
     base: usize,
 ) -> usize
-    requires { ⌜ (risingSeconds (now keys) ≡ true) × (length (now states) ≡ 6 * length (now keys)) × (arc .steps ≤ 5302) × (base + 90173 ≤ length (now s)) ⌝ }
+    requires { ⌜ (risingSeconds (now keys) ≡ true) × (length (now states) ≡ 6 * length (now keys)) × (arc .steps ≤ 5302) × (base + workSize ≤ length (now s)) ⌝ }
     ensures { λ r. ⌜ Observing (now (s .entry)) (now (s .exit)) base (observed (stateFor (now (keys .entry)) (now (states .entry))) arc) r ⌝ }
 {
     let mut n: usize = 0;
@@ -271,7 +280,7 @@ fn partial(
     base: usize,
     n: usize,
 )
-    requires { ⌜ (arc .steps ≤ 5302) × (i < 15) × (n ≤ 1061) × (base + 90173 ≤ length (now s)) × (degree ≤ 180) × (base ≡ frontSize degree) ⌝ }
+    requires { ⌜ (arc .steps ≤ 5302) × (i < 15) × (n ≤ 1061) × (base + workSize ≤ length (now s)) × (degree ≤ 180) × (base ≡ frontSize degree) ⌝ }
     ensures { λ _. ⌜ Differentiated (runOf (attractionOf J2 (model degree (now (field .entry)) (now (times .entry)) (now (added .entry))) (now (a .entry)) (now (b .entry))) arc (movedOf p i)) (arc .steps) (now (s .entry)) (now (s .exit)) base (3 * n) i ⌝ }
 {
     let q = moved(p, i);
@@ -304,7 +313,7 @@ fn design(
     base: usize,
     n: usize,
 )
-    requires { ⌜ (arc .steps ≤ 5302) × (n ≤ 1061) × (base + 90173 ≤ length (now s)) × (degree ≤ 180) × (base ≡ frontSize degree) ⌝ }
+    requires { ⌜ (arc .steps ≤ 5302) × (n ≤ 1061) × (base + workSize ≤ length (now s)) × (degree ≤ 180) × (base ≡ frontSize degree) ⌝ }
     ensures { λ _. ⌜ Designed (λ (i : ℕ). runOf (attractionOf J2 (model degree (now (field .entry)) (now (times .entry)) (now (added .entry))) (now (a .entry)) (now (b .entry))) arc (movedOf p i)) (arc .steps) (now (s .entry)) (now (s .exit)) base (3 * n) 15 ⌝ }
 {
     for i in 0..15usize {
@@ -326,7 +335,7 @@ fn linearise(
     base: usize,
     n: usize,
 )
-    requires { ⌜ (arc .steps ≤ 5302) × (n ≤ 1061) × (base + 90173 ≤ length (now s)) × (degree ≤ 180) × (base ≡ frontSize degree) ⌝ }
+    requires { ⌜ (arc .steps ≤ 5302) × (n ≤ 1061) × (base + workSize ≤ length (now s)) × (degree ≤ 180) × (base ≡ frontSize degree) ⌝ }
     ensures { λ _. ⌜ Linearised (runOf (attractionOf Full (model degree (now (field .entry)) (now (times .entry)) (now (added .entry))) (now (a .entry)) (now (b .entry))) arc p) (runOf (attractionOf J2 (model degree (now (field .entry)) (now (times .entry)) (now (added .entry))) (now (a .entry)) (now (b .entry))) arc p) (λ (i : ℕ). runOf (attractionOf J2 (model degree (now (field .entry)) (now (times .entry)) (now (added .entry))) (now (a .entry)) (now (b .entry))) arc (movedOf p i)) (arc .steps) (now (s .entry)) (now (s .exit)) base (3 * n) ⌝ }
 {
     fly(
@@ -374,12 +383,12 @@ fn round(
     base: usize,
     n: usize,
 ) -> least_squares::kernel::Estimate
-    requires { ⌜ (arc .steps ≤ 5302) × (n ≤ 1061) × (base + 90173 ≤ length (now s)) × (degree ≤ 180) × (base ≡ frontSize degree) ⌝ }
+    requires { ⌜ (arc .steps ≤ 5302) × (n ≤ 1061) × (base + workSize ≤ length (now s)) × (degree ≤ 180) × (base ≡ frontSize degree) ⌝ }
     ensures { λ r. ⌜ Rounded (fullForce (model degree (now (field .entry)) (now (times .entry)) (now (added .entry))) (now (a .entry)) (now (b .entry))) arc p (now (s .entry)) (now (s .exit)) base n r ⌝ }
 {
     linearise(degree, field, a, b, times, added, arc, p, s, base, n);
-    let d = base + 42428;
-    let m = base + 39245;
+    let d = base + DESIGN;
+    let m = base + MISFITS;
     let e = least_squares::kernel::fifteen(&s[d..d + 45 * n], &s[m..m + 3 * n]);
     let beta = e.beta;
     let q = updated(p, beta);
@@ -414,7 +423,7 @@ fn finish(
     base: usize,
     n: usize,
 ) -> f64
-    requires { ⌜ (arc .steps ≤ 5302) × (n ≤ 1061) × (base + 90173 ≤ length (now s)) × (degree ≤ 180) × (base ≡ frontSize degree) ⌝ }
+    requires { ⌜ (arc .steps ≤ 5302) × (n ≤ 1061) × (base + workSize ≤ length (now s)) × (degree ≤ 180) × (base ≡ frontSize degree) ⌝ }
     ensures { λ r. ⌜ Finished (fullForce (model degree (now (field .entry)) (now (times .entry)) (now (added .entry))) (now (a .entry)) (now (b .entry))) arc p (now (s .entry)) (now (s .exit)) base n r ⌝ }
 {
     fly(
@@ -431,7 +440,7 @@ fn finish(
         base,
     );
     misfits(s, base, n);
-    let m = base + 39245;
+    let m = base + MISFITS;
     rms(&s[m..m + 3 * n])
 }
 
@@ -449,7 +458,7 @@ fn fit_from(
     base: usize,
     n: usize,
 ) -> Fitted
-    requires { ⌜ (arc .steps ≤ 5302) × (n ≤ 1061) × (base + 90173 ≤ length (now s)) × (degree ≤ 180) × (base ≡ frontSize degree) ⌝ }
+    requires { ⌜ (arc .steps ≤ 5302) × (n ≤ 1061) × (base + workSize ≤ length (now s)) × (degree ≤ 180) × (base ≡ frontSize degree) ⌝ }
     ensures { λ r. ⌜ FitFrom (fullForce (model degree (now (field .entry)) (now (times .entry)) (now (added .entry))) (now (a .entry)) (now (b .entry))) arc state (now (s .entry)) (now (s .exit)) base n r ⌝ }
 {
     let first = round(
@@ -492,7 +501,7 @@ fn fit_within(
     s: &mut [f64],
     base: usize,
 ) -> Fitted
-    requires { ⌜ (risingSeconds (now keys) ≡ true) × (length (now states) ≡ 6 * length (now keys)) × (arc .steps ≤ 5302) × (base + 90173 ≤ length (now s)) × (degree ≤ 180) × (base ≡ frontSize degree) ⌝ }
+    requires { ⌜ (risingSeconds (now keys) ≡ true) × (length (now states) ≡ 6 * length (now keys)) × (arc .steps ≤ 5302) × (base + workSize ≤ length (now s)) × (degree ≤ 180) × (base ≡ frontSize degree) ⌝ }
     ensures { λ r. ⌜ Fits (covers (now (times .entry))) (fullForce (model degree (now (field .entry)) (now (times .entry)) (now (added .entry))) (now (a .entry)) (now (b .entry))) (stateFor (now (keys .entry)) (now (states .entry))) arc (now (s .entry)) (now (s .exit)) base r ⌝ }
 {
     if !model::kernel::covers(times, arc.t0) {
@@ -526,7 +535,7 @@ fn arc_fits(degree: usize, steps: usize, keys: &[i64], states: usize, room: usiz
         return false;
     }
     let base = lent::front_size(degree);
-    if base + 90173 > room {
+    if base + WORK > room {
         return false;
     }
     slices::rising_keys(keys)

@@ -10,6 +10,7 @@ ghost use Rattle.slices.specs.Slices.{copied};
 ghost use Rattle.lent.specs.Lent.{frontSize};
 ghost use Rattle.fit.specs.Calls.{refusal as refusalOf, fitCall};
 ghost use Rattle.fit.specs.Handing.{Handed};
+ghost use Rattle.integrate.specs.Room.{runSize};
 
 fn refusal(
     degree: usize,
@@ -57,7 +58,7 @@ fn hand_out(
     out: &mut [f64],
     scratch: &mut [f64],
 ) -> kernel::Fitted
-    requires { ⌜ (degree ≤ 180) × (steps ≤ 5302) × (frontSize degree + 31818 ≤ length (now scratch)) × (length (now out) ≡ 6 * (steps + 1)) ⌝ }
+    requires { ⌜ (degree ≤ 180) × (steps ≤ 5302) × (frontSize degree + runSize ≤ length (now scratch)) × (length (now out) ≡ 6 * (steps + 1)) ⌝ }
     ensures { λ r. ⌜ Handed x (take (6 * (steps + 1)) (drop (frontSize degree) (now (scratch .entry)))) (now (out .entry)) (now (scratch .entry)) r (now (out .exit)) (now (scratch .exit)) ⌝ }
 {
     let base = lent::front_size(degree);

@@ -27,6 +27,7 @@ use Rattle.sighting.specs.declared.StateFound.{StateFound}
 use Rattle.sighting.specs.declared.NumberFound.{NumberFound}
 use Rattle.sighting.specs.declared.Sighting.{Sighting}
 use Rattle.gather.specs.Gather.{Given, Stand, foundOf, Found}
+use Rattle.lent.specs.Lent.{windowRoom, slotRoom, fitRoom}
 
 -- ---- the whole second of a time is a key
 
@@ -60,10 +61,10 @@ module _ (first windows : ℕ) (accC accD : Keyed) (s : List Float) (t : Float) 
   state-found at h x l e tm c st =
       e ∙ ap foundOf (l .is c (ap isKey ek ∙ key-second t tm) st) ∙ held-found (find k (joined c windows)) ∙ ap (λ (k : ℤ). givenState (find k (joined c windows))) ek
 
-  pub found : (h₁ h₂ : Held) (x y : StateFound) (p q : NumberFound) (r : Sighting) → Looked s first windows k h₁ → x ≡ foundOf h₁ → Looked s (first + 24600) windows k h₂ → y ≡ foundOf h₂ →
+  pub found : (h₁ h₂ : Held) (x y : StateFound) (p q : NumberFound) (r : Sighting) → Looked s first windows k h₁ → x ≡ foundOf h₁ → Looked s (first + slotRoom) windows k h₂ → y ≡ foundOf h₂ →
       p ≡ givenNumber (find k (numbers accC)) → q ≡ givenNumber (find k (numbers accD)) → r ≡ sightingFrom x y p q → Found first windows accC accD s t r
   found h₁ h₂ x y p q r l₁ e₁ l₂ e₂ ep eq er = record {
-    is = λ tm c d sc sd. er ∙ (λ i. sightingFrom (state-found first h₁ x l₁ e₁ tm c sc i) (state-found (first + 24600) h₂ y l₂ e₂ tm d sd i)
+    is = λ tm c d sc sd. er ∙ (λ i. sightingFrom (state-found first h₁ x l₁ e₁ tm c sc i) (state-found (first + slotRoom) h₂ y l₂ e₂ tm d sd i)
         ((ep ∙ ap (λ (k : ℤ). givenNumber (find k (numbers accC))) ek) i) ((eq ∙ ap (λ (k : ℤ). givenNumber (find k (numbers accD))) ek) i));
   }
 
@@ -72,7 +73,7 @@ module _ (first windows : ℕ) (accC accD : Keyed) (s : List Float) (t : Float) 
 shelved-stays : (base first : ℕ) (s s' : List Float) (c : ℕ → Table State) (windows : ℕ) → base ≤ first → Only 0 base s s' → Shelved s first c windows → Shelved s' first c windows
 shelved-stays base first s s' c windows h o st = record {
   room = omega (arith, st .room, o .long);
-  slots = λ w l. slot-same (first + 49200 * w) s s' (c w) (st .orderly w l .few) (λ k p q. o .same k (λ a b. omega arith)) (st .slots w l);
+  slots = λ w l. slot-same (first + windowRoom * w) s s' (c w) (st .orderly w l .few) (λ k p q. o .same k (λ a b. omega arith)) (st .slots w l);
   orderly = st .orderly;
 }
 
@@ -83,9 +84,9 @@ stand-stays g base s s' c d o st = record {
 }
 
 -- the first slots, as the code has them
-pub stand-found : (g : Given) (base : ℕ) (s : List Float) (t : Float) (r : Sighting) (c d : ℕ → Table State) → Found (base + 150000) (g .windows) (g .accC) (g .accD) s t r → isTime t ≡ true → Stand g base s c d →
+pub stand-found : (g : Given) (base : ℕ) (s : List Float) (t : Float) (r : Sighting) (c d : ℕ → Table State) → Found (base + fitRoom) (g .windows) (g .accC) (g .accD) s t r → isTime t ≡ true → Stand g base s c d →
     r ≡ sightingFrom (givenState (find (wholeSecond t) (joined c (g .windows)))) (givenState (find (wholeSecond t) (joined d (g .windows)))) (givenNumber (find (wholeSecond t) (numbers (g .accC)))) (givenNumber (find (wholeSecond t) (numbers (g .accD))))
 stand-found g base s t r c d f tm st =
-    let ec : slotAt base 0 0 ≡ base + 150000 = omega arith in
-    let ed : slotAt base 1 0 ≡ base + 150000 + 24600 = omega arith in
+    let ec : slotAt base 0 0 ≡ base + fitRoom = omega arith in
+    let ed : slotAt base 1 0 ≡ base + fitRoom + slotRoom = omega arith in
     f .is tm c d (subst (λ (at : ℕ). Shelved s at c (g .windows)) ec (st .ofC)) (subst (λ (at : ℕ). Shelved s at d (g .windows)) ed (st .ofD))

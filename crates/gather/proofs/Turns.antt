@@ -24,6 +24,7 @@ use Rattle.sighting.specs.declared.Made.{Made}
 use Rattle.sighting.proofs.Kept.{seen, keptUpTo, kept-more, kept-few, kept-all, kept-none, set-more}
 use Rattle.gather.specs.Gather.{Given, epochIn, Stand, Listed, Found, Added, Able, SoFar, Done}
 use Rattle.gather.proofs.Looks.{time-at, stand-stays, stand-found}
+use Rattle.lent.specs.Lent.{fitRoom}
 
 -- ---- what was made is stored
 
@@ -69,7 +70,7 @@ room-left g base i count ts rs s a h k = (omega (arith, a .outtimes), omega (ari
 
 module _ (g : Given) (base i count : ℕ) (ts rs s : List Float) (hi : i < length (g .times)) (t v : Float) (byte : ℕ)
     (et : t ≡ getD (g .times) i nan) (ev : v ≡ getD (g .values) i nan) (eb : byte ≡ getD (g .good) i 0)
-    (r : Sighting) (f : Found (base + 150000) (g .windows) (g .accC) (g .accD) s t r) (made : Made) (s' : List Float)
+    (r : Sighting) (f : Found (base + fitRoom) (g .windows) (g .accC) (g .accD) s t r) (made : Made) (s' : List Float)
     (tried : Tried (g .model) (g .a) (g .b) (observation t v byte) base r s s' made) (room : base ≤ length s) where
   abbrev observed : Observation
   observed = seen (g .times) (g .values) (g .good) i

@@ -9,7 +9,7 @@ use lib.Dec.{leb, eqb}
 use lib.IntN.{ℤ}
 use lib.Ieee.{Float}
 use lib.ListN.{length, take, set}
-use Rattle.lent.specs.Lent.{frontSize}
+use Rattle.lent.specs.Lent.{slotRoom, frontSize}
 use Rattle.laws.specs.Checks.{all, isTime, risingSeconds}
 use Rattle.numbers.specs.Seconds.{wholeSecond}
 use Rattle.finality.specs.Tables.{Table, find}
@@ -85,7 +85,7 @@ foundOf Missing = givenState none
 
 -- both satellites' states and accelerometer values at the whole part of a time; C's first slot stands at a place, D's behind it
 pub record Found (first windows : ℕ) (accC accD : Keyed) (s : List Float) (t : Float) (r : Sighting) : Type 0 where
-  pub is : isTime t ≡ true → (c d : ℕ → Table State) → Shelved s first c windows → Shelved s (first + 24600) d windows →
+  pub is : isTime t ≡ true → (c d : ℕ → Table State) → Shelved s first c windows → Shelved s (first + slotRoom) d windows →
       r ≡ sightingOf (find (wholeSecond t) (joined c windows)) (find (wholeSecond t) (joined d windows)) (find (wholeSecond t) (numbers accC)) (find (wholeSecond t) (numbers accD))
 
 -- what was made is stored and counted, where it is kept

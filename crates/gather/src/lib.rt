@@ -36,7 +36,7 @@ fn look(
 {
     let second = numbers::whole_second(numbers::GpsTime(t));
     let c = state_of(shelf::held(s, first, windows, second));
-    let d = state_of(shelf::held(s, first + 24600, windows, second));
+    let d = state_of(shelf::held(s, first + lent::SLOT_ROOM, windows, second));
     let axc = sighting::number_at(cacckeys, caccs, second);
     let axd = sighting::number_at(dacckeys, daccs, second);
     sighting::sighted(c, d, axc, axd)
@@ -87,7 +87,7 @@ fn turn(
     let byte = good[i];
     let found = look(
         &s[..],
-        base + 150000,
+        base + lent::FIT_ROOM,
         windows,
         cacckeys,
         caccs,

@@ -20,12 +20,12 @@ use Rattle.slices.specs.declared.Outcome.{Outcome}
 use Rattle.slices.specs.declared.Outcome.the-variants.{Accepted, Refused}
 use Rattle.slices.proofs.Calls.{call-refused, call-handed}
 use Rattle.slices.proofs.Laws.{copied-all}
-use Rattle.lent.specs.Lent.{fieldsFine, lengthsFit, modelFine, frontSize, Front}
+use Rattle.lent.specs.Lent.{fitRoom, fieldsFine, lengthsFit, modelFine, frontSize, Front}
 use Rattle.lent.proofs.Passed.{all-pass, degree-passes, lengths-room}
 use Rattle.integrate.specs.declared.kernel.Arc.{Arc}
 use Rattle.integrate.specs.declared.kernel.State.{State}
 use Rattle.integrate.specs.declared.kernel.Force.{Force}
-use Rattle.integrate.specs.Room.{Run, Orbit, six, flat}
+use Rattle.integrate.specs.Room.{runSize, Run, Orbit, six, flat}
 use Rattle.integrate.specs.Force.{model, attractionOf, runOf, runFits}
 use Rattle.integrate.specs.Work.{Ran, Listed}
 use Rattle.integrate.specs.Calls.{isStart, outFits, arcFits, refusal, integrateCall}
@@ -55,7 +55,7 @@ arc-is arc s n f t r es en et ef er = simp (er, et, es, en, ef)
 pub record Passed (N : ℕ) (arc : Arc) (out scratch : ℕ) : Type 0 where
   pub degree : N ≤ 180
   pub few : arc .steps ≤ 5302
-  pub room : frontSize N + 150000 ≤ scratch
+  pub room : frontSize N + fitRoom ≤ scratch
   pub each : out ≡ 6 * (arc .steps + 1)
 
 pub passes : (N : ℕ) (field a b ts fs : List Float) (arc : Arc) (p : List Float) (out scratch : ℕ) → refusal N field a b ts fs arc p out scratch ≡ 0 → Passed N arc out scratch
@@ -107,16 +107,16 @@ flat-part w at run (suc n) o h =
     ∙ take-add (6 * n) 6 (drop at w)
     ∙ (λ i. flat-part w at run n less (omega arith) i ++ (ap (take 6) (drop-drop (6 * n) at w) ∙ six-part w at run n o h) i)
 
-pub ran-long : (N steps : ℕ) (w w' : List Float) (run : Run) → N ≤ 180 → steps ≤ 5302 → frontSize N + 31818 ≤ length w → Ran (runFits N steps (length w)) w w' (frontSize N) steps run → length w' ≡ length w
+pub ran-long : (N steps : ℕ) (w w' : List Float) (run : Run) → N ≤ 180 → steps ≤ 5302 → frontSize N + runSize ≤ length w → Ran (runFits N steps (length w)) w w' (frontSize N) steps run → length w' ≡ length w
 unfolding runFits
-ran-long N steps w w' run h k l r = r .flown (simp (le-leb N 180 h, le-leb steps 5302 k, le-leb (frontSize N + 31818) (length w) l)) .only .long
+ran-long N steps w w' run h k l r = r .flown (simp (le-leb N 180 h, le-leb steps 5302 k, le-leb (frontSize N + runSize) (length w) l)) .only .long
 
-pub states-are : (N steps base : ℕ) (w w' out out' : List Float) (run : Run) → N ≤ 180 → steps ≤ 5302 → frontSize N + 31818 ≤ length w → length out ≡ 6 * (steps + 1) →
+pub states-are : (N steps base : ℕ) (w w' out out' : List Float) (run : Run) → N ≤ 180 → steps ≤ 5302 → frontSize N + runSize ≤ length w → length out ≡ 6 * (steps + 1) →
     Ran (runFits N steps (length w)) w w' (frontSize N) steps run → Front N base →
     out' ≡ copied (take (base + 6 * (steps + 1) - base) (drop base w')) out → Listed run (steps + 1) out' w w'
 unfolding runFits
 states-are N steps base w w' out out' run h k l q r e c =
-    let f = r .flown (simp (le-leb N 180 h, le-leb steps 5302 k, le-leb (frontSize N + 31818) (length w) l)) in
+    let f = r .flown (simp (le-leb N 180 h, le-leb steps 5302 k, le-leb (frontSize N + runSize) (length w) l)) in
     let eb : base ≡ frontSize N = e .0 h in
     let z : base + 6 * (steps + 1) - base ≡ 6 * (steps + 1) = omega arith in
     let long : length w' ≡ length w = f .only .long in

@@ -33,7 +33,7 @@ use Rattle.series.specs.Prepared.{prepared}
 use Rattle.forces.specs.Forces.{gravityWith}
 use Rattle.integrate.specs.Steps.{Acceleration, alongOf, weighedOf, stepOf, stateAt}
 use Rattle.integrate.specs.Force.{Model, model, frontAt, fullForce, attractionOf, argumentOf, accelerationOf, strengthsOf, runOf, runFits}
-use Rattle.integrate.specs.Room.{stateIn, Run, Only, Holds3, Orbit}
+use Rattle.integrate.specs.Room.{runSize, stateIn, Run, Only, Holds3, Orbit}
 use Rattle.integrate.specs.Work.{Ready, ReadyFor, Refreshed, Pulled, Pushed, Moved, Stored, Advanced, Begun, Flown, Fitting, Ran}
 use Rattle.integrate.proofs.Places.{only-same, only-then, orbit-first}
 use Rattle.integrate.proofs.Front.{at-length, at-again, prepared-length, front-length, put-front, put-only, take-only}
@@ -186,7 +186,7 @@ ready-kept : (M : Model) (a e : ℕ) (w w' : List Float) (known : Instant) → O
 ready-kept M a e w w' known o h l r = record { front = take-only (frontSize (M .degree)) a e w w' o h l ∙ r .front; sky = r .sky }
 
 pub advanced : (force : Force) (M : Model) (w w1 w2 : List Float) (base k : ℕ) (known : Instant) (a : Acceleration) (t0 t : Float) (s : State) (r : Stepped) →
-    k < 5302 → base ≡ frontSize (M .degree) → base + 31818 ≤ length w → t ≡ stepTime t0 k → Moved force M w w1 known (stepOf a t s) r → Stored w1 w2 (base + 6 * (k + 1)) (r .state) →
+    k < 5302 → base ≡ frontSize (M .degree) → base + runSize ≤ length w → t ≡ stepTime t0 k → Moved force M w w1 known (stepOf a t s) r → Stored w1 w2 (base + 6 * (k + 1)) (r .state) →
     Advanced force M w w2 base k known (stepOf a (stepTime t0 k) s) r
 advanced force M w w1 w2 base k known a t0 t s r lk eb lw et m p =
     record {
@@ -195,7 +195,7 @@ advanced force M w w1 w2 base k known a t0 t s r lk eb lw et m p =
       position = p .position (omega (arith, m .only .long));
       velocity = p .velocity (omega (arith, m .only .long));
       states = λ i l h. p .only .same i (λ q z. omega arith) ∙ m .only .same i (λ q z. omega arith);
-      only = only-then 0 (base + 31818) 0 (frontSize (M .degree)) (base + 6 * (k + 1)) (base + 6 * (k + 1) + 6) w w1 w2 (m .only) (p .only) (omega arith) (omega arith) (omega arith) (omega arith);
+      only = only-then 0 (base + runSize) 0 (frontSize (M .degree)) (base + 6 * (k + 1)) (base + 6 * (k + 1) + 6) w w1 w2 (m .only) (p .only) (omega arith) (omega arith) (omega arith) (omega arith);
     }
 
 module _ (force : Force) (M : Model) (w w' : List Float) where
@@ -213,12 +213,12 @@ holds-kept : (w w' : List Float) (at : ℕ) (v : Vector) → ((i : ℕ) → at �
 holds-kept w w' at v f h = record { x = f at (omega arith) (omega arith) ∙ h .x; y = f (at + 1) (omega arith) (omega arith) ∙ h .y; z = f (at + 2) (omega arith) (omega arith) ∙ h .z }
 
 pub flown-first : (force : Force) (M : Model) (w w1 w2 : List Float) (base : ℕ) (known : Instant) (a : Acceleration) (t0 : Float) (start : State) →
-    base ≡ frontSize (M .degree) → base + 31818 ≤ length w → Begun force M w w1 known → Stored w1 w2 base start →
-    Orbit w2 base (stateAt a t0 start) 1 × Only 0 (base + 31818) w w2 × ReadyFor force M w2 known
+    base ≡ frontSize (M .degree) → base + runSize ≤ length w → Begun force M w w1 known → Stored w1 w2 base start →
+    Orbit w2 base (stateAt a t0 start) 1 × Only 0 (base + runSize) w w2 × ReadyFor force M w2 known
 unfolding stateAt
 flown-first force M w w1 w2 base known a t0 start eb lw g p = (
   orbit-first w1 w2 base (stateAt a t0 start) start (omega (arith, g .only .long)) p refl,
-  only-then 0 (base + 31818) 0 (frontSize (M .degree)) base (base + 6) w w1 w2 (g .only) (p .only) (omega arith) (omega arith) (omega arith) (omega arith),
+  only-then 0 (base + runSize) 0 (frontSize (M .degree)) base (base + 6) w w1 w2 (g .only) (p .only) (omega arith) (omega arith) (omega arith) (omega arith),
   λ f. ready-kept M base (base + 6) w1 w2 known (p .only) (omega arith) (omega (arith, g .only .long)) (g .ready f),
 )
 
@@ -253,13 +253,13 @@ pub fits-steps : (N steps room : ℕ) → N ≤ 180 → 5302 < steps → Fitting
 unfolding runFits
 fits-steps N steps room g h = record { says = simp (le-leb N 180 g, lt-leb steps 5302 h); degree = λ e. absurd (false≢true e); few = λ e. absurd (false≢true e); enough = λ e. absurd (false≢true e) }
 
-pub fits-room : (N steps room base : ℕ) → N ≤ 180 → steps ≤ 5302 → base ≡ frontSize N → Fitting N steps room (leb (base + 31818) room)
+pub fits-room : (N steps room base : ℕ) → N ≤ 180 → steps ≤ 5302 → base ≡ frontSize N → Fitting N steps room (leb (base + runSize) room)
 unfolding runFits
 fits-room N steps room base g h e = record {
   says = simp (le-leb N 180 g, le-leb steps 5302 h, e);
   degree = λ _. g;
   few = λ _. h;
-  enough = λ q. subst (λ (n : ℕ). n + 31818 ≤ room) e (leb-true (base + 31818) room q);
+  enough = λ q. subst (λ (n : ℕ). n + runSize ≤ room) e (leb-true (base + runSize) room q);
 }
 
 module _ (force : Force) (N : ℕ) (field ts fs a b p w w' : List Float) (arc : Arc) (base : ℕ) (t : Bool) (g : Fitting N (arc .steps) (length w) t) where

@@ -18,7 +18,7 @@ use Rattle.model.specs.Calls.{atLeft}
 use Rattle.series.specs.Prepared.{prepared}
 use Rattle.forces.specs.Forces.{gravityWith}
 use Rattle.integrate.specs.Steps.{Acceleration, stateAt}
-use Rattle.integrate.specs.Room.{Run, stateIn}
+use Rattle.integrate.specs.Room.{runSize, Run, stateIn}
 use Rattle.integrate.specs.declared.kernel.Arc.{Arc}
 use Rattle.integrate.specs.declared.kernel.Force.{Force}
 use Rattle.integrate.specs.declared.kernel.Force.the-variants.{Full, J2}
@@ -67,4 +67,4 @@ runOf pull arc p = stateAt (accelerationOf pull arc (strengthsOf p)) (arc .t0) (
 
 -- the degree and the steps are within their bounds, and there is room for the states behind the numbers before them
 unfoldable pub runFits : ℕ → ℕ → ℕ → Bool
-runFits N steps room = leb N 180 && leb steps 5302 && leb (frontSize N + 31818) room
+runFits N steps room = leb N 180 && leb steps 5302 && leb (frontSize N + runSize) room

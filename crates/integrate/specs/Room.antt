@@ -7,6 +7,10 @@ use lib.ListN.{length, getD}
 use Rattle.vectors.specs.declared.Vector.{Vector}
 use Rattle.integrate.specs.declared.kernel.State.{State}
 
+-- the numbers of the longest run: 5,303 states
+abbrev pub runSize : ℕ
+runSize = 6 * 5303
+
 -- six numbers of a list
 unfoldable pub stateIn : List Float → ℕ → State
 stateIn l i = record {

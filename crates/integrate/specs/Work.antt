@@ -16,7 +16,7 @@ use Rattle.integrate.specs.declared.kernel.Force.{Force}
 use Rattle.integrate.specs.declared.kernel.Force.the-variants.{Full}
 use Rattle.integrate.specs.Steps.{Acceleration, stepOf}
 use Rattle.integrate.specs.Force.{Model, frontAt, fullForce, runFits}
-use Rattle.integrate.specs.Room.{Run, Only, Holds3, Orbit, flat}
+use Rattle.integrate.specs.Room.{runSize, Run, Only, Holds3, Orbit, flat}
 
 -- the numbers before the states are those of an instant, and so are Sun, Moon and tide
 pub record Ready (M : Model) (w : List Float) (known : Instant) : Type 0 where
@@ -69,7 +69,7 @@ pub record Advanced (force : Force) (M : Model) (w w' : List Float) (base k : �
   pub position : Holds3 w' (base + 6 * (k + 1)) (r .state .position)
   pub velocity : Holds3 w' (base + 6 * (k + 1) + 3) (r .state .velocity)
   pub states : (i : ℕ) → base ≤ i → i < base + 6 * (k + 1) → getD w' i nan ≡ getD w i nan
-  pub only : Only 0 (base + 31818) w w'
+  pub only : Only 0 (base + runSize) w w'
 
 -- the first instant of a run
 pub record Begun (force : Force) (M : Model) (w w' : List Float) (r : Instant) : Type 0 where
@@ -79,14 +79,14 @@ pub record Begun (force : Force) (M : Model) (w w' : List Float) (r : Instant) :
 -- a run of so many steps
 pub record Flown (w w' : List Float) (base steps : ℕ) (run : Run) : Type 0 where
   pub states : Orbit w' base run (steps + 1)
-  pub only : Only 0 (base + 31818) w w'
+  pub only : Only 0 (base + runSize) w w'
 
 -- the guard's answer, and what holds where it is true
 pub record Fitting (N steps room : ℕ) (r : Bool) : Type 0 where
   pub says : r ≡ runFits N steps room
   pub degree : r ≡ true → N ≤ 180
   pub few : r ≡ true → steps ≤ 5302
-  pub enough : r ≡ true → frontSize N + 31818 ≤ room
+  pub enough : r ≡ true → frontSize N + runSize ≤ room
 
 -- a run where it fits, and nothing otherwise
 pub record Ran (fits : Bool) (w w' : List Float) (base steps : ℕ) (run : Run) : Type 0 where

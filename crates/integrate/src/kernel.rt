@@ -13,7 +13,7 @@ ghost use Rattle.series.specs.Prepared.{prepared};
 ghost use Rattle.integrate.specs.Steps.{alongOf, weighedOf, stepOf, stateAt};
 ghost use Rattle.lent.specs.Lent.{frontSize};
 ghost use Rattle.integrate.specs.Force.{model, attractionOf, argumentOf, accelerationOf, strengthsOf, runOf, runFits};
-ghost use Rattle.integrate.specs.Room.{stateIn, Only};
+ghost use Rattle.integrate.specs.Room.{runSize, stateIn, Only};
 ghost use Rattle.integrate.specs.Work.{Ready, Refreshed, Pulled, Pushed, Moved, Placed, Stored, Advanced, Begun, Flown, Fitting, Ran};
 
 pub struct State {
@@ -54,6 +54,9 @@ pub struct Stepped {
 const PI: f64 = 3.141592653589793;
 
 const STEP: f64 = 2.0;
+
+// The states of the longest run, six numbers each.
+const RUN_SIZE: usize = 31_818;
 
 // An element, NaN past the end.
 pub fn element(s: &[f64], i: usize) -> f64
@@ -444,7 +447,7 @@ fn advance(
     base: usize,
     w: &mut [f64],
 ) -> Stepped
-    requires { ⌜ (k < 5302) × (base ≡ frontSize degree) × (base ≤ 131768) × (base + 31818 ≤ length (now w)) ⌝ }
+    requires { ⌜ (k < 5302) × (base ≡ frontSize degree) × (base ≤ 131768) × (base + runSize ≤ length (now w)) ⌝ }
     ensures { λ r. ⌜ Advanced force (model degree (now (field .entry)) (now (times .entry)) (now (added .entry))) (now (w .entry)) (now (w .exit)) base k known (stepOf (accelerationOf (attractionOf force (model degree (now (field .entry)) (now (times .entry)) (now (added .entry))) (now (a .entry)) (now (b .entry))) arc e) (stepTime (arc .t0) k) s) r ⌝ }
 {
     let t = time(arc.t0, k);
@@ -506,7 +509,7 @@ fn run_from(
     base: usize,
     w: &mut [f64],
 )
-    requires { ⌜ (arc .steps ≤ 5302) × (base ≡ frontSize degree) × (base ≤ 131768) × (base + 31818 ≤ length (now w)) ⌝ }
+    requires { ⌜ (arc .steps ≤ 5302) × (base ≡ frontSize degree) × (base ≤ 131768) × (base + runSize ≤ length (now w)) ⌝ }
     ensures { λ _. ⌜ Flown (now (w .entry)) (now (w .exit)) base (arc .steps) (stateAt (accelerationOf (attractionOf force (model degree (now (field .entry)) (now (times .entry)) (now (added .entry))) (now (a .entry)) (now (b .entry))) arc e) (arc .t0) start) ⌝ }
 {
     let mut known = begin(force, degree, field, times, added, arc.t0, base, w);
@@ -560,7 +563,7 @@ fn run_fits(degree: usize, steps: usize, room: usize) -> bool
     if steps > 5302 {
         return false;
     }
-    base_of(degree) + 31818 <= room
+    base_of(degree) + RUN_SIZE <= room
 }
 
 // The states of a run from the first six parameters, behind the numbers before them; nothing is done where they do not fit.

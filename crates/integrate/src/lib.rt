@@ -9,6 +9,7 @@ ghost use Rattle.slices.specs.Calls.{left};
 ghost use Rattle.integrate.specs.Work.{Listed};
 ghost use Rattle.lent.specs.Lent.{frontSize};
 ghost use Rattle.integrate.specs.Force.{model, attractionOf, runOf};
+ghost use Rattle.integrate.specs.Room.{runSize};
 ghost use Rattle.integrate.specs.Calls.{isStart, outFits, arcFits, refusal as refusalOf, integrateCall};
 
 // From −2^31 to 2^31, both included.
@@ -91,7 +92,7 @@ fn states_of(
     out: &mut [f64],
     scratch: &mut [f64],
 )
-    requires { ⌜ (degree ≤ 180) × (arc .steps ≤ 5302) × (frontSize degree + 31818 ≤ length (now scratch)) × (length (now out) ≡ 6 * (arc .steps + 1)) ⌝ }
+    requires { ⌜ (degree ≤ 180) × (arc .steps ≤ 5302) × (frontSize degree + runSize ≤ length (now scratch)) × (length (now out) ≡ 6 * (arc .steps + 1)) ⌝ }
     ensures { λ _. ⌜ Listed (runOf (attractionOf force (model degree (now (field .entry)) (now (times .entry)) (now (added .entry))) (now (a .entry)) (now (b .entry))) arc p) (arc .steps + 1) (now (out .exit)) (now (scratch .entry)) (now (scratch .exit)) ⌝ }
 {
     kernel::run(force, degree, field, a, b, times, added, arc, p, scratch);

@@ -12,7 +12,7 @@ use borrow.Author.Tests.{leb-true, le-leb, lt-leb, eqb-true}
 use Rattle.laws.specs.Checks.{rising, risingSeconds, degreeFine}
 use Rattle.laws.specs.Bools.{both-true}
 use Rattle.slices.proofs.Calls.{cond-passes}
-use Rattle.lent.specs.Lent.{kind, fieldSize, few, firstOf, countsFine, modelFits, statesFit, leastScratch, scratchFits, lengthsFit, wholeScratchFits, rise}
+use Rattle.lent.specs.Lent.{windowRoom, fitRoom, kind, fieldSize, few, firstOf, countsFine, modelFits, statesFit, leastScratch, scratchFits, lengthsFit, wholeScratchFits, rise}
 
 -- all of five tests
 pub record AllPass (d k n v o : Bool) : Type 0 where
@@ -110,7 +110,7 @@ unfolding lengthsFit
 lengths-pass N fields field added a b scratch h =
     model-passes N fields field added a b (both-true (modelFits N fields field added a b) (scratchFits N fields 0 scratch) h .0)
 
-pub lengths-room : (N fields field added a b scratch : ℕ) → lengthsFit N fields field added a b scratch ≡ true → 8 * kind N + 150000 ≤ scratch
+pub lengths-room : (N fields field added a b scratch : ℕ) → lengthsFit N fields field added a b scratch ≡ true → 8 * kind N + fitRoom ≤ scratch
 unfolding lengthsFit
 lengths-room N fields field added a b scratch h =
     omega (arith, scratch-passes N fields 0 scratch (both-true (modelFits N fields field added a b) (scratchFits N fields 0 scratch) h .1))
@@ -175,6 +175,6 @@ module _ (N fields nodes count scratch : ℕ) where
   unfolding wholeScratchFits
   whole-count h k n l = rw (le-leb N 180 h, le-leb fields 32 k, le-leb nodes 64 n, lt-leb count 100000 l)
 
-  pub whole-within : (r : ℕ) → N ≤ 180 → fields ≤ 32 → nodes ≤ 64 → count ≤ 100000 → r ≡ leastScratch N fields count + 49200 * (nodes - 1) → leb r scratch ≡ wholeScratchFits N fields nodes count scratch
+  pub whole-within : (r : ℕ) → N ≤ 180 → fields ≤ 32 → nodes ≤ 64 → count ≤ 100000 → r ≡ leastScratch N fields count + windowRoom * (nodes - 1) → leb r scratch ≡ wholeScratchFits N fields nodes count scratch
   unfolding wholeScratchFits
   whole-within r h k n l e = rw (le-leb N 180 h, le-leb fields 32 k, le-leb nodes 64 n, le-leb count 100000 l) (ap (λ (i : ℕ). leb i scratch) e)

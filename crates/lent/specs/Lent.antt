@@ -27,6 +27,16 @@ fieldSize N = 2 + 2 * kind N
 abbrev pub frontSize : ℕ → ℕ
 frontSize N = 8 * kind N
 
+-- the numbers that document 01 asks for the work of one fit, and for each pair of neighbouring nodes; a pair has a slot for each satellite
+abbrev pub fitRoom : ℕ
+fitRoom = 150000
+
+abbrev pub windowRoom : ℕ
+windowRoom = 49200
+
+abbrev pub slotRoom : ℕ
+slotRoom = 24600
+
 -- what `front_size` answers: none for a degree above 180
 abbrev pub Front : ℕ → ℕ → Type 0
 Front N r = (N ≤ 180 → r ≡ frontSize N) × (r ≤ 131768) × (180 < N → r ≡ 0)
@@ -61,7 +71,7 @@ tablesFit c cs d ds accC accsC accD accsD = (statesFit c cs && statesFit d ds) &
 
 -- the least scratch of a call on so many observations
 abbrev pub leastScratch : ℕ → ℕ → ℕ → ℕ
-leastScratch N fields count = 2 * (fields * kind N) + 8 * kind N + 150000 + 10 * count
+leastScratch N fields count = 2 * (fields * kind N) + 8 * kind N + fitRoom + 10 * count
 
 unfoldable pub scratchFits : ℕ → ℕ → ℕ → ℕ → Bool
 scratchFits N fields count scratch = leb N 180 && (leb fields 32 && (leb count 100000 && leb (leastScratch N fields count) scratch))
@@ -73,7 +83,7 @@ lengthsFit N fields field added a b scratch = modelFits N fields field added a b
 -- the scratch of the whole path, with 49,200 numbers more for each pair of neighbouring nodes
 unfoldable pub wholeScratchFits : ℕ → ℕ → ℕ → ℕ → ℕ → Bool
 wholeScratchFits N fields nodes count scratch =
-    leb N 180 && (leb fields 32 && (leb nodes 64 && (leb count 100000 && leb (leastScratch N fields count + 49200 * (nodes - 1)) scratch)))
+    leb N 180 && (leb fields 32 && (leb nodes 64 && (leb count 100000 && leb (leastScratch N fields count + windowRoom * (nodes - 1)) scratch)))
 
 -- ---- 4: finite numbers, times and keys within their bounds
 

@@ -5,8 +5,16 @@ ghost use Prim.Native.Nat.{_+_, _-_, _*_, _≤_, _<_};
 ghost use lib.ListN.{length};
 ghost use lib.Dec.{leb, eqb};
 ghost use Rattle.laws.specs.Checks.{degreeFine};
-ghost use Rattle.lent.specs.Lent.{kind, fieldSize, firstOf, fieldsFine, countsFine, modelFits, statesFit, tablesFit, frontSize, leastScratch, scratchFits, lengthsFit, wholeScratchFits, modelFine, keyedFine, rise as riseOf};
+ghost use Rattle.lent.specs.Lent.{windowRoom, kind, fieldSize, firstOf, fieldsFine, countsFine, modelFits, statesFit, tablesFit, frontSize, leastScratch, scratchFits, lengthsFit, wholeScratchFits, modelFine, keyedFine, rise as riseOf};
 use slices;
+
+// The numbers of one fit's work.
+pub const FIT_ROOM: usize = 150_000;
+
+// The numbers of a pair of neighbouring nodes, a slot for each satellite.
+pub const WINDOW_ROOM: usize = 49_200;
+
+pub const SLOT_ROOM: usize = 24_600;
 
 // Places for the coefficients of one kind.
 fn places(degree: usize) -> usize
@@ -175,7 +183,7 @@ fn least_scratch(degree: usize, fields: usize, count: usize) -> usize
     ensures { λ r. ⌜ (r ≡ leastScratch degree fields count) × (r ≤ 4000000) ⌝ }
 {
     let l = places(degree);
-    2 * (fields * l) + 8 * l + 150000 + 10 * count
+    2 * (fields * l) + 8 * l + FIT_ROOM + 10 * count
 }
 
 pub fn scratch_fits(degree: usize, fields: usize, count: usize, scratch: usize) -> bool
@@ -211,13 +219,13 @@ pub fn lengths_fit(
 
 fn whole_scratch(degree: usize, fields: usize, nodes: usize, count: usize) -> usize
     requires { ⌜ (degree ≤ 180) × (fields ≤ 32) × (nodes ≤ 64) × (count ≤ 100000) ⌝ }
-    ensures { λ r. ⌜ r ≡ leastScratch degree fields count + 49200 * (nodes - 1) ⌝ }
+    ensures { λ r. ⌜ r ≡ leastScratch degree fields count + windowRoom * (nodes - 1) ⌝ }
 {
     let least = least_scratch(degree, fields, count);
     if nodes == 0 {
         return least;
     }
-    least + 49200 * (nodes - 1)
+    least + WINDOW_ROOM * (nodes - 1)
 }
 
 // The scratch of the whole path.

@@ -12,7 +12,7 @@ use borrow.Author.Tests.{leb-true, eqb-true}
 use Rattle.laws.specs.Floats.{zero64}
 use Rattle.laws.specs.Checks.{all, isTime, rising, risingSeconds, degreeFine}
 use Rattle.laws.specs.Bools.{both-true}
-use Rattle.lent.specs.Lent.{fieldsFine, few, modelFits, leastScratch, wholeScratchFits, modelFine, keyedFine, frontSize}
+use Rattle.lent.specs.Lent.{windowRoom, fieldsFine, few, modelFits, leastScratch, wholeScratchFits, modelFine, keyedFine, frontSize}
 use Rattle.lent.proofs.Passed.{all-pass, degree-passes}
 use Rattle.finality.specs.Brackets.{covers}
 use Rattle.integrate.specs.Force.{fullForce}
@@ -24,6 +24,7 @@ use Rattle.orbits.specs.declared.work.Done.{Done}
 use Rattle.orbits.specs.Orbits.{Window, windowFit, between}
 use Rattle.orbits.specs.Calls.{Given, Outputs, outputs, placesFit, lengthsFit, refusal, fittedWindows, listed, left, handed, settled, orbitsCall}
 use Rattle.orbits.specs.Work.{SoFar, Usable}
+use Rattle.fit.specs.Room.{workSize}
 
 -- ---- all tests passed
 
@@ -62,10 +63,10 @@ places-pass n keys states rms h =
     let c = both-true (eqb states (6 * (3500 * (n - 1)))) (eqb rms (n - 1)) (b .1) in
     (eqb-true keys (3500 * (n - 1)) (b .0), eqb-true states (6 * (3500 * (n - 1))) (c .0), eqb-true rms (n - 1) (c .1))
 
-scratch-pass : (N fields n scratch : ℕ) → wholeScratchFits N fields n 0 scratch ≡ true → frontSize N + 90173 ≤ scratch
+scratch-pass : (N fields n scratch : ℕ) → wholeScratchFits N fields n 0 scratch ≡ true → frontSize N + workSize ≤ scratch
 unfolding wholeScratchFits
 scratch-pass N fields n scratch h =
-    let least : ℕ = leastScratch N fields 0 + 49200 * (n - 1) in
+    let least : ℕ = leastScratch N fields 0 + windowRoom * (n - 1) in
     let a = both-true (leb N 180) (leb fields 32 && (leb n 64 && (leb 0 100000 && leb least scratch))) h .1 in
     let b = both-true (leb fields 32) (leb n 64 && (leb 0 100000 && leb least scratch)) a .1 in
     let c = both-true (leb n 64) (leb 0 100000 && leb least scratch) b .1 in

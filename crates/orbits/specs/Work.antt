@@ -19,6 +19,7 @@ use Rattle.windows.specs.Windows.{Ends}
 use Rattle.orbits.specs.declared.work.Done.{Done}
 use Rattle.orbits.specs.Orbits.{Window, joined, numbersOf}
 use Rattle.orbits.specs.Calls.{Outputs, listed}
+use Rattle.fit.specs.Room.{workSize}
 
 -- six numbers stored from a place on
 unfoldable pub putSix : List Float → ℕ → State → List Float
@@ -74,7 +75,7 @@ pub record Usable (N : ℕ) (keys : List ℤ) (states room : ℕ) : Type 0 where
   pub degree : N ≤ 180
   pub rises : risingSeconds keys ≡ true
   pub each : states ≡ 6 * length keys
-  pub enough : frontSize N + 90173 ≤ room
+  pub enough : frontSize N + workSize ≤ room
 
 -- a window shorter than 7,000 s
 pub record Short (a b : Float) : Type 0 where

@@ -12,7 +12,7 @@ ghost use Rattle.finality.specs.Arcs.{inside};
 ghost use Rattle.laws.specs.Tables.{row};
 ghost use Rattle.finality.specs.Brackets.{covers};
 ghost use Rattle.integrate.specs.Force.{model, fullForce};
-ghost use Rattle.integrate.specs.Room.{Run, stateIn};
+ghost use Rattle.integrate.specs.Room.{runSize, Run, stateIn};
 ghost use Rattle.fit.specs.Fit.{stateFor};
 ghost use Rattle.windows.specs.Slots.{within};
 ghost use Rattle.windows.specs.Windows.{Ends};
@@ -70,7 +70,7 @@ fn keep_step(
     outkeys: &mut [i64],
     outstates: &mut [f64],
 ) -> usize
-    requires { ⌜ (k ≤ 5302) × (base + 31818 ≤ length (now s)) × (within from to (stepTime t0 k) ≡ true → n < length (now outkeys)) × (within from to (stepTime t0 k) ≡ true → 6 * n + 6 ≤ length (now outstates)) ⌝ }
+    requires { ⌜ (k ≤ 5302) × (base + runSize ≤ length (now s)) × (within from to (stepTime t0 k) ≡ true → n < length (now outkeys)) × (within from to (stepTime t0 k) ≡ true → 6 * n + 6 ≤ length (now outstates)) ⌝ }
     ensures { λ r. ⌜ Kept (within from to (stepTime t0 k)) (wholeSecond (stepTime t0 k)) (stateIn (now (s .entry)) (base + 6 * k)) n r (now (outkeys .entry)) (now (outkeys .exit)) (now (outstates .entry)) (now (outstates .exit)) ⌝ }
 {
     let t = integrate::kernel::time(t0, k);
@@ -94,7 +94,7 @@ fn keep(
     outkeys: &mut [i64],
     outstates: &mut [f64],
 ) -> usize
-    requires { ⌜ Time from × Time to × (steps ≤ 5302) × ((run : Run) → length (inside t0 from to 0 (row run (steps + 1))) ≤ 3500) × (base + 31818 ≤ length (now s)) × (first + 3500 ≤ length (now outkeys)) × (6 * (first + 3500) ≤ length (now outstates)) ⌝ }
+    requires { ⌜ Time from × Time to × (steps ≤ 5302) × ((run : Run) → length (inside t0 from to 0 (row run (steps + 1))) ≤ 3500) × (base + runSize ≤ length (now s)) × (first + 3500 ≤ length (now outkeys)) × (6 * (first + 3500) ≤ length (now outstates)) ⌝ }
     ensures { λ r. ⌜ Joins (inside t0 from to 0 (row (readRun (now (s .entry)) base) (steps + 1))) first r (now (outkeys .entry)) (now (outkeys .exit)) (now (outstates .entry)) (now (outstates .exit)) ⌝ }
 {
     let mut n = first;

@@ -12,7 +12,7 @@ use lib.ListN.{length}
 use borrow.Author.Tests.{leb-true, le-leb, eqb-true, eq-eqb}
 use Rattle.laws.specs.Checks.{all, isTime, rising, risingSeconds, degreeFine}
 use Rattle.laws.specs.Bools.{both-true, holds}
-use Rattle.lent.specs.Lent.{kind, fieldSize, countsFine, modelFits, statesFit, tablesFit, leastScratch, wholeScratchFits, modelFine, keyedFine, rise, frontSize}
+use Rattle.lent.specs.Lent.{windowRoom, fitRoom, kind, fieldSize, countsFine, modelFits, statesFit, tablesFit, leastScratch, wholeScratchFits, modelFine, keyedFine, rise, frontSize}
 use Rattle.lent.proofs.Passed.{all-pass, Few, counts-pass, Rise, rise-passes, states-pass, model-passes}
 use Rattle.integrate.specs.Force.{model}
 use Rattle.integrate.proofs.Published.{sized-fits}
@@ -40,7 +40,7 @@ pub record Accepts (S : Setting) (l : Lists) (outputs : List (List Float)) (room
   pub values : length (l .values) ≡ length (l .times)
   pub good : length (l .good) ≡ length (l .times)
   pub outputs-fit : placesFit l outputs ≡ true
-  pub scratch : leastScratch (S .degree) (length (l .fieldTimes)) (length (l .times)) + 49200 * (length (l .nodes) - 1) ≤ room
+  pub scratch : leastScratch (S .degree) (length (l .fieldTimes)) (length (l .times)) + windowRoom * (length (l .nodes) - 1) ≤ room
   pub field-times : all isTime (l .fieldTimes) ≡ true
   pub node-times : all isTime (l .nodes) ≡ true
   pub times : all isTime (l .times) ≡ true
@@ -58,7 +58,7 @@ record Lengths (S : Setting) (l : Lists) (outputs : List (List Float)) (room : �
   pub values : length (l .values) ≡ length (l .times)
   pub good : length (l .good) ≡ length (l .times)
   pub outputs-fit : placesFit l outputs ≡ true
-  pub scratch : leastScratch (S .degree) (length (l .fieldTimes)) (length (l .times)) + 49200 * (length (l .nodes) - 1) ≤ room
+  pub scratch : leastScratch (S .degree) (length (l .fieldTimes)) (length (l .times)) + windowRoom * (length (l .nodes) - 1) ≤ room
 
 record Tables (c cs d ds p ps q qs : ℕ) : Type 0 where
   pub statesC : cs ≡ 6 * c
@@ -74,14 +74,14 @@ tables-say c cs d ds p ps q qs h =
     let t = both-true (eqb ps p) (eqb qs q) (a .1) in
     record { statesC = states-pass c cs (s .0); statesD = states-pass d ds (s .1); accC = eqb-true ps p (t .0); accD = eqb-true qs q (t .1) }
 
-scratch-says : (N fields nodes count room : ℕ) → wholeScratchFits N fields nodes count room ≡ true → leastScratch N fields count + 49200 * (nodes - 1) ≤ room
+scratch-says : (N fields nodes count room : ℕ) → wholeScratchFits N fields nodes count room ≡ true → leastScratch N fields count + windowRoom * (nodes - 1) ≤ room
 unfolding wholeScratchFits
 scratch-says N fields nodes count room h =
     let a = both-true (leb N 180) _ h .1 in
     let b = both-true (leb fields 32) _ a .1 in
     let e = both-true (leb nodes 64) _ b .1 in
     let f = both-true (leb count 100000) _ e .1 in
-    leb-true (leastScratch N fields count + 49200 * (nodes - 1)) room f
+    leb-true (leastScratch N fields count + windowRoom * (nodes - 1)) room f
 
 module _ (S : Setting) (l : Lists) (outputs : List (List Float)) (room : ℕ) where
   lengths-say : lengthsAgree S l (placesFit l outputs) room ≡ true → Lengths S l outputs room
@@ -214,8 +214,8 @@ module _ (S : Setting) (l : Lists) (outputs : List (List Float)) (room : ℕ) (h
       windowsServe (S .degree) keys (length states) (l .nodes) satellite room ≡ true
   unfolding windowsServe roomFor
   windows-serve keys states satellite one six rises =
-      let base : ℕ = frontSize (S .degree) + 150000 in
+      let base : ℕ = frontSize (S .degree) + fitRoom in
       let n : ℕ = length (l .nodes) in
-      let b : base + 49200 * (n - 1) ≤ room = omega (arith, h .scratch) in
-      let fits : n ≤ (room - base) / 49200 + 1 = omega arith in
-      rw (le-leb (S .degree) 180 (h .degree), le-leb base room (omega (arith, b)), le-leb n ((room - base) / 49200 + 1) fits, le-leb satellite 1 one, eq-eqb (length states) (6 * length keys) six, rises, h .node-times, h .nodes-rise) refl
+      let b : base + windowRoom * (n - 1) ≤ room = omega (arith, h .scratch) in
+      let fits : n ≤ (room - base) / windowRoom + 1 = omega arith in
+      rw (le-leb (S .degree) 180 (h .degree), le-leb base room (omega (arith, b)), le-leb n ((room - base) / windowRoom + 1) fits, le-leb satellite 1 one, eq-eqb (length states) (6 * length keys) six, rises, h .node-times, h .nodes-rise) refl

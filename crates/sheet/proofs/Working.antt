@@ -10,7 +10,7 @@ use lib.IntN.{ℤ}
 use lib.ListN.{length, take, getD, length-map}
 use lib.Ieee.{Float, nan, lt}
 use borrow.Author.Tests.{leb-true, le-leb, eqb-true, eq-eqb}
-use Rattle.lent.specs.Lent.{frontSize}
+use Rattle.lent.specs.Lent.{windowRoom, frontSize}
 use Rattle.laws.specs.Floats.{zero64}
 use Rattle.laws.specs.Checks.{all, isTime, rising, risingSeconds}
 use Rattle.laws.specs.Times.{Time}
@@ -75,7 +75,7 @@ module _ (S : Setting) (l : Lists) (outputs : List (List Float)) (room : ℕ) (h
   shelved keys states satellite s one e slots = record {
     room = omega (arith, h .scratch);
     slots = λ w k.
-        let place : slotAt base satellite w ≡ slotAt base satellite 0 + 49200 * w = omega arith in
+        let place : slotAt base satellite w ≡ slotAt base satellite 0 + windowRoom * w = omega arith in
         subst (λ (at : ℕ). Slot s at (tables keys states w)) place
         (subst (λ (t : Table State). Slot s (slotAt base satellite w) t) (fitted-window S l (h .fields) (model-fits S l outputs room h) keys states (getD (l .nodes) w nan) (getD (l .nodes) (w + 1) nan) (node-ends w k)) (slots w k));
     orderly = λ w k. window-orderly S (coveredIn (stagesOf (kernels S)) sub) (fieldIn (stagesOf (kernels S)) sub) (λ (k : ℤ). find k (statesIn keys states)) (getD (l .nodes) w nan) (getD (l .nodes) (w + 1) nan) (node-ends w k);

@@ -16,6 +16,7 @@ use Rattle.windows.specs.Slots.{Slot}
 use Rattle.windows.specs.Windows.{slotAt, Filled, WindowsFit}
 use Rattle.windows.proofs.Filling.{slot-same}
 use Rattle.shelf.specs.Shelf.{BothFit}
+use Rattle.lent.specs.Lent.{windowRoom}
 
 fit-long : (serves : Bool) (window : Float → Float → Table State) (nodes s s' : List Float) (base satellite : ℕ) (r : Bool) → WindowsFit serves window nodes s s' base satellite r → length s' ≡ length s
 fit-long serves window nodes s s' base satellite r f = by serves (λ e. f .filled e .long) (λ e. ap length (f .unfit e))
@@ -39,12 +40,12 @@ module _ (serveC : Bool) (serveD : ℕ → Bool) (windowC windowD : Float → Fl
     long = fit-long (serveD (length s₁)) windowD nodes s₁ s₂ base 1 d g ∙ first-long;
     says = er ∙ (λ i. f .says i && (g .says ∙ servesD) i);
     slotsC = λ e w l.
-        let at : slotAt base 0 0 + 49200 * w ≡ slotAt base 0 w = omega arith in
+        let at : slotAt base 0 0 + windowRoom * w ≡ slotAt base 0 w = omega arith in
         slot-same (slotAt base 0 w) s₁ s₂ (windowC (getD nodes w nan) (getD nodes (w + 1) nan)) (filledC e .few w l)
         (λ k p q. filledD e .same k (omega arith) (λ v h x y. omega arith))
         (subst (λ (m : ℕ). Slot s₁ m (windowC (getD nodes w nan) (getD nodes (w + 1) nan))) at (filledC e .slots w l));
     slotsD = λ e w l.
-        let at : slotAt base 1 0 + 49200 * w ≡ slotAt base 1 w = omega arith in
+        let at : slotAt base 1 0 + windowRoom * w ≡ slotAt base 1 w = omega arith in
         subst (λ (m : ℕ). Slot s₂ m (windowD (getD nodes w nan) (getD nodes (w + 1) nan))) at (filledD e .slots w l);
     fewC = λ e w l. filledC e .few w l;
     fewD = λ e w l. filledD e .few w l;

@@ -28,6 +28,7 @@ use Rattle.fit.specs.declared.kernel.Held.the-variants.{Known, Missing}
 use Rattle.windows.specs.Stage.{heldOf}
 use Rattle.windows.specs.Slots.{nth, Entry, Slot}
 use Rattle.shelf.specs.Shelf.{joined, Shelved, Looked, Sought, Searched, InSlot, InSlots}
+use Rattle.lent.specs.Lent.{windowRoom}
 
 -- ---- the count
 
@@ -263,14 +264,14 @@ held-back none = refl
 held-back (some x) = refl
 
 module _ (s : List Float) (first windows : ℕ) (t : Float) (w : ℕ) (empty : Empty s first windows t w) where
-  next : w < windows → (r : Held) → InSlot s (first + 49200 * w) t r → (tables : ℕ → Table State) (k : ℤ) → isKey k ≡ true → t ≡ secondTime k → Shelved s first tables windows → find k (joined tables (suc w)) ≡ back r
+  next : w < windows → (r : Held) → InSlot s (first + windowRoom * w) t r → (tables : ℕ → Table State) (k : ℤ) → isKey k ≡ true → t ≡ secondTime k → Shelved s first tables windows → find k (joined tables (suc w)) ≡ back r
   unfolding joined
   next l r f tables k key time h =
       find-both k (joined tables w) (tables w) (empty .is tables k key time h)
       ∙ sym (held-back (find k (tables w)))
       ∙ sym (ap back (f .is (tables w) k key time (h .orderly w l) (h .slots w l)))
 
-  pub empty-next : w < windows → (r : Held) → r ≡ Missing → InSlot s (first + 49200 * w) t r → Empty s first windows t (w + 1)
+  pub empty-next : w < windows → (r : Held) → r ≡ Missing → InSlot s (first + windowRoom * w) t r → Empty s first windows t (w + 1)
   unfolding back
   empty-next l r e f = record {
     is = λ tables k key time h.
@@ -278,7 +279,7 @@ module _ (s : List Float) (first windows : ℕ) (t : Float) (w : ℕ) (empty : E
         ap (λ (m : ℕ). find k (joined tables m)) (sym q) ∙ next l r f tables k key time h ∙ ap back e;
   }
 
-  pub slot-found : w < windows → (r : Held) (x : State) → r ≡ Known x → InSlot s (first + 49200 * w) t r → InSlots s first windows t (Known x)
+  pub slot-found : w < windows → (r : Held) (x : State) → r ≡ Known x → InSlot s (first + windowRoom * w) t r → InSlots s first windows t (Known x)
   unfolding back
   slot-found l r x e f = record {
     is = λ tables k key time h.

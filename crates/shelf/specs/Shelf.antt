@@ -17,6 +17,7 @@ use Rattle.fit.specs.declared.kernel.Held.{Held}
 use Rattle.windows.specs.Stage.{heldOf}
 use Rattle.windows.specs.Slots.{Entries, Slot}
 use Rattle.windows.specs.Windows.{slotAt}
+use Rattle.lent.specs.Lent.{windowRoom, slotRoom}
 
 -- the tables of the windows 0, 1 and so on below n, end to end
 unfoldable pub joined : {X : Type 0} → (ℕ → Table X) → ℕ → Table X
@@ -31,8 +32,8 @@ pub record Orderly (table : Table State) : Type 0 where
 
 -- one satellite's windows, each in its slot, the first slot at a place
 pub record Shelved (s : List Float) (first : ℕ) (tables : ℕ → Table State) (windows : ℕ) : Type 0 where
-  pub room : first + 49200 * windows ≤ length s + 24600
-  pub slots : (w : ℕ) → w < windows → Slot s (first + 49200 * w) (tables w)
+  pub room : first + windowRoom * windows ≤ length s + slotRoom
+  pub slots : (w : ℕ) → w < windows → Slot s (first + windowRoom * w) (tables w)
   pub orderly : (w : ℕ) → w < windows → Orderly (tables w)
 
 -- the first state at a second, over all windows

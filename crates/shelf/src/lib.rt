@@ -5,11 +5,12 @@ ghost use Prim.Native.Nat.{ℕ, _+_, _*_, _≤_};
 ghost use lib.ListN.{length};
 ghost use Rattle.laws.specs.WholeNumbers.{number};
 ghost use Rattle.finality.specs.Brackets.{covers};
-ghost use Rattle.lent.specs.Lent.{frontSize};
+ghost use Rattle.lent.specs.Lent.{windowRoom, slotRoom, frontSize};
 ghost use Rattle.integrate.specs.Force.{model, fullForce};
 ghost use Rattle.fit.specs.Fit.{stateFor};
 ghost use Rattle.windows.specs.Windows.{windowBy, windowsServe};
 ghost use Rattle.shelf.specs.Shelf.{Looked, Searched, InSlot, InSlots, BothFit};
+ghost use Rattle.windows.specs.Slots.{entriesRoom};
 
 // How many states a slot holds, none where its number is no such count.
 fn count_of(x: f64) -> usize
@@ -28,7 +29,7 @@ fn count_of(x: f64) -> usize
 
 // The state at a second among the n of a slot, by halving.
 fn search(s: &[f64], at: usize, n: usize, second: f64) -> fit::kernel::Held
-    requires { ⌜ (n ≤ 3500) × (at + 24599 ≤ length (now s)) ⌝ }
+    requires { ⌜ (n ≤ 3500) × (at + entriesRoom ≤ length (now s)) ⌝ }
     ensures { λ r. ⌜ Searched (now (s .entry)) at n second r ⌝ }
 {
     let mut lo: usize = 0;
@@ -49,7 +50,7 @@ fn search(s: &[f64], at: usize, n: usize, second: f64) -> fit::kernel::Held
 }
 
 fn in_slot(s: &[f64], at: usize, second: f64) -> fit::kernel::Held
-    requires { ⌜ at + 24600 ≤ length (now s) ⌝ }
+    requires { ⌜ at + slotRoom ≤ length (now s) ⌝ }
     ensures { λ r. ⌜ InSlot (now (s .entry)) at second r ⌝ }
 {
     let n = count_of(s[at]);
@@ -58,12 +59,12 @@ fn in_slot(s: &[f64], at: usize, second: f64) -> fit::kernel::Held
 
 // Slot after slot.
 fn in_slots(s: &[f64], first: usize, windows: usize, second: f64) -> fit::kernel::Held
-    requires { ⌜ first + 49200 * windows ≤ length (now s) + 24600 ⌝ }
+    requires { ⌜ first + windowRoom * windows ≤ length (now s) + slotRoom ⌝ }
     ensures { λ r. ⌜ InSlots (now (s .entry)) first windows second r ⌝ }
 {
     let mut w: usize = 0;
     while w < windows {
-        let found = in_slot(s, first + 49200 * w, second);
+        let found = in_slot(s, first + lent::WINDOW_ROOM * w, second);
         match found {
             fit::kernel::Held::Known(state) => {
                 return fit::kernel::Held::Known(state);
@@ -88,7 +89,7 @@ pub fn held(
     if first > s.len() {
         return fit::kernel::Held::Missing;
     }
-    if windows > (s.len() - first + 24600) / 49200 {
+    if windows > (s.len() - first + lent::SLOT_ROOM) / lent::WINDOW_ROOM {
         return fit::kernel::Held::Missing;
     }
     in_slots(s, first, windows, std::num::nearest_i64_to_f64(second.0))

@@ -13,7 +13,7 @@ use lib.Seq.{getD-set-same, getD-set-other}
 use lib.Ieee.Fits.{and-l, and-r}
 use lib.Ieee.Bits.{is-true}
 use borrow.Author.Tests.{le-leb, lt-leb, eq-eqb, eqb-true, eqb-false}
-use Rattle.lent.specs.Lent.{frontSize}
+use Rattle.lent.specs.Lent.{windowRoom, slotRoom, fitRoom, frontSize}
 use Rattle.laws.specs.Floats.{_⊖_}
 use Rattle.laws.specs.Checks.{all, isTime, rising, risingSeconds, time-says}
 use Rattle.laws.specs.Order.{lt→le}
@@ -36,6 +36,7 @@ use Rattle.fit.specs.declared.kernel.Fitted.the-variants.{Fitted as Rms, Refuse
 use Rattle.windows.specs.Stage.{arcStruct, statesOf}
 use Rattle.windows.specs.Slots.{nth, Entry, Entries, Slot, Keeps}
 use Rattle.windows.specs.Windows.{windowBy, roomFor, windowsServe, Apart, Leaves, Windowed, Ends, Filled, WindowsFit, slotAt}
+use Rattle.fit.specs.Room.{workSize}
 
 -- ---- numbers that stay
 
@@ -57,7 +58,7 @@ entries-same at s s' table e h = record {
       };
 }
 
-pub slot-same : (at : ℕ) (s s' : List Float) (table : Table State) → length table ≤ 3500 → ((k : ℕ) → at ≤ k → k < at + 24600 → getD s' k nan ≡ getD s k nan) → Slot s at table → Slot s' at table
+pub slot-same : (at : ℕ) (s s' : List Float) (table : Table State) → length table ≤ 3500 → ((k : ℕ) → at ≤ k → k < at + slotRoom → getD s' k nan ≡ getD s k nan) → Slot s at table → Slot s' at table
 slot-same at s s' table few e h = record {
   count = e at (omega arith) (omega arith) ∙ h .count;
   entries = entries-same (at + 1) s s' table (λ k p q. e k (omega arith) (omega arith)) (h .entries);
@@ -65,9 +66,9 @@ slot-same at s s' table few e h = record {
 
 -- ---- one window
 
-serves-arc : (N n : ℕ) (keys : List ℤ) (states room : ℕ) → N ≤ 180 → n ≤ 5302 → states ≡ 6 * length keys → frontSize N + 90173 ≤ room → risingSeconds keys ≡ true → arcServes N n keys states room ≡ true
+serves-arc : (N n : ℕ) (keys : List ℤ) (states room : ℕ) → N ≤ 180 → n ≤ 5302 → states ≡ 6 * length keys → frontSize N + workSize ≤ room → risingSeconds keys ≡ true → arcServes N n keys states room ≡ true
 unfolding arcServes
-serves-arc N n keys states room a b c d e = simp (le-leb N 180 a, le-leb n 5302 b, eq-eqb states (6 * length keys) c, le-leb (frontSize N + 90173) room d, e)
+serves-arc N n keys states room a b c d e = simp (le-leb N 180 a, le-leb n 5302 b, eq-eqb states (6 * length keys) c, le-leb (frontSize N + workSize) room d, e)
 
 -- at most 3,500 states of any run lie inside
 pub inside-few : (a b : Float) → Ends a b → T (lt (b ⊖ a) longest) → (t0 : Float) (n : ℕ) → t0 ≡ start a → n ≡ steps a b → (run : Run) → length (inside t0 a b 0 (row run (n + 1))) ≤ 3500
@@ -100,7 +101,7 @@ module _ (covered : Float → Bool) (full : Float → Vector → Vector) (look :
   short-table short answer e = rw (is-true (lt (b ⊖ a) longest) short) (ap (λ (x : Fitted). inside (start a) a b 0 (statesOf x (orbitOf full look arc) (steps a b))) (sym e))
 
   pub fits-of : (N n : ℕ) (keys : List ℤ) (states : ℕ) (s s₁ : List Float) (base : ℕ) (t0 : Float) (answer : Fitted) → t0 ≡ start a → n ≡ steps a b →
-      N ≤ 180 → n ≤ 5302 → states ≡ 6 * length keys → base ≡ frontSize N → base + 90173 ≤ length s → risingSeconds keys ≡ true →
+      N ≤ 180 → n ≤ 5302 → states ≡ 6 * length keys → base ≡ frontSize N → base + workSize ≤ length s → risingSeconds keys ≡ true →
       ArcFit (arcServes N n keys states (length s)) covered full look (record { t0 = t0; steps = n; node = a; period = b ⊖ a }) s s₁ (frontSize N) answer → Fits covered full look arc s s₁ base answer
   fits-of N n keys states s s₁ base t0 answer et en dn ln es eb room rise f =
       subst (λ (k : ℕ). Fits covered full look arc s s₁ k answer) (sym eb)
@@ -108,7 +109,7 @@ module _ (covered : Float → Bool) (full : Float → Vector → Vector) (look :
       (f .fits (serves-arc N n keys states (length s) dn ln es (omega (arith, eb)) rise)))
 
   -- a fit that is refused leaves none
-  pub refused-leaves : T (lt (b ⊖ a) longest) → (s s₁ : List Float) (base at : ℕ) (answer : Fitted) (code : ℕ) → answer ≡ Refused code → base + 90173 ≤ at → Fits covered full look arc s s₁ base answer → Leaves table s s₁ base at 0
+  pub refused-leaves : T (lt (b ⊖ a) longest) → (s s₁ : List Float) (base at : ℕ) (answer : Fitted) (code : ℕ) → answer ≡ Refused code → base + workSize ≤ at → Fits covered full look arc s s₁ base answer → Leaves table s s₁ base at 0
   unfolding inside
   refused-leaves short s s₁ base at answer code e l f = subst (λ (t : Table State). Leaves t s s₁ base at 0) (sym none) (record {
     entries = record { each = λ j h. absurd (omega arith) };
@@ -121,7 +122,7 @@ module _ (covered : Float → Bool) (full : Float → Vector → Vector) (look :
       none = short-table short (Refused code) (sym e ∙ f .said)
 
   -- else those of its states that lie inside
-  pub fitted-leaves : T (lt (b ⊖ a) longest) → (s s₁ s₂ : List Float) (base at n r : ℕ) (t0 : Float) (answer : Fitted) (x : Float) → answer ≡ Rms x → t0 ≡ start a → n ≡ steps a b → base + 90173 ≤ at →
+  pub fitted-leaves : T (lt (b ⊖ a) longest) → (s s₁ s₂ : List Float) (base at n r : ℕ) (t0 : Float) (answer : Fitted) (x : Float) → answer ≡ Rms x → t0 ≡ start a → n ≡ steps a b → base + workSize ≤ at →
       Fits covered full look arc s s₁ base answer → Keeps t0 a b n s₁ s₂ base at r → Leaves table s s₂ base at r
   fitted-leaves short s s₁ s₂ base at n r t0 answer x e et en l f k = subst (λ (t : Table State). Leaves t s s₂ base at r) (sym is) (record {
     entries = k .all run (subst (λ (m : ℕ). Orbit s₁ base run (m + 1)) (sym en) (f .states x e));
@@ -143,7 +144,7 @@ module _ (covered : Float → Bool) (full : Float → Vector → Vector) (look :
           ∙ ap (λ (m : ℕ). inside t0 a b 0 (row run m)) (let q = en in omega (arith, q))
 
 -- the count in front
-pub windowed : (table : Table State) (s s₁ : List Float) (base at n : ℕ) (x : Float) → base + 150000 ≤ at → at + 24600 ≤ length s → x ≡ number n → Leaves table s s₁ base (at + 1) n → Windowed table s (set s₁ at x) base at
+pub windowed : (table : Table State) (s s₁ : List Float) (base at n : ℕ) (x : Float) → base + fitRoom ≤ at → at + slotRoom ≤ length s → x ≡ number n → Leaves table s s₁ base (at + 1) n → Windowed table s (set s₁ at x) base at
 windowed table s s₁ base at n x l room ex f = record {
   slot = record {
     count = getD-set-same s₁ at x nan (omega (arith, f .apart .long)) ∙ ex ∙ ap number (f .counted);
@@ -166,14 +167,14 @@ filled-none window nodes s base first = record {
   same = λ k p q. refl;
 }
 
-pub filled-more : (window : Float → Float → Table State) (nodes : List Float) (w : ℕ) (s s₁ s₂ : List Float) (base first : ℕ) → base + 150000 ≤ first → Filled window nodes w s s₁ base first →
-    Windowed (window (getD nodes w nan) (getD nodes (w + 1) nan)) s₁ s₂ base (first + 49200 * w) → Filled window nodes (w + 1) s s₂ base first
+pub filled-more : (window : Float → Float → Table State) (nodes : List Float) (w : ℕ) (s s₁ s₂ : List Float) (base first : ℕ) → base + fitRoom ≤ first → Filled window nodes w s s₁ base first →
+    Windowed (window (getD nodes w nan) (getD nodes (w + 1) nan)) s₁ s₂ base (first + windowRoom * w) → Filled window nodes (w + 1) s s₂ base first
 filled-more window nodes w s s₁ s₂ base first l f g = record {
   slots = λ v h. by (eqb v w)
       (λ t. let e : v ≡ w = eqb-true v w t in
-      subst (λ (i : ℕ). Slot s₂ (first + 49200 * i) (window (getD nodes i nan) (getD nodes (i + 1) nan))) (sym e) (g .slot))
+      subst (λ (i : ℕ). Slot s₂ (first + windowRoom * i) (window (getD nodes i nan) (getD nodes (i + 1) nan))) (sym e) (g .slot))
       (λ t. let b : v < w = omega (arith, eqb-false v w t) in
-      slot-same (first + 49200 * v) s₁ s₂ (window (getD nodes v nan) (getD nodes (v + 1) nan)) (f .few v b) (λ k p q. g .apart .same k (omega arith) (λ x y. omega arith)) (f .slots v b));
+      slot-same (first + windowRoom * v) s₁ s₂ (window (getD nodes v nan) (getD nodes (v + 1) nan)) (f .few v b) (λ k p q. g .apart .same k (omega arith) (λ x y. omega arith)) (f .slots v b));
   few = λ v h. by (eqb v w)
       (λ t. let e : v ≡ w = eqb-true v w t in
       subst (λ (i : ℕ). length (window (getD nodes i nan) (getD nodes (i + 1) nan)) ≤ 3500) (sym e) (g .few))
@@ -198,8 +199,8 @@ ends-at (a ∷ b ∷ ns) t r (suc w) h =
 
 pub record Served (N : ℕ) (keys : List ℤ) (states : ℕ) (nodes : List Float) (satellite room : ℕ) : Type 0 where
   pub degree : N ≤ 180
-  pub enough : frontSize N + 150000 ≤ room
-  pub slots : frontSize N + 150000 + 24600 * satellite + 49200 * length nodes ≤ room + 73800
+  pub enough : frontSize N + fitRoom ≤ room
+  pub slots : frontSize N + fitRoom + slotRoom * satellite + windowRoom * length nodes ≤ room + (windowRoom + slotRoom)
   pub one-of-two : satellite ≤ 1
   pub each : states ≡ 6 * length keys
   pub rises : risingSeconds keys ≡ true
@@ -210,8 +211,8 @@ unfolding windowsServe roomFor
 served N keys states nodes satellite room e =
     let t = subst T (sym e) tt in
     let r1 = leb N 180 in
-    let r2 = leb (frontSize N + 150000) room in
-    let r3 = leb (length nodes) ((room - (frontSize N + 150000)) / 49200 + 1) in
+    let r2 = leb (frontSize N + fitRoom) room in
+    let r3 = leb (length nodes) ((room - (frontSize N + fitRoom)) / windowRoom + 1) in
     let s1 = leb satellite 1 in
     let s2 = eqb states (6 * length keys) in
     let o1 = risingSeconds keys in
@@ -222,8 +223,8 @@ served N keys states nodes satellite room e =
     let rest = and-r (r1 && (r2 && r3)) (s1 && s2) shape in
     let two = and-r r1 (r2 && r3) rooms in
     let times = and-r o1 o2 order in
-    let h2 : frontSize N + 150000 ≤ room = leb→le (frontSize N + 150000) room (and-l r2 r3 two) in
-    let h3 : length nodes ≤ (room - (frontSize N + 150000)) / 49200 + 1 = leb→le (length nodes) ((room - (frontSize N + 150000)) / 49200 + 1) (and-r r2 r3 two) in
+    let h2 : frontSize N + fitRoom ≤ room = leb→le (frontSize N + fitRoom) room (and-l r2 r3 two) in
+    let h3 : length nodes ≤ (room - (frontSize N + fitRoom)) / windowRoom + 1 = leb→le (length nodes) ((room - (frontSize N + fitRoom)) / windowRoom + 1) (and-r r2 r3 two) in
     let hs : satellite ≤ 1 = leb→le satellite 1 (and-l s1 s2 rest) in
     record {
       degree = leb→le N 180 (and-l r1 (r2 && r3) rooms);
@@ -239,13 +240,13 @@ pub room-degree : (N nodes room : ℕ) → 180 < N → false ≡ roomFor N nodes
 unfolding roomFor
 room-degree N nodes room h = sym (simp (lt-leb N 180 h))
 
-pub room-none : (N nodes room base : ℕ) → N ≤ 180 → base ≡ frontSize N → room < base + 150000 → false ≡ roomFor N nodes room
+pub room-none : (N nodes room base : ℕ) → N ≤ 180 → base ≡ frontSize N → room < base + fitRoom → false ≡ roomFor N nodes room
 unfolding roomFor
-room-none N nodes room base h e l = sym (simp (le-leb N 180 h, lt-leb (frontSize N + 150000) room (omega (arith, e))))
+room-none N nodes room base h e l = sym (simp (le-leb N 180 h, lt-leb (frontSize N + fitRoom) room (omega (arith, e))))
 
-pub room-all : (N nodes room base : ℕ) → N ≤ 180 → base ≡ frontSize N → base + 150000 ≤ room → leb nodes ((room - (base + 150000)) / 49200 + 1) ≡ roomFor N nodes room
+pub room-all : (N nodes room base : ℕ) → N ≤ 180 → base ≡ frontSize N → base + fitRoom ≤ room → leb nodes ((room - (base + fitRoom)) / windowRoom + 1) ≡ roomFor N nodes room
 unfolding roomFor
-room-all N nodes room base h e l = ap (λ (m : ℕ). leb nodes ((room - (m + 150000)) / 49200 + 1)) e ∙ sym (simp (le-leb N 180 h, le-leb (frontSize N + 150000) room (omega (arith, e))))
+room-all N nodes room base h e l = ap (λ (m : ℕ). leb nodes ((room - (m + fitRoom)) / windowRoom + 1)) e ∙ sym (simp (le-leb N 180 h, le-leb (frontSize N + fitRoom) room (omega (arith, e))))
 
 pub serves-all : (N : ℕ) (keys : List ℤ) (states : ℕ) (nodes : List Float) (satellite room : ℕ) (r x y o p q z u v : Bool) → r ≡ roomFor N (length nodes) room → x ≡ leb satellite 1 && eqb states (6 * length keys) → y ≡ r && x →
     o ≡ risingSeconds keys → p ≡ all isTime nodes → q ≡ rising nodes → z ≡ p && q → u ≡ o && z → v ≡ y && u → v ≡ windowsServe N keys states nodes satellite room
@@ -253,10 +254,10 @@ unfolding windowsServe
 serves-all N keys states nodes satellite room r x y o p q z u v er ex ey eo ep eq ez eu ev = ev ∙ (λ i. ey i && eu i) ∙ (λ i. (er i && ex i) && (eo i && ez i)) ∙ (λ i. (roomFor N (length nodes) room && (leb satellite 1 && eqb states (6 * length keys))) && (risingSeconds keys && (ep i && eq i)))
 
 pub fit-filled : (window : Float → Float → Table State) (nodes s s' : List Float) (N satellite base : ℕ) (serves answer : Bool) → answer ≡ serves → answer ≡ true → base ≡ frontSize N →
-    Filled window nodes (length nodes - 1) s s' base (base + 150000 + 24600 * satellite) → WindowsFit serves window nodes s s' (frontSize N) satellite true
+    Filled window nodes (length nodes - 1) s s' base (base + fitRoom + slotRoom * satellite) → WindowsFit serves window nodes s s' (frontSize N) satellite true
 fit-filled window nodes s s' N satellite base serves answer e t eb f = record {
   says = sym t ∙ e;
-  filled = λ h. subst (λ (m : ℕ). Filled window nodes (length nodes - 1) s s' (frontSize N) m) (omega arith) (subst (λ (m : ℕ). Filled window nodes (length nodes - 1) s s' m (m + 150000 + 24600 * satellite)) eb f);
+  filled = λ h. subst (λ (m : ℕ). Filled window nodes (length nodes - 1) s s' (frontSize N) m) (omega arith) (subst (λ (m : ℕ). Filled window nodes (length nodes - 1) s s' m (m + fitRoom + slotRoom * satellite)) eb f);
   unfit = λ h. absurd (false≢true (sym h ∙ sym e ∙ t));
 }
 

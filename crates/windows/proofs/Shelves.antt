@@ -18,11 +18,11 @@ use Rattle.numbers.specs.Seconds.{wholeSecond}
 use Rattle.finality.specs.Tables.{Table}
 use Rattle.finality.specs.Arcs.{inside}
 use Rattle.integrate.specs.declared.kernel.State.{State}
-use Rattle.integrate.specs.Room.{Run, stateIn, Only, Holds3, Orbit}
+use Rattle.integrate.specs.Room.{runSize, Run, stateIn, Only, Holds3, Orbit}
 use Rattle.integrate.specs.Work.{Stored}
 use Rattle.integrate.proofs.Places.{only-then, only-wide, only-same, stays3}
 use Rattle.fit.proofs.Rows.{set-only}
-use Rattle.windows.specs.Slots.{within, nth, Entry, Entries, Slot, Entered, keptIf, Keeping, Keeps}
+use Rattle.windows.specs.Slots.{entriesRoom, within, nth, Entry, Entries, Slot, Entered, keptIf, Keeping, Keeps}
 use Rattle.windows.proofs.Times.{held-inside}
 
 -- ---- one state at its place
@@ -141,14 +141,14 @@ state-read s base run m k o h =
 pub record Shelf (t0 from to : Float) (s s' : List Float) (base at k n : ℕ) : Type 0 where
   pub all : (run : Run) (m : ℕ) → Orbit s base run m → k ≤ m → Entries s' at (keptTo run t0 from to k)
   pub counted : n ≡ keptCount t0 from to k
-  pub only : Only at (at + 24599) s s'
+  pub only : Only at (at + entriesRoom) s s'
 
 pub shelf-none : (t0 from to : Float) (s : List Float) (base at : ℕ) → Shelf t0 from to s s base at 0 0
 unfolding keptTo keptCount
 shelf-none t0 from to s base at = record {
   all = λ run m o h. record { each = λ j l. absurd (omega arith) };
   counted = refl;
-  only = only-same at (at + 24599) s;
+  only = only-same at (at + entriesRoom) s;
 }
 
 kept-length : (run : Run) (t0 from to : Float) (k : ℕ) → length (keptTo run t0 from to k) ≡ keptCount t0 from to k
@@ -177,7 +177,7 @@ few t0 from to k m ft ut h l =
     let c = count-below t0 from to k m l in
     omega (arith, a, b, c)
 
-pub shelf-more : (t0 from to : Float) (s s₁ s₂ : List Float) (base at k n r : ℕ) → base + 31818 ≤ at → k ≤ 5302 → n ≤ 3500 → Shelf t0 from to s s₁ base at k n →
+pub shelf-more : (t0 from to : Float) (s s₁ s₂ : List Float) (base at k n r : ℕ) → base + runSize ≤ at → k ≤ 5302 → n ≤ 3500 → Shelf t0 from to s s₁ base at k n →
     Keeping s₁ s₂ at n (within from to (stepTime t0 k)) (wholeSecond (stepTime t0 k)) (stateIn s₁ (base + 6 * k)) r → Shelf t0 from to s s₂ base at (k + 1) r
 unfolding keptTo keptCount
 shelf-more t0 from to s s₁ s₂ base at k n r h lk ln f w = record {
@@ -187,13 +187,13 @@ shelf-more t0 from to s s₁ s₂ base at k n r h lk ln f w = record {
       subst (λ (x : Table State). Entries s₂ at x) (ap (λ (x : State). keptTo run t0 from to k ++ keptIf (within from to (stepTime t0 k)) (wholeSecond (stepTime t0 k)) x) same ∙ sym next)
       (w .all (keptTo run t0 from to k) (kept-length run t0 from to k ∙ sym (f .counted)) (f .all run m o (omega arith)));
   counted = rw add-one (w .counted ∙ ap (λ (x : ℕ). x + cond (within from to (stepTime t0 k)) 1 0) (f .counted));
-  only = only-then at (at + 24599) at (at + 24599) at (at + 7 * n + 7) s s₁ s₂ (f .only) (w .only) (omega arith) (omega arith) (omega arith) (omega arith);
+  only = only-then at (at + entriesRoom) at (at + entriesRoom) at (at + 7 * n + 7) s s₁ s₂ (f .only) (w .only) (omega arith) (omega arith) (omega arith) (omega arith);
 }
   where
     state-kept : (run : Run) (m : ℕ) → Orbit s base run m → k < m → stateIn s₁ (base + 6 * k) ≡ run k
     state-kept run m o l = state-read s₁ base run (k + 1) k (record {
-      position = λ j q. stays3 at (at + 24599) (base + 6 * j) s s₁ (run j .position) (f .only) (o .position j (omega arith)) (λ i p u v x. omega arith);
-      velocity = λ j q. stays3 at (at + 24599) (base + 6 * j + 3) s s₁ (run j .velocity) (f .only) (o .velocity j (omega arith)) (λ i p u v x. omega arith);
+      position = λ j q. stays3 at (at + entriesRoom) (base + 6 * j) s s₁ (run j .position) (f .only) (o .position j (omega arith)) (λ i p u v x. omega arith);
+      velocity = λ j q. stays3 at (at + entriesRoom) (base + 6 * j + 3) s s₁ (run j .velocity) (f .only) (o .velocity j (omega arith)) (λ i p u v x. omega arith);
     }) (omega arith)
 
 pub kept-all : (t0 from to : Float) (steps : ℕ) (s s' : List Float) (base at k n : ℕ) → Time from → Time to → k ≡ steps + 1 → Shelf t0 from to s s' base at k n → Keeps t0 from to steps s s' base at n

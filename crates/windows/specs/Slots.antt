@@ -14,6 +14,10 @@ use Rattle.finality.specs.Arcs.{inside}
 use Rattle.integrate.specs.Room.{Run, Only, Holds3, Orbit, stateIn}
 use Rattle.integrate.specs.declared.kernel.State.{State}
 
+-- a slot without its count
+abbrev pub entriesRoom : ℕ
+entriesRoom = 24599
+
 -- −2^31 and 2^33: between them whole numbers are taken of a number
 abbrev pub lowest : Float
 lowest = fin true 1 (pos 31)
@@ -64,4 +68,4 @@ pub record Keeping (s s' : List Float) (at n : ℕ) (b : Bool) (second : ℤ) (s
 pub record Keeps (t0 from to : Float) (steps : ℕ) (s s' : List Float) (base at r : ℕ) : Type 0 where
   pub all : (run : Run) → Orbit s base run (steps + 1) → Entries s' at (inside t0 from to 0 (row run (steps + 1)))
   pub counted : (run : Run) → r ≡ length (inside t0 from to 0 (row run (steps + 1)))
-  pub only : Only at (at + 24599) s s'
+  pub only : Only at (at + entriesRoom) s s'

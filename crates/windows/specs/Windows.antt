@@ -8,7 +8,7 @@ use lib.Dec.{T, leb, eqb}
 use lib.IntN.{ℤ}
 use lib.Ieee.{Float, nan, lt}
 use lib.ListN.{length, getD}
-use Rattle.lent.specs.Lent.{frontSize}
+use Rattle.lent.specs.Lent.{windowRoom, slotRoom, fitRoom, frontSize}
 use Rattle.laws.specs.Floats.{zero64, _⊖_}
 use Rattle.laws.specs.Checks.{all, isTime, rising, risingSeconds}
 use Rattle.laws.specs.Times.{Time}
@@ -20,7 +20,8 @@ use Rattle.integrate.specs.declared.kernel.Arc.{Arc as ArcStruct}
 use Rattle.fit.specs.Fit.{fitOf, orbitOf}
 use Rattle.fit.specs.declared.kernel.Held.{Held}
 use Rattle.windows.specs.Stage.{arcStruct, statesOf}
-use Rattle.windows.specs.Slots.{Entries, Slot}
+use Rattle.windows.specs.Slots.{entriesRoom, Entries, Slot}
+use Rattle.fit.specs.Room.{workSize}
 
 -- what a window leaves
 unfoldable pub windowBy : (Float → Bool) → (Float → Vector → Vector) → (Float → Held) → Float → Float → Table State
@@ -39,13 +40,13 @@ arcBetween a b = cond (windowFine a b) (arcStruct (arcOf a b)) (record { t0 = ze
 
 -- the slot of window w of a satellite, 0 or 1; 24,600 numbers
 abbrev pub slotAt : ℕ → ℕ → ℕ → ℕ
-slotAt base satellite w = base + 150000 + 24600 * satellite + 49200 * w
+slotAt base satellite w = base + fitRoom + slotRoom * satellite + windowRoom * w
 
 -- ---- whether the slices serve
 
 -- the degree within its bound, room for a fit and for the slots of all windows
 unfoldable pub roomFor : ℕ → ℕ → ℕ → Bool
-roomFor N nodes room = leb N 180 && (leb (frontSize N + 150000) room && leb nodes ((room - (frontSize N + 150000)) / 49200 + 1))
+roomFor N nodes room = leb N 180 && (leb (frontSize N + fitRoom) room && leb nodes ((room - (frontSize N + fitRoom)) / windowRoom + 1))
 
 -- one of two satellites, a state for each key, keys that rise, nodes that are times and rise
 unfoldable pub windowsServe : ℕ → List ℤ → ℕ → List Float → ℕ → ℕ → Bool
@@ -57,20 +58,20 @@ windowsServe N keys states nodes satellite room =
 -- behind the numbers of one fit only n numbers from a place on changed
 pub record Apart (base at n : ℕ) (s s' : List Float) : Type 0 where
   pub long : length s' ≡ length s
-  pub same : (k : ℕ) → base + 90173 ≤ k → (at ≤ k → k < at + n → ⊥) → getD s' k nan ≡ getD s k nan
+  pub same : (k : ℕ) → base + workSize ≤ k → (at ≤ k → k < at + n → ⊥) → getD s' k nan ≡ getD s k nan
 
 -- the states of a window from a place on
 pub record Leaves (table : Table State) (s s' : List Float) (base at r : ℕ) : Type 0 where
   pub entries : Entries s' at table
   pub counted : r ≡ length table
   pub few : length table ≤ 3500
-  pub apart : Apart base at 24599 s s'
+  pub apart : Apart base at entriesRoom s s'
 
 -- the slot of a window
 pub record Windowed (table : Table State) (s s' : List Float) (base at : ℕ) : Type 0 where
   pub slot : Slot s' at table
   pub few : length table ≤ 3500
-  pub apart : Apart base at 24600 s s'
+  pub apart : Apart base at slotRoom s s'
 
 -- two times, the first before the second
 pub record Ends (a b : Float) : Type 0 where
@@ -80,10 +81,10 @@ pub record Ends (a b : Float) : Type 0 where
 
 -- the first windows, each in its slot
 pub record Filled (window : Float → Float → Table State) (nodes : List Float) (count : ℕ) (s s' : List Float) (base first : ℕ) : Type 0 where
-  pub slots : (w : ℕ) → w < count → Slot s' (first + 49200 * w) (window (getD nodes w nan) (getD nodes (w + 1) nan))
+  pub slots : (w : ℕ) → w < count → Slot s' (first + windowRoom * w) (window (getD nodes w nan) (getD nodes (w + 1) nan))
   pub few : (w : ℕ) → w < count → length (window (getD nodes w nan) (getD nodes (w + 1) nan)) ≤ 3500
   pub long : length s' ≡ length s
-  pub same : (k : ℕ) → base + 90173 ≤ k → ((w : ℕ) → w < count → first + 49200 * w ≤ k → k < first + 49200 * w + 24600 → ⊥) → getD s' k nan ≡ getD s k nan
+  pub same : (k : ℕ) → base + workSize ≤ k → ((w : ℕ) → w < count → first + windowRoom * w ≤ k → k < first + windowRoom * w + slotRoom → ⊥) → getD s' k nan ≡ getD s k nan
 
 -- all windows where the slices serve, and nothing otherwise
 pub record WindowsFit (serves : Bool) (window : Float → Float → Table State) (nodes : List Float) (s s' : List Float) (base satellite : ℕ) (answer : Bool) : Type 0 where

@@ -13,12 +13,12 @@ ghost use Rattle.numbers.specs.Seconds.{wholeSecond};
 ghost use Rattle.finality.specs.Arcs.{start, steps, longest, inside};
 ghost use Rattle.laws.specs.Tables.{row};
 ghost use Rattle.finality.specs.Brackets.{covers};
-ghost use Rattle.lent.specs.Lent.{frontSize};
+ghost use Rattle.lent.specs.Lent.{windowRoom, slotRoom, fitRoom, frontSize};
 ghost use Rattle.integrate.specs.Force.{model, fullForce};
-ghost use Rattle.integrate.specs.Room.{Run, stateIn};
+ghost use Rattle.integrate.specs.Room.{runSize, Run, stateIn};
 ghost use Rattle.fit.specs.Fit.{stateFor};
 ghost use Rattle.windows.specs.Windows.{windowBy, windowFine, arcBetween, roomFor, windowsServe, Leaves, Windowed, Ends, Filled, WindowsFit};
-ghost use Rattle.windows.specs.Slots.{lowest, highest, within, Entered, Keeping, Keeps};
+ghost use Rattle.windows.specs.Slots.{entriesRoom, lowest, highest, within, Entered, Keeping, Keeps};
 
 // The least whole number that is not below x.
 fn ceil(x: f64) -> u64
@@ -127,7 +127,7 @@ fn keep_step(
     at: usize,
     n: usize,
 ) -> usize
-    requires { ⌜ (k ≤ 5302) × (base + 31818 ≤ at) × (n ≤ 3500) × (at + 24599 ≤ length (now s)) ⌝ }
+    requires { ⌜ (k ≤ 5302) × (base + runSize ≤ at) × (n ≤ 3500) × (at + entriesRoom ≤ length (now s)) ⌝ }
     ensures { λ r. ⌜ Keeping (now (s .entry)) (now (s .exit)) at n (within from to (stepTime t0 k)) (wholeSecond (stepTime t0 k)) (stateIn (now (s .entry)) (base + 6 * k)) r ⌝ }
 {
     let t = integrate::kernel::time(t0, k);
@@ -141,7 +141,7 @@ fn keep_step(
 
 // The states of a run whose times lie in a window, seven numbers each, from a place on. Returns how many there are.
 fn keep(t0: f64, from: f64, to: f64, steps: usize, s: &mut [f64], base: usize, at: usize) -> usize
-    requires { ⌜ Time from × Time to × (steps ≤ 5302) × ((run : Run) → length (inside t0 from to 0 (row run (steps + 1))) ≤ 3500) × (base + 31818 ≤ at) × (at + 24599 ≤ length (now s)) ⌝ }
+    requires { ⌜ Time from × Time to × (steps ≤ 5302) × ((run : Run) → length (inside t0 from to 0 (row run (steps + 1))) ≤ 3500) × (base + runSize ≤ at) × (at + entriesRoom ≤ length (now s)) ⌝ }
     ensures { λ r. ⌜ Keeps t0 from to steps (now (s .entry)) (now (s .exit)) base at r ⌝ }
 {
     let mut n: usize = 0;
@@ -167,7 +167,7 @@ fn fit_between(
     base: usize,
     at: usize,
 ) -> usize
-    requires { ⌜ (degree ≤ 180) × (base ≡ frontSize degree) × (risingSeconds (now keys) ≡ true) × (length (now states) ≡ 6 * length (now keys)) × Ends from to × T (lt (to ⊖ from) longest) × (base + 150000 ≤ at) × (at + 24599 ≤ length (now s)) ⌝ }
+    requires { ⌜ (degree ≤ 180) × (base ≡ frontSize degree) × (risingSeconds (now keys) ≡ true) × (length (now states) ≡ 6 * length (now keys)) × Ends from to × T (lt (to ⊖ from) longest) × (base + fitRoom ≤ at) × (at + entriesRoom ≤ length (now s)) ⌝ }
     ensures { λ r. ⌜ Leaves (windowBy (covers (now (times .entry))) (fullForce (model degree (now (field .entry)) (now (times .entry)) (now (added .entry))) (now (a .entry)) (now (b .entry))) (stateFor (now (keys .entry)) (now (states .entry))) from to) (now (s .entry)) (now (s .exit)) base at r ⌝ }
 {
     let t0 = start(from);
@@ -201,7 +201,7 @@ fn leave(
     base: usize,
     at: usize,
 ) -> usize
-    requires { ⌜ (degree ≤ 180) × (base ≡ frontSize degree) × (risingSeconds (now keys) ≡ true) × (length (now states) ≡ 6 * length (now keys)) × Ends from to × (base + 150000 ≤ at) × (at + 24599 ≤ length (now s)) ⌝ }
+    requires { ⌜ (degree ≤ 180) × (base ≡ frontSize degree) × (risingSeconds (now keys) ≡ true) × (length (now states) ≡ 6 * length (now keys)) × Ends from to × (base + fitRoom ≤ at) × (at + entriesRoom ≤ length (now s)) ⌝ }
     ensures { λ r. ⌜ Leaves (windowBy (covers (now (times .entry))) (fullForce (model degree (now (field .entry)) (now (times .entry)) (now (added .entry))) (now (a .entry)) (now (b .entry))) (stateFor (now (keys .entry)) (now (states .entry))) from to) (now (s .entry)) (now (s .exit)) base at r ⌝ }
 {
     if to - from < 7000.0 {
@@ -240,7 +240,7 @@ fn window(
     base: usize,
     at: usize,
 )
-    requires { ⌜ (degree ≤ 180) × (base ≡ frontSize degree) × (risingSeconds (now keys) ≡ true) × (length (now states) ≡ 6 * length (now keys)) × Ends from to × (base + 150000 ≤ at) × (at + 24600 ≤ length (now s)) ⌝ }
+    requires { ⌜ (degree ≤ 180) × (base ≡ frontSize degree) × (risingSeconds (now keys) ≡ true) × (length (now states) ≡ 6 * length (now keys)) × Ends from to × (base + fitRoom ≤ at) × (at + slotRoom ≤ length (now s)) ⌝ }
     ensures { λ _. ⌜ Windowed (windowBy (covers (now (times .entry))) (fullForce (model degree (now (field .entry)) (now (times .entry)) (now (added .entry))) (now (a .entry)) (now (b .entry))) (stateFor (now (keys .entry)) (now (states .entry))) from to) (now (s .entry)) (now (s .exit)) base at ⌝ }
 {
     let n = leave(
@@ -276,7 +276,7 @@ fn fit_each(
     base: usize,
     first: usize,
 )
-    requires { ⌜ (degree ≤ 180) × (base ≡ frontSize degree) × (risingSeconds (now keys) ≡ true) × (length (now states) ≡ 6 * length (now keys)) × ((w : ℕ) → w + 1 < length (now nodes) → Ends (getD (now nodes) w nan) (getD (now nodes) (w + 1) nan)) × (base + 150000 ≤ first) × (first + 49200 * length (now nodes) ≤ length (now s) + 73800) ⌝ }
+    requires { ⌜ (degree ≤ 180) × (base ≡ frontSize degree) × (risingSeconds (now keys) ≡ true) × (length (now states) ≡ 6 * length (now keys)) × ((w : ℕ) → w + 1 < length (now nodes) → Ends (getD (now nodes) w nan) (getD (now nodes) (w + 1) nan)) × (base + fitRoom ≤ first) × (first + windowRoom * length (now nodes) ≤ length (now s) + (windowRoom + slotRoom)) ⌝ }
     ensures { λ _. ⌜ Filled (windowBy (covers (now (times .entry))) (fullForce (model degree (now (field .entry)) (now (times .entry)) (now (added .entry))) (now (a .entry)) (now (b .entry))) (stateFor (now (keys .entry)) (now (states .entry)))) (now (nodes .entry)) (length (now (nodes .entry)) - 1) (now (s .entry)) (now (s .exit)) base first ⌝ }
 {
     let mut w: usize = 0;
@@ -294,7 +294,7 @@ fn fit_each(
             nodes[w + 1],
             s,
             base,
-            first + 49200 * w,
+            first + lent::WINDOW_ROOM * w,
         );
         w += 1;
     }
@@ -307,11 +307,11 @@ fn room_for(degree: usize, nodes: usize, room: usize) -> bool
     if degree > 180 {
         return false;
     }
-    let base = lent::front_size(degree) + 150000;
+    let base = lent::front_size(degree) + lent::FIT_ROOM;
     if base > room {
         return false;
     }
-    nodes <= (room - base) / 49200 + 1
+    nodes <= (room - base) / lent::WINDOW_ROOM + 1
 }
 
 fn windows_serve(
@@ -365,7 +365,7 @@ pub fn fit_windows(
             nodes,
             s,
             base,
-            base + 150000 + 24600 * satellite,
+            base + lent::FIT_ROOM + lent::SLOT_ROOM * satellite,
         );
         return true;
     }

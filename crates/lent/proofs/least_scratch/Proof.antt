@@ -5,6 +5,7 @@ use Rattle.lent.proofs.Passed.{product-small}
 use borrow.Author.Needs.{needs}
 use Rattle.lent.proofs.least_scratch.Statement.{statement}
 use Rattle.lent.proofs.least_scratch.Tie as tie
+use Rattle.lent.specs.Lent.{fitRoom}
 
 places-requires : tie.Need-places-requires
 places-requires c κs = search needs
@@ -37,7 +38,7 @@ add-result-3 c =
 
 returns : tie.Need-returns
 returns c = (
-  ap (λ (l : ℕ). 2 * (c .before .args .fields * l) + 8 * l + 150000 + 10 * c .before .args .count) (c .places .ensures .0),
+  ap (λ (l : ℕ). 2 * (c .before .args .fields * l) + 8 * l + fitRoom + 10 * c .before .args .count) (c .places .ensures .0),
   omega (arith, product-small (c .before .args .fields) (c .places .result) (omega arith) (omega arith)),
 )
 

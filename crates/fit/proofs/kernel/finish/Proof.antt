@@ -5,6 +5,7 @@ use Prim.Native.Nat.{_+_, _*_, _-_}
 use borrow.Author.Needs.{needs}
 use Rattle.fit.proofs.kernel.finish.Statement.{statement}
 use Rattle.fit.proofs.kernel.finish.Tie as tie
+use Rattle.fit.specs.Room.{misfitPart}
 
 fly-requires : tie.Need-fly-requires
 fly-requires c κs = search needs
@@ -42,7 +43,7 @@ same-length c = search needs
 returns : tie.Need-returns
 returns c =
     let a = c .before .before .before .before .before .before .before .before .before .before .before .before .before .before .before .before .before .args in
-    finished (model (a .degree) (a .field .now) (a .times .now) (a .added .now)) (a .a .now) (a .b .now) (a .arc) (a .p) (a .s .now) _ _ (a .base) (a .n) (a .base + 39245 + 3 * a .n - (a .base + 39245)) _ (omega arith) (omega arith) (omega arith) (omega arith)
+    finished (model (a .degree) (a .field .now) (a .times .now) (a .added .now)) (a .a .now) (a .b .now) (a .arc) (a .p) (a .s .now) _ _ (a .base) (a .n) (a .base + misfitPart + 3 * a .n - (a .base + misfitPart)) _ (omega arith) (omega arith) (omega arith) (omega arith)
     (c .before .before .before .before .before .before .before .before .before .fly .ensures .0) (c .before .before .before .before .before .before .before .before .before .fly .ensures .1) (c .before .before .before .before .before .misfits .ensures) (c .rms .ensures)
 
 pub finish-spec : {M : Type 1} → statement M

@@ -5,6 +5,7 @@ use Prim.Native.Nat.{_+_, _*_, _-_}
 use borrow.Author.Needs.{needs}
 use Rattle.fit.proofs.kernel.round.Statement.{statement}
 use Rattle.fit.proofs.kernel.round.Tie as tie
+use Rattle.fit.specs.Room.{misfitPart, designPart}
 
 linearise-requires : tie.Need-linearise-requires
 linearise-requires c κs = search needs
@@ -64,7 +65,7 @@ returns : tie.Need-returns
 returns c =
     let a = c .before .before .before .before .before .before .before .before .before .before .before .before .before .before .before .before .args in
     rounded (model (a .degree) (a .field .now) (a .times .now) (a .added .now)) (a .a .now) (a .b .now) (a .arc) (a .p) (a .s .now) _ (a .base) (a .n) (omega arith) (omega (arith, c .before .before .before .before .before .before .before .before .linearise .ensures .apart .long)) (c .before .before .before .before .before .before .before .before .linearise .ensures)
-    (a .base + 42428 + 45 * a .n - (a .base + 42428)) (a .base + 39245 + 3 * a .n - (a .base + 39245)) (omega arith) (omega arith) (c .before .before .fifteen .result) (c .before .before .fifteen .ensures) _ (c .updated .ensures)
+    (a .base + designPart + 45 * a .n - (a .base + designPart)) (a .base + misfitPart + 3 * a .n - (a .base + misfitPart)) (omega arith) (omega arith) (c .before .before .fifteen .result) (c .before .before .fifteen .ensures) _ (c .updated .ensures)
 
 pub round-spec : {M : Type 1} → statement M
 round-spec =

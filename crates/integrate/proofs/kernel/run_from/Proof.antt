@@ -2,7 +2,7 @@ use Rattle.integrate.proofs.Laws.{flown-first, flown-more}
 use Rattle.integrate.proofs.Places.{only-same, only-then}
 use Rattle.integrate.specs.Force.{model, accelerationOf, attractionOf}
 use Rattle.integrate.specs.Steps.{stateAt}
-use Rattle.integrate.specs.Room.{Only, Orbit}
+use Rattle.integrate.specs.Room.{runSize, Only, Orbit}
 use Rattle.integrate.specs.Work.{ReadyFor}
 use mathlib.Core.Path.{_≡_, refl, _∙_}
 use Prim.Native.Nat.{_+_, _-_, _≤_}
@@ -14,7 +14,7 @@ use Rattle.integrate.proofs.kernel.run_from.Tie as tie
 abbrev Inv-loop : tie.InvT-loop
 Inv-loop force degree field a b times added arc e base w₀ known₀ state₀ k₀ k-end w known state k =
     (k ≤ arc .steps) × (state ≡ stateAt (accelerationOf (attractionOf force (model degree field times added) a b) arc e) (arc .t0) state₀ k) × Orbit w base (stateAt (accelerationOf (attractionOf force (model degree field times added) a b) arc e) (arc .t0) state₀) (k + 1)
-    × ReadyFor force (model degree field times added) w known × Only 0 (base + 31818) w₀ w
+    × ReadyFor force (model degree field times added) w known × Only 0 (base + runSize) w₀ w
 
 abbrev μ-loop : tie.MeasureT-loop
 μ-loop force degree field a b times added arc e base w₀ known₀ state₀ k₀ k-end w known state k = arc .steps - k
@@ -31,7 +31,7 @@ loop-holds c =
     let s = c .before .before .before .before .before .before .before .before .before .before .before .before .before .before .args in
     let M = model (s .degree) (s .field .now) (s .times .now) (s .added .now) in
     let h = flown-first (s .force) M (s .w .now) _ _ (s .base) _ (accelerationOf (attractionOf (s .force) M (s .a .now) (s .b .now)) (s .arc) (s .e)) (s .arc .t0) (s .start) (c .before .before .before .before .before .before .before .before .before .before .before .before .before .before .pre .1) (c .before .before .before .before .before .before .before .before .before .before .before .before .before .before .pre .3) (c .before .before .before .before .before .before .begin .ensures) (c .before .before .put-state .ensures) in
-    (omega arith, refl, h .0, h .2, only-same 0 (s .base + 31818) _)
+    (omega arith, refl, h .0, h .2, only-same 0 (s .base + runSize) _)
 
 advance-requires : tie.Need-advance-requires Inv-loop μ-loop
 advance-requires c κs = (omega arith, c .before .before .before .before .before .before .before .before .before .before .before .before .before .before .before .before .before .pre .1, c .before .before .before .before .before .before .before .before .before .before .before .before .before .before .before .before .before .pre .2, omega (arith, c .before .before .loop .inv .4 .long, c .before .before .before .before .before .put-state .ensures .only .long, c .before .before .before .before .before .before .before .before .before .begin .ensures .only .long, c .before .before .before .before .before .before .before .before .before .before .before .before .before .before .before .before .before .pre .3))
@@ -48,7 +48,7 @@ loop-again c =
     let loop = c .before .before .before .before .before .before .before .loop in
     let M = model (s .degree) (s .field .now) (s .times .now) (s .added .now) in
     let g = flown-more (s .force) M (loop .w) _ (s .base) (loop .k) (loop .known) (accelerationOf (attractionOf (s .force) M (s .a .now) (s .b .now)) (s .arc) (s .e)) (s .arc .t0) (s .start) (loop .state) _ (loop .inv .1) (loop .inv .2) (loop .inv .3) (c .before .before .before .before .advance .ensures) in
-    (omega arith, g .0, g .1, g .2, only-then 0 (s .base + 31818) 0 (s .base + 31818) 0 (s .base + 31818) _ _ _ (loop .inv .4) (c .before .before .before .before .advance .ensures .only) (omega arith) (omega arith) (omega arith) (omega arith))
+    (omega arith, g .0, g .1, g .2, only-then 0 (s .base + runSize) 0 (s .base + runSize) 0 (s .base + runSize) _ _ _ (loop .inv .4) (c .before .before .before .before .advance .ensures .only) (omega arith) (omega arith) (omega arith) (omega arith))
 
 same-length : tie.Need-same-length Inv-loop μ-loop
 same-length c = c .before .loop .inv .4 .long ∙ c .before .before .before .before .put-state .ensures .only .long ∙ c .before .before .before .before .before .before .before .before .begin .ensures .only .long
@@ -61,7 +61,7 @@ returns c =
     let end : c .before .loop .k ≡ s .arc .steps = omega arith in
     record {
       states = rw end at (c .before .loop .inv .2);
-      only = only-then 0 (s .base + 31818) 0 (s .base + 31818) 0 (s .base + 31818) _ _ _ (h .1) (c .before .loop .inv .4) (omega arith) (omega arith) (omega arith) (omega arith);
+      only = only-then 0 (s .base + runSize) 0 (s .base + runSize) 0 (s .base + runSize) _ _ _ (h .1) (c .before .loop .inv .4) (omega arith) (omega arith) (omega arith) (omega arith);
     }
 
 pub run-from-spec : {M : Type 1} → statement M
