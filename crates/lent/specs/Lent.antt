@@ -27,15 +27,15 @@ fieldSize N = 2 + 2 * kind N
 abbrev pub frontSize : ℕ → ℕ
 frontSize N = 8 * kind N
 
--- the numbers that document 01 asks for the work of one fit, and for each pair of neighbouring nodes; a pair has a slot for each satellite
+-- the numbers that document 01 asks for the work of one fit, and for each pair of neighbouring nodes, which has a slot for each satellite
 abbrev pub fitRoom : ℕ
 fitRoom = 150000
 
-abbrev pub windowRoom : ℕ
-windowRoom = 49200
-
 abbrev pub slotRoom : ℕ
 slotRoom = 24600
+
+abbrev pub windowRoom : ℕ
+windowRoom = 2 * slotRoom
 
 -- what `front_size` answers: none for a degree above 180
 abbrev pub Front : ℕ → ℕ → Type 0

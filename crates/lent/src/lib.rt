@@ -11,10 +11,11 @@ use slices;
 // The numbers of one fit's work.
 pub const FIT_ROOM: usize = 150_000;
 
-// The numbers of a pair of neighbouring nodes, a slot for each satellite.
-pub const WINDOW_ROOM: usize = 49_200;
-
+// The numbers of a slot, one window of one satellite.
 pub const SLOT_ROOM: usize = 24_600;
+
+// Those of a pair of neighbouring nodes, which has a slot for each satellite.
+pub const WINDOW_ROOM: usize = 2 * SLOT_ROOM;
 
 // Places for the coefficients of one kind.
 fn places(degree: usize) -> usize
