@@ -52,7 +52,7 @@ pub fn idx(n: usize, m: usize) -> Index
 
 // L, and 0 above degree 180.
 fn size_of(degree: usize) -> usize
-    ensures { λ r. ⌜ (degree ≤ 180 → r ≡ size degree) × (r ≤ 16471) ⌝ }
+    ensures { λ r. ⌜ (degree ≤ 180 → r ≡ size degree) × (r ≤ 16471) × (180 < degree → r ≡ 0) ⌝ }
 {
     if degree > 180 {
         return 0;
