@@ -5,9 +5,12 @@
 // ends, or a line is malformed, there is no more to read.
 ghost use mathlib.Core.Path.{_≡_};
 ghost use Prim.Native.Nat.{_<_, _≤_};
+ghost use lib.Dec.{eqb};
 ghost use lib.ListN.{length, drop};
+ghost use lib.Ieee.{binary64, toBits};
 ghost use mir.Syntax.{w64};
 ghost use mir.Val.{toZ, ofZ};
+ghost use Rattle.laws.specs.Checks.{all};
 
 pub enum Item {
     Value(u64),
@@ -223,10 +226,19 @@ pub fn say_keys(keys: &[i64]) {
     }
 }
 
-fn all_are(values: &[f64], bits: u64) -> bool {
+// Whether x has these bits; each NaN has 7FF8000000000000.
+fn has_bits(x: f64, bits: u64) -> bool
+    ensures { λ r. ⌜ r ≡ eqb (toBits binary64 x) bits ⌝ }
+{
+    hex::pattern(x) == bits
+}
+
+fn all_are(values: &[f64], bits: u64) -> bool
+    ensures { λ r. ⌜ r ≡ all (λ x. eqb (toBits binary64 x) bits) (now (values .entry)) ⌝ }
+{
     let mut i = 0;
     while i < values.len() {
-        if hex::pattern(values[i]) != bits {
+        if !has_bits(values[i], bits) {
             return false;
         }
         i += 1;
