@@ -249,9 +249,6 @@ text-refused text out out' n r e h p =
     some zero h t = absurd (h refl)
     some (suc n) h t = refl
 
-pub refusal-none : (text : List ℕ) (n : ℕ) → n ≡ textRefusal text → n ≡ 0 → textRefusal text ≡ 0
-refusal-none text n e h = sym e ∙ h
-
 pub text-lines : (text : List ℕ) → textRefusal text ≡ 0 → length text / 33 ≤ 4096
 text-lines text h = let k : length text ≤ 0 + 33 * 4096 = refusal-length 4096 text 0 h in omega arith
 

@@ -2,13 +2,13 @@
 use mathlib.Core.Path.{_≡_, refl, sym, ap, _∙_, subst}
 use mathlib.Core.List.{List, [], _∷_, _++_, append-assoc}
 use mathlib.Core.Bool.{Bool, true, false, cond}
-use Prim.Native.Nat.{ℕ, zero, suc, _+_, _-_, _*_, _<_, _≤_}
+use Prim.Native.Nat.{ℕ, suc, _+_, _-_, _≤_}
 use native.Mathlib.Nat.{zero-add, suc-add}
 use native.Mathlib.Omega.{arith}
 use lib.Dec.{T, leb}
 use lib.Ieee.{Float, lt}
-use lib.Ieee.Bits.{is-true, is-false}
-use lib.ListN.{length, take, drop, length-append, length-drop, take-append-drop}
+use lib.Ieee.Bits.{is-true}
+use lib.ListN.{length, take, drop, length-append, take-append-drop}
 use lib.Seq.{drop-drop, take-at, length-take-le}
 use borrow.Rule.Slice.PartMut.{midOf, putMid, put-same, same-len-mid}
 use Rattle.laws.specs.Order.{lt-tr}
@@ -16,7 +16,7 @@ use Rattle.laws.specs.Floats.{_⊖_}
 use Rattle.laws.specs.Checks.{rising}
 use Rattle.laws.specs.Bools.{by, left-true, right-true}
 use Rattle.detrend.specs.Fit.{revolutionOf}
-use Rattle.detrend.specs.Revolutions.{countBefore, revolvedOf, windowsOf, removedOf, Revolution, revolutionsOf, detrendedIn, detrendedBy}
+use Rattle.detrend.specs.Revolutions.{countBefore, revolvedOf, windowsOf, removedOf, revolutionsOf, detrendedIn, detrendedBy}
 use Rattle.detrend.proofs.Lists.{length-mid, drop-mid}
 use Rattle.detrend.proofs.Parts.{length-revolved}
 

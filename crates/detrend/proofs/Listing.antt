@@ -7,9 +7,9 @@ use native.Mathlib.Numerals.{add-one}
 use native.Mathlib.Omega.{arith}
 use lib.Dec.{T, leb, eqb}
 use lib.Ieee.{Float, nan, lt}
-use lib.Ieee.Bits.{is-true, is-false}
-use lib.ListN.{length, length-replicate, take, drop, getD, set, replicate, length-append, length-set, length-map, length-drop, drop-of-length-le, take-append-drop}
-use lib.Seq.{take-suc-set, drop-set-lt, drop-cons, length-take-le, take-all}
+use lib.Ieee.Bits.{is-true}
+use lib.ListN.{length, length-replicate, take, drop, getD, set, replicate, length-set, length-map, take-append-drop}
+use lib.Seq.{drop-set-lt, length-take-le}
 use borrow.Author.Tests.{le-leb, lt-leb, eqb-true}
 use Rattle.laws.specs.Checks.{all, isTime, rising}
 use Rattle.laws.specs.Floats.{_⊖_, zero64}
@@ -19,7 +19,7 @@ use Rattle.laws.specs.Bools.{left-true, right-true}
 use Rattle.slices.proofs.Calls.{cond-passes}
 use Rattle.slices.specs.declared.Counted.the-variants.{Counted as Found, Refused as NotCounted}
 use Rattle.detrend.specs.Revolutions.{countBefore, Revolution, revolutionsOf}
-use Rattle.detrend.specs.Calls.{revolutionsRefusal, LeftLists, listed, firstsIn, endsIn, startsIn, periodsIn, Listed, listedUnless}
+use Rattle.detrend.specs.Calls.{revolutionsRefusal, listed, Listed, listedUnless}
 
 -- ---- counting the times before b of a rising list, by halving
 

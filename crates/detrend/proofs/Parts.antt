@@ -1,13 +1,13 @@
 -- Laws of the fit of one revolution in a work area. Assumes nothing.
 use mathlib.Core.Path.{_≡_, refl, sym, ap, _∙_}
-use mathlib.Core.List.{List, [], _∷_, _++_}
-use mathlib.Core.Bool.{Bool, true, false, cond}
+use mathlib.Core.List.{List, [], _∷_}
+use mathlib.Core.Bool.{Bool, true, false}
 use Prim.Native.Nat.{ℕ, zero, suc, _+_, _-_, _*_, _<_, _≤_}
 use native.Mathlib.Nat.{zero-add}
 use native.Mathlib.Omega.{arith}
 use lib.Dec.{leb}
 use lib.Ieee.{Float, nan}
-use lib.ListN.{length, take, drop, getD, set, length-drop}
+use lib.ListN.{length, take, drop, getD, set}
 use lib.Seq.{getD-drop, getD-take, drop-drop, take-all}
 use borrow.Rule.Slice.PartMut.{midOf, putMid, put-same, same-len-mid}
 use Rattle.laws.specs.Floats.{_⊖_}

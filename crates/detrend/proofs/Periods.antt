@@ -1,8 +1,7 @@
 -- The periods of the revolutions between nodes that are times are finite, so that `revolutions` hands out no other number. Assumes nothing.
-use mathlib.Core.Path.{_≡_, refl, sym, ap, _∙_, subst}
-use mathlib.Core.Bool.{Bool, true, false, cond, _&&_}
+use mathlib.Core.Bool.{Bool, true, false, cond}
 use mathlib.Core.List.{List, [], _∷_, map}
-use Prim.Native.Nat.{ℕ, _-_}
+use Prim.Native.Nat.{_-_}
 use lib.Dec.{T, leb}
 use lib.Ieee.{Float, lt}
 use lib.Ieee.Fits.{and-l, and-r, and-i}

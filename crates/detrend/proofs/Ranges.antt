@@ -1,16 +1,14 @@
 -- Laws of the detrending by ranges. Assumes nothing.
 use mathlib.Core.Path.{_≡_, refl, sym, ap, _∙_}
-use mathlib.Core.List.{List, [], _∷_, _++_}
+use mathlib.Core.List.{List, [], _∷_}
 use mathlib.Core.Bool.{Bool, true, false, cond, not}
-use Prim.Native.Nat.{ℕ, zero, suc, _+_, _-_, _*_, _<_, _≤_}
-use native.Mathlib.Numerals.{add-one}
+use Prim.Native.Nat.{ℕ, _+_, _-_, _*_, _<_, _≤_}
 use native.Mathlib.Omega.{arith}
 use lib.Dec.{leb, ltb, eqb}
 use borrow.Author.Tests.{eqb-true, leb-true, le-leb, lt-leb, lt-ltb, le-ltb, ltb-true, ltb-false, not-true, not-false}
 use borrow.Rule.Slice.PartMut.{midOf, putMid, same-len-mid}
 use lib.Ieee.{Float, nan}
 use lib.ListN.{length, take, drop, getD, drop-of-length-le}
-use lib.Seq.{drop-cons}
 use Rattle.detrend.specs.Fit.{revolutionOf}
 use Rattle.detrend.specs.Revolutions.{revolutionsIn, detrendedIn, detrendedBy, detrendedOf}
 use Rattle.detrend.specs.Work.{Detrended, DetrendedAll}

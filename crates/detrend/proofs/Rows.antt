@@ -1,22 +1,21 @@
 -- Laws of the definitions of `specs/Revolution.antt`. Assumes nothing.
 use mathlib.Core.Path.{_≡_, refl, sym, ap, _∙_}
 use mathlib.Core.List.{List, [], _∷_, _++_, append-assoc, append-nil}
-use mathlib.Core.Bool.{Bool, true, false, cond, not, _&&_}
-use Prim.Native.Nat.{ℕ, zero, suc, _+_, _-_, _*_, _<_, _≤_}
+use mathlib.Core.Bool.{Bool, true, false, not, _&&_}
+use Prim.Native.Nat.{ℕ, _+_, _-_, _*_, _<_, _≤_}
 use native.Mathlib.Numerals.{add-one}
 use native.Mathlib.Omega.{arith}
-use lib.Ieee.{Float, nan, lt, eq, ne}
-use lib.ListN.{length, take, drop, getD, set, length-set, length-take, length-drop, length-append, drop-of-length-le}
-use lib.Seq.{take-suc, take-all, drop-cons, getD-drop, take-at, drop-at}
+use lib.Ieee.{Float, nan, eq, ne}
+use lib.ListN.{length, take, drop, getD, set, length-take, length-drop, length-append, drop-of-length-le}
+use lib.Seq.{take-suc, getD-drop}
 use borrow.Rule.Slice.PartMut.{midOf, putMid, same-len-mid}
-use Rattle.laws.specs.Floats.{_⊕_, _⊖_, _⊗_, _⊘_, zero64, one64, two64}
+use Rattle.laws.specs.Floats.{_⊖_, _⊗_, _⊘_, zero64, one64, two64}
 use Rattle.numbers.specs.declared.SineCosine.{SineCosine}
 use Rattle.numbers.specs.Numbers.{sineCosine}
 use Rattle.numbers.specs.Constants.{angleFrom}
 use Rattle.laws.specs.Loops.{head-at}
-use Rattle.detrend.specs.Fit.{rowOf, rowsOf, fittedBy, lessFit, allZero}
-use Rattle.detrend.specs.Revolutions.{countBefore}
-use Rattle.detrend.proofs.Lists.{put-on, put-none, get-before, get-after, length-mid}
+use Rattle.detrend.specs.Fit.{rowOf, rowsOf, allZero}
+use Rattle.detrend.proofs.Lists.{put-on, put-none, get-before, length-mid}
 
 -- ---- a row is written
 
@@ -99,10 +98,6 @@ rows-length start period from count to i s s₀ h b t inv =
     (length-rows start period (midOf from i s₀) ∙ simp (length-take, length-drop) (omega arith))
 
 -- ---- zero values
-
-ne-eq : (v w : Float) → ne v w ≡ not (eq v w)
-unfolding ne
-ne-eq v w = refl
 
 pub zero-goes : (x : List Float) (g : Bool) (i : ℕ) → i < length x → ne (getD x i nan) zero64 ≡ false → allZero (drop i x) ≡ g → allZero (drop (i + 1) x) ≡ g
 unfolding allZero ne

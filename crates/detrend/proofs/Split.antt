@@ -1,13 +1,12 @@
 -- The removal of each revolution's fit is the function that splits the samples at the nodes, so that a list joined at a node is detrended part by part. Assumes nothing.
 use mathlib.Core.Path.{_≡_, refl, sym, ap, _∙_, subst}
 use mathlib.Core.List.{List, [], _∷_, _++_, map}
-use mathlib.Core.Bool.{Bool, true, false, cond, _&&_}
-use Prim.Native.Nat.{ℕ, zero, suc, _+_, _-_, _*_, _<_, _≤_}
-use native.Mathlib.Nat.{suc-inj}
+use mathlib.Core.Bool.{Bool, true, false, cond}
+use Prim.Native.Nat.{ℕ, zero, suc, _+_, _-_}
 use native.Mathlib.Omega.{arith}
 use lib.Dec.{T}
-use lib.Ieee.{Float, nan, lt, le}
-use lib.Ieee.Bits.{is-true, is-false}
+use lib.Ieee.{Float, lt, le}
+use lib.Ieee.Bits.{is-false}
 use lib.ListN.{length, take, drop, length-append, length-map}
 use Rattle.laws.specs.Order.{lt-tr, le→nlt}
 use Rattle.laws.specs.Lists.{All}

@@ -1,13 +1,13 @@
 -- Laws of the walk over the revolutions. Assumes nothing.
 use mathlib.Core.Path.{_≡_, refl, sym, ap, _∙_}
 use mathlib.Core.List.{List, [], _∷_, _++_, append-assoc}
-use mathlib.Core.Bool.{Bool, true, false, cond}
-use Prim.Native.Nat.{ℕ, zero, suc, _+_, _-_, _*_, _<_, _≤_}
+use mathlib.Core.Bool.{true, false}
+use Prim.Native.Nat.{ℕ, suc, _+_, _-_, _*_, _<_, _≤_}
 use native.Mathlib.Numerals.{add-one}
 use native.Mathlib.Nat.{zero-add}
 use native.Mathlib.Omega.{arith}
 use lib.Ieee.{Float, nan, lt}
-use lib.ListN.{length, take, drop, getD, length-drop, drop-of-length-le}
+use lib.ListN.{length, take, drop, getD, drop-of-length-le}
 use lib.Dec.{leb}
 use borrow.Author.Tests.{le-leb, lt-leb}
 use lib.Seq.{drop-cons, drop-drop, take-at}
@@ -15,7 +15,6 @@ use lib.ListN.{take-append-drop, length-append}
 use lib.Seq.{length-take-le}
 use borrow.Rule.Slice.PartMut.{midOf, putMid, put-same}
 use Rattle.laws.specs.Floats.{_⊖_}
-use Rattle.detrend.specs.Fit.{revolutionOf}
 use Rattle.detrend.specs.Revolutions.{countBefore, revolvedOf, windowsOf, removedOf}
 use Rattle.detrend.specs.Work.{Detrended, Window, Removed}
 use Rattle.detrend.proofs.Lists.{length-mid, drop-mid}

@@ -2,7 +2,7 @@
 use Prim.Native.Nat.{ℕ, zero, suc, _*_, _-_}
 use mathlib.Core.Path.{_≡_}
 use mathlib.Core.Bool.{Bool}
-use mathlib.Core.List.{List, [], _∷_, _++_, map}
+use mathlib.Core.List.{List, [], _∷_, map}
 use lib.Dec.{leb, eqb}
 use lib.Ieee.{Float}
 use lib.Ieee.Scale.{finite}

@@ -1,7 +1,7 @@
 -- Detrending by revolutions (document 01, module 6; the source's `revolutions`, `detrend`, `remove_per_revolution`): a revolution runs from one node, included,
 -- to the next, excluded, and 50 epochs are needed. Assumes nothing.
-use Prim.Native.Nat.{ℕ, zero, suc, _-_}
-use mathlib.Core.Bool.{Bool, cond}
+use Prim.Native.Nat.{ℕ, suc, _-_}
+use mathlib.Core.Bool.{cond}
 use mathlib.Core.List.{List, [], _∷_, _++_}
 use lib.Dec.{leb}
 use lib.Ieee.{Float, lt}

@@ -1,7 +1,7 @@
 -- What the functions over a work area of n samples leave in it: n times, n values, and rows of six behind them, of which nothing is said. Assumes nothing.
 use mathlib.Core.Path.{_≡_}
 use Prim.Native.Nat.{ℕ, _+_, _-_, _*_, _≤_, _<_}
-use mathlib.Core.List.{List, [], _∷_, _++_}
+use mathlib.Core.List.{List, [], _∷_}
 use lib.Ieee.{Float}
 use lib.ListN.{length, take, drop}
 use borrow.Rule.Slice.PartMut.{midOf, putMid}

@@ -1,5 +1,5 @@
 -- What the calls hand out and leave behind. Assumes nothing.
-use Prim.Native.Nat.{ℕ, zero, suc, _+_, _*_, _≤_, _<_}
+use Prim.Native.Nat.{ℕ, _+_, _≤_}
 use mathlib.Core.Path.{_≡_, refl, sym, ap, ap₂, _∙_}
 use mathlib.Core.Bool.{Bool, true, false, cond, not, _&&_}
 use mathlib.Core.List.{List, [], _∷_}
@@ -11,20 +11,19 @@ use Rattle.laws.specs.Floats.{_⊗_, _⊘_}
 use Rattle.numbers.specs.Numbers.{cosine}
 use Rattle.laws.specs.Checks.{all}
 use Rattle.laws.specs.Loops.{cleared, same-cleared}
-use Rattle.laws.specs.Tables.{tri, row, rows, rows-length}
-use Rattle.slices.specs.Calls.{Left, left, handed, settled}
+use Rattle.laws.specs.Tables.{rows, rows-length}
+use Rattle.slices.specs.Calls.{left, handed, settled}
 use Rattle.slices.specs.declared.Outcome.{Outcome}
 use Rattle.slices.specs.declared.Outcome.the-variants.{Accepted, Refused}
 use Rattle.slices.proofs.Calls.{call-refused}
 use Rattle.series.specs.Legendre.{aOf, bOf}
-use Rattle.series.specs.Field.{size, Fits}
+use Rattle.series.specs.Field.{size}
 use Rattle.series.specs.Prepared.{factorOf, tabulated}
 use Rattle.series.specs.declared.Factor.{Factor}
 use Rattle.series.specs.declared.Factor.the-variants.{RecursionA, RecursionB}
 use Rattle.series.specs.declared.Partials.{Partials}
 use Rattle.fields.specs.Calls.{finitePartials, finiteNeu, accelerationOf, accelerationCall, handedTwo, handedOne, twoTables, refusalOf, newCall, judgedPartials}
 use Rattle.fields.specs.declared.PartialsAnswer.the-variants as partials
-use Rattle.fields.specs.declared.AccelerationAnswer.{AccelerationAnswer}
 use Rattle.fields.specs.declared.AccelerationAnswer.the-variants as acceleration
 use Rattle.fields.proofs.Refusals.{passed, two-say}
 

@@ -1,8 +1,7 @@
 -- The refusals of module 1, and what holds where none applies. Assumes nothing.
-use Prim.Native.Nat.{ℕ, zero, suc, _+_, _*_, _≤_, _<_}
+use Prim.Native.Nat.{ℕ, _+_, _*_, _≤_, _<_}
 use mathlib.Core.Path.{_≡_, refl, sym, ap, _∙_}
 use mathlib.Core.Bool.{Bool, true, false, cond, _&&_}
-use native.Mathlib.Omega.{arith}
 use borrow.Author.Tests.{le-leb, lt-leb, leb-true, eqb-true}
 use lib.Dec.{eqb, leb}
 use Rattle.laws.specs.Tables.{tri}
@@ -11,7 +10,6 @@ use Rattle.laws.specs.Checks.{degreeFine}
 use Rattle.slices.proofs.Calls.{cond-passes}
 use Rattle.series.specs.Field.{size, Fits}
 use Rattle.fields.specs.Calls.{twoTables, fieldAnd, fourTables, refusalOf, indexOf}
-use Rattle.fields.specs.declared.Index.{Index}
 use Rattle.fields.specs.declared.Index.the-variants as index
 
 -- ---- the index

@@ -1,7 +1,7 @@
 -- The calls that work in a prepared scratch slice: `derive`, `compute_with_derivative`, `partials`; and `rescaled`. Assumes nothing.
-use Prim.Native.Nat.{ℕ, zero, suc, _+_, _-_, _*_, _≤_, _<_}
+use Prim.Native.Nat.{ℕ, _+_, _-_, _*_, _≤_, _<_}
 use mathlib.Core.Path.{_≡_, refl, sym, ap, ap₂, subst, _∙_}
-use mathlib.Core.Bool.{Bool, true, false, cond, _&&_}
+use mathlib.Core.Bool.{Bool, _&&_}
 use mathlib.Core.List.{List, [], _∷_, _++_}
 use native.Mathlib.Omega.{arith}
 use borrow.Author.Tests.{le-leb}
@@ -16,7 +16,7 @@ use Rattle.laws.specs.Tables.{tri, row, rows, row-turn, row-same, rows-length}
 use Rattle.laws.specs.Floats.{_⊗_}
 use Rattle.numbers.specs.Numbers.{sine, cosine}
 use Rattle.slices.specs.Slices.{copied}
-use Rattle.slices.specs.Calls.{Left, left, handed, settled}
+use Rattle.slices.specs.Calls.{Left, left, settled}
 use Rattle.slices.specs.declared.Outcome.{Outcome}
 use Rattle.slices.specs.declared.Outcome.the-variants.{Accepted, Refused}
 use Rattle.slices.proofs.Calls.{call-refused}

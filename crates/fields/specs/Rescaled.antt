@@ -1,7 +1,7 @@
 -- A field to another GM and radius (coefficients.rs, `rescaled`; document 01, module 1). A field is one list of 2 + 2·L numbers: GM, radius,
 -- C in index order, S in index order. Assumes nothing.
 use Prim.Native.Nat.{ℕ, _+_}
-use mathlib.Core.Bool.{Bool, cond, _&&_}
+use mathlib.Core.Bool.{cond, _&&_}
 use mathlib.Core.List.{List}
 use lib.Dec.{leb}
 use lib.ListN.{length, getD}

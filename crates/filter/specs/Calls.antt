@@ -1,8 +1,8 @@
 -- The public calls (document 01, "Outcomes" and "Bounds"): which refusal, and what is left behind. A length of an output or of the scratch is named by what it is for:
 -- `places` for the numbers handed out, `room` for the scratch. Assumes nothing.
-use mathlib.Core.Bool.{Bool, true, false, cond, _&&_}
+use mathlib.Core.Bool.{Bool, cond, _&&_}
 use mathlib.Core.List.{List, [], _∷_}
-use Prim.Native.Nat.{ℕ, zero, suc, _+_, _*_, _/_, _%_}
+use Prim.Native.Nat.{ℕ, _+_, _*_, _/_, _%_}
 use lib.Dec.{leb, ltb, eqb}
 use lib.ListN.{length, replicate}
 use lib.Ieee.{Float}

@@ -2,7 +2,7 @@
 -- filter coefficients", divided by its a0; a Butterworth filter of order 4 is two of them, with Q = 1 / (2 cos θ) for θ = π/8 and 3π/8. Assumes nothing.
 use mathlib.Core.List.{List, [], _∷_}
 use lib.Ieee.{Float, neg}
-use Rattle.laws.specs.Floats.{_⊕_, _⊖_, _⊗_, _⊘_, bits, one64, two64}
+use Rattle.laws.specs.Floats.{_⊕_, _⊖_, _⊗_, _⊘_, one64, two64}
 use Rattle.laws.specs.WholeNumbers.{number}
 use Rattle.numbers.specs.Numbers.{π, sine, cosine}
 use Rattle.filter.specs.declared.Biquad.{Biquad}

@@ -1,13 +1,11 @@
 -- The reach of the horizon cannot be 1,801: a pair of submissions in which all lists reach a node z + 1,801, two kept epochs stand in a run that ends more than 3.0 s before z, and
 -- yet one appended field moves both passed values. For an odd b the last step of the window (a, b) falls on b + 1,801. By computing. Assumes nothing.
 use mathlib.Core.Path.{_≡_, refl}
-use mathlib.Core.Bool.{Bool, true, false, _&&_}
-use mathlib.Core.List.{List, [], _∷_}
-use Prim.Native.Nat.{ℕ}
+use mathlib.Core.Bool.{Bool, _&&_}
+use mathlib.Core.List.{[], _∷_}
 use native.Mathlib.Omega.{arith}
 use lib.Dec.{T}
-use lib.IntN.{ℤ, pos}
-use lib.ListN.{length}
+use lib.IntN.{pos}
 use lib.Ieee.{Float, ofBits, ofInt, toSigned, add, sub, mul, div, le, lt}
 use Rattle.laws.specs.Floats.{_⊕_, bits}
 use Rattle.laws.specs.WholeNumbers.{number, ceil, floor}
@@ -19,7 +17,7 @@ use Rattle.finality.specs.Stages.{timeOf}
 use Rattle.finality.specs.Arcs.{start, steps, inside, windowOf}
 use Rattle.finality.specs.Brackets.{covers, bracketed}
 use Rattle.finality.specs.Detrending.{before, from, fromNode, detrend}
-use Rattle.finality.specs.Sheet.{endOf, count, obsTime, Submission, Valid, Grows, fitted, keptOf, kept, orbits, times, sheet}
+use Rattle.finality.specs.Sheet.{endOf, count, obsTime, Submission, Valid, Grows, fitted, keptOf, kept, orbits, sheet}
 use Rattle.finality.specs.Kernels.{stagesOf}
 use Rattle.finality.specs.Toy.{toy, tight, loosened}
 use Rattle.finality.proofs.Accepted.{valid-of}

@@ -1,14 +1,14 @@
 -- The theorem is not empty: a toy instance with 0 < F < kept, both submissions valid, and an entry beyond F that appended data does change. By computing. Assumes nothing.
-use mathlib.Core.Path.{_≡_, refl, ap, _∙_}
+use mathlib.Core.Path.{_≡_, refl}
 use mathlib.Core.Option.{Option, none, some}
 use mathlib.Core.Bool.{Bool, true, false, _&&_, cond}
 use mathlib.Core.List.{List, [], _∷_, map}
-use Prim.Native.Nat.{ℕ, suc, _≤_, _<_, zero-le}
+use Prim.Native.Nat.{ℕ, suc, _≤_, zero-le}
 use native.Mathlib.Omega.{arith}
 use lib.Dec.{T, leb, leb→le}
-use lib.IntN.{ℤ, pos}
-use lib.ListN.{length, take, drop, replicate, length-replicate, length-reverse}
-use lib.Ieee.{Float, binary64, ofBits, ofInt, toSigned, add, sub, mul, div, le, lt}
+use lib.IntN.{pos}
+use lib.ListN.{length, replicate, length-reverse}
+use lib.Ieee.{Float, ofBits, ofInt, toSigned, add, sub, mul, div, le, lt}
 use Rattle.laws.specs.Floats.{bits}
 use Rattle.laws.specs.Lists.{cond-ind}
 use Rattle.laws.specs.WholeNumbers.{number, ceil, floor}
@@ -17,10 +17,10 @@ use Rattle.laws.specs.Checks.{isTime}
 use Rattle.laws.specs.Runs.{splits, passed}
 use Rattle.finality.specs.Tables.{Table, find}
 use Rattle.finality.specs.Stages.{Stages}
-use Rattle.finality.specs.Arcs.{Arc, start, steps, inside, windowOf}
+use Rattle.finality.specs.Arcs.{start, steps, inside, windowOf}
 use Rattle.finality.specs.Brackets.{covers, bracketed}
 use Rattle.finality.specs.Detrending.{before, from, fromNode, detrend}
-use Rattle.finality.specs.Sheet.{largest, endOf, count, published, Observation, Submission, Valid, Grows, coveredIn, fieldIn, fitted, keptOf, kept, epochOf, orbits, sampleOf, times, horizon, countTo, final, sheet, whereFound}
+use Rattle.finality.specs.Sheet.{largest, endOf, count, published, Observation, Submission, Valid, Grows, coveredIn, fieldIn, fitted, keptOf, kept, epochOf, orbits, sampleOf, horizon, countTo, final, sheet, whereFound}
 use Rattle.finality.specs.Kernels.{stagesOf}
 use Rattle.finality.specs.Toy.{spread, toyFit, toy, shorter, longer}
 use Rattle.finality.proofs.Accepted.{valid-of}

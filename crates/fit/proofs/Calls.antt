@@ -25,7 +25,7 @@ use Rattle.lent.specs.Lent.{fitRoom, fieldsFine, few, lengthsFit, statesFit, mo
 use Rattle.lent.proofs.Passed.{all-pass, degree-passes, states-pass, lengths-room}
 use Rattle.finality.specs.Brackets.{covers}
 use Rattle.integrate.specs.declared.kernel.Arc.{Arc}
-use Rattle.integrate.specs.Room.{runSize, Run, Orbit, flat}
+use Rattle.integrate.specs.Room.{runSize, Run, flat}
 use Rattle.integrate.specs.Force.{model, fullForce}
 use Rattle.integrate.specs.Calls.{outFits, arcFits}
 use Rattle.integrate.proofs.Calls.{out-passes, flat-part}
@@ -33,7 +33,7 @@ use Rattle.fit.specs.declared.kernel.Held.{Held}
 use Rattle.fit.specs.declared.kernel.Held.the-variants.{Known, Missing}
 use Rattle.fit.specs.declared.kernel.Fitted.{Fitted as Fit}
 use Rattle.fit.specs.declared.kernel.Fitted.the-variants.{Fitted, Refused}
-use Rattle.fit.specs.Fit.{Observed, stateFor, fitOf, fitFrom, fittedFrom, orbitOf, observed, startOf, improved, regular, rmsAt}
+use Rattle.fit.specs.Fit.{Observed, stateFor, fitOf, fitFrom, fittedFrom, orbitOf, observed, startOf, improved, regular}
 use Rattle.fit.specs.Contracts.{Fits, arcServes, ArcFit}
 use Rattle.fit.specs.Handing.{Handed}
 use Rattle.fit.specs.Calls.{numberOf, rmsIn, refusal, fitCall}

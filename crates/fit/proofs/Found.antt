@@ -1,16 +1,15 @@
 -- A place that was found lies in the list.
-use mathlib.Core.Path.{_≡_, refl, sym, ap, _∙_}
-use mathlib.Core.Bool.{Bool, true, false, cond, _||_}
+use mathlib.Core.Path.{_≡_}
+use mathlib.Core.Bool.{_||_}
 use mathlib.Core.List.{List, [], _∷_}
-use Prim.Native.Nat.{ℕ, zero, suc, _+_, _<_}
+use Prim.Native.Nat.{ℕ, suc, _+_, _<_}
 use native.Mathlib.Omega.{arith}
 use lib.Ieee.{Float}
 use lib.IntN.{ℤ}
 use lib.ListN.{length}
 use lib.Signed.{ltZ}
 use Rattle.laws.specs.Bools.{by}
-use Rattle.slices.specs.declared.Found.{Found}
-use Rattle.slices.specs.declared.Found.the-variants.{At, Nothing}
+use Rattle.slices.specs.declared.Found.the-variants.{At}
 use Rattle.numbers.specs.Seconds.{wholeSecond}
 use Rattle.slices.specs.Slices.{lookup, lookupFrom}
 

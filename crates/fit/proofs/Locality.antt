@@ -1,30 +1,27 @@
 -- A fit reads its model and its states at the arc's own times only: where two agree there, the fits are the same.
-use mathlib.Core.Path.{_≡_, refl, sym, ap, _∙_, subst}
-use mathlib.Core.Bool.{Bool, true, false, cond, _&&_}
+use mathlib.Core.Path.{_≡_, refl, ap, _∙_}
+use mathlib.Core.Bool.{Bool}
 use mathlib.Core.List.{List, _++_}
 use Prim.Native.Nat.{ℕ, zero, suc, _+_, _*_, _/_, _%_, _≤_, _<_}
 use native.Mathlib.Omega.{arith}
-use lib.Dec.{ltb}
-use lib.Ieee.{Float, nan}
-use lib.ListN.{length, getD}
+use lib.Ieee.{Float}
+use lib.ListN.{length}
 use Rattle.vectors.specs.declared.Vector.{Vector}
 use Rattle.integrate.specs.declared.kernel.State.{State}
 use Rattle.integrate.specs.declared.kernel.Arc.{Arc}
 use Rattle.fit.specs.declared.kernel.Held.{Held}
 use Rattle.fit.specs.declared.kernel.Held.the-variants.{Known, Missing}
 use Rattle.fit.specs.declared.kernel.Fitted.{Fitted as Fit}
-use Rattle.fit.specs.declared.kernel.Fitted.the-variants.{Fitted, Refused}
-use Rattle.fit.specs.Fit.{Observed, axis, nth, seen, observedTo, observed, startOf, updatedOf, misfitAt, misfitsOf, designAt, misfitsAt, improved, regular, rmsOf, rmsAt, fittedFrom, fitFrom, fitOf, held, orbitOf}
+use Rattle.fit.specs.Fit.{Observed, axis, nth, seen, observedTo, observed, startOf, misfitAt, misfitsOf, designAt, misfitsAt, improved, regular, rmsAt, fittedFrom, fitFrom, fitOf, held, orbitOf}
 use Rattle.fit.specs.Contracts.{Within}
 use Rattle.fit.proofs.Steps.{within}
 use Rattle.forces.specs.Forces.{empiricalOf, fictitiousOf}
 use Rattle.integrate.specs.Force.{accelerationOf, argumentOf, runOf, strengthsOf}
-use Rattle.integrate.specs.Room.{Run, stateIn}
+use Rattle.integrate.specs.Room.{stateIn}
 use Rattle.integrate.specs.Steps.{Acceleration, stateAt, stepOf}
 use Rattle.laws.specs.Floats.{_⊕_, _⊖_, _⊘_, two64}
 use Rattle.laws.specs.Tables.{row-same}
 use Rattle.laws.specs.Times.{stepTime}
-use Rattle.least_squares.specs.LeastSquares.{solvable, solved}
 use Rattle.vectors.specs.Vector.{plus}
 
 -- two accelerations agree at a step's three times

@@ -1,35 +1,27 @@
 -- Laws of a round, of the last run, and of the whole fit.
-use mathlib.Core.Path.{_≡_, refl, sym, ap, _∙_, subst}
-use mathlib.Core.Bool.{Bool, true, false, cond, _&&_}
+use mathlib.Core.Path.{_≡_, refl, sym, ap, _∙_}
+use mathlib.Core.Bool.{true}
 use mathlib.Core.List.{List}
-use Prim.Native.Nat.{ℕ, zero, suc, _+_, _*_, _-_, _/_, _%_, _≤_, _<_}
+use Prim.Native.Nat.{ℕ, _+_, _*_, _-_, _/_, _%_, _≤_, _<_}
 use native.Mathlib.Omega.{arith}
-use lib.Dec.{ltb, eqb}
 use lib.Ieee.{Float, nan}
 use lib.ListN.{length, getD, take, drop, length-drop}
 use lib.Seq.{ext-getD, getD-take, getD-drop, length-take-le}
-use borrow.Author.Tests.{le-ltb, lt-ltb, eq-eqb}
+use borrow.Author.Tests.{le-ltb, eq-eqb}
 use Rattle.least_squares.specs.declared.kernel.Estimate.{Estimate}
 use Rattle.vectors.specs.declared.Vector.{Vector}
-use Rattle.integrate.specs.declared.kernel.State.{State}
 use Rattle.integrate.specs.declared.kernel.Arc.{Arc}
 use Rattle.integrate.specs.declared.kernel.Force.the-variants.{Full, J2}
-use Rattle.fit.specs.declared.kernel.Held.{Held}
-use Rattle.fit.specs.declared.kernel.Held.the-variants.{Known, Missing}
 use Rattle.fit.specs.declared.kernel.Fitted.{Fitted as Fit}
-use Rattle.fit.specs.declared.kernel.Fitted.the-variants.{Fitted, Refused}
-use Rattle.fit.specs.Fit.{Observed, axis, nth, observed, startOf, movedOf, updatedOf, misfitAt, misfitsOf, partialAt, designOf, designAt, misfitsAt, improved, regular, rmsOf, rmsAt, fittedFrom, fitFrom, fitOf, held, orbitOf}
-use Rattle.fit.specs.Room.{observedPart, misfitPart, designPart, workSize, Observes, stepNumber, stepAt, placeAt, runAt}
-use Rattle.fit.specs.Contracts.{Measured, Apart, Linearised, Within, Rounded, Finished, FitFrom, Fits, Observing}
-use Rattle.fit.proofs.Columns.{axis-of, run-reads, step-past, place-past, apart-then}
-use Rattle.fit.proofs.Steps.{within}
+use Rattle.fit.specs.Fit.{Observed, axis, nth, movedOf, updatedOf, misfitAt, misfitsOf, partialAt, designOf, designAt, misfitsAt, improved, regular}
+use Rattle.fit.specs.Room.{observedPart, misfitPart, designPart, workSize, Observes, stepNumber, stepAt, placeAt}
+use Rattle.fit.specs.Contracts.{Linearised, Within, Rounded}
+use Rattle.fit.proofs.Columns.{axis-of}
 use Rattle.forces.specs.Forces.{j2Of}
-use Rattle.integrate.proofs.Places.{only-same, only-then, stays3}
 use Rattle.integrate.specs.Force.{Model, attractionOf, fullForce, runOf}
-use Rattle.integrate.specs.Room.{Holds3, Only, Orbit, Run}
+use Rattle.integrate.specs.Room.{Run}
 use Rattle.laws.specs.Floats.{_⊖_}
 use Rattle.laws.specs.Tables.{row, row-at, row-length}
-use Rattle.laws.specs.WholeNumbers.{number}
 use Rattle.least_squares.specs.Kernel.{Estimated, shaped15}
 use Rattle.least_squares.specs.LeastSquares.{solvable, solved}
 

@@ -4,9 +4,9 @@ use mathlib.Core.Bool.{Bool, true, _&&_}
 use mathlib.Core.List.{List, [], _∷_, _++_, append-nil}
 use Prim.Native.Nat.{ℕ, zero, suc, _+_, _*_, _/_, _≤_, _<_}
 use native.Mathlib.Omega.{arith}
-use lib.Dec.{eqb, leb}
-use lib.Ieee.{Float, nan, ofInt, lt, toUnsigned, odd, units, round, span, climb, size}
-use lib.ListN.{length, getD, length-append, List·getD-append}
+use lib.Dec.{eqb}
+use lib.Ieee.{Float, ofInt, lt, toUnsigned, odd, units, round, span, climb, size}
+use lib.ListN.{length, length-append, List·getD-append}
 use lib.Seq.{getD-at}
 use borrow.Author.Tests.{eqb-true, eqb-false}
 use Rattle.integrate.specs.declared.kernel.Arc.{Arc}

@@ -1,12 +1,12 @@
 -- Laws of the last run and of the whole fit.
-use mathlib.Core.Path.{_≡_, refl, sym, ap, _∙_, subst}
-use mathlib.Core.Bool.{Bool, true, false, cond, _&&_}
+use mathlib.Core.Path.{_≡_, sym, ap, _∙_, subst}
+use mathlib.Core.Bool.{Bool, true, false}
 use mathlib.Core.List.{List}
 use Prim.Native.Nat.{ℕ, _+_, _*_, _-_, _/_, _%_, _≤_, _<_}
 use native.Mathlib.Omega.{arith}
 use lib.Dec.{ltb}
-use lib.Ieee.{Float, nan}
-use lib.ListN.{length, getD, take, drop}
+use lib.Ieee.{Float}
+use lib.ListN.{length, take, drop}
 use borrow.Author.Tests.{le-ltb, lt-ltb, ltb-true, ltb-false}
 use Rattle.least_squares.specs.declared.kernel.Estimate.{Estimate}
 use Rattle.vectors.specs.declared.Vector.{Vector}
@@ -17,7 +17,7 @@ use Rattle.fit.specs.declared.kernel.Held.{Held}
 use Rattle.fit.specs.declared.kernel.Held.the-variants.{Known, Missing}
 use Rattle.fit.specs.declared.kernel.Fitted.{Fitted as Fit}
 use Rattle.fit.specs.declared.kernel.Fitted.the-variants.{Fitted, Refused}
-use Rattle.fit.specs.Fit.{Observed, axis, observed, startOf, misfitsOf, misfitsAt, improved, regular, rmsOf, rmsAt, fittedFrom, fitFrom, fitOf, held, orbitOf}
+use Rattle.fit.specs.Fit.{Observed, axis, observed, startOf, misfitsOf, misfitsAt, improved, regular, rmsOf, rmsAt, fittedFrom, fitOf, orbitOf}
 use Rattle.fit.specs.Room.{observedPart, basePart, misfitPart, designPart, workSize, Observes, stepAt, placeAt, runAt}
 use Rattle.fit.specs.Contracts.{Measured, Apart, Within, Rounded, Finished, FitFrom, Fits, Observing}
 use Rattle.fit.proofs.Columns.{run-reads, step-past, place-past, apart-then}

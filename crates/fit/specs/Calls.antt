@@ -1,5 +1,5 @@
 -- The public call `fit_orbit` (document 01, "Outcomes" and "Bounds"): which refusal, the fit, what is left. Assumes nothing.
-use Prim.Native.Nat.{ℕ, _+_, _*_}
+use Prim.Native.Nat.{ℕ, _+_}
 use mathlib.Core.Bool.{cond, _&&_}
 use mathlib.Core.List.{List, [], _∷_}
 use lib.Dec.{leb}

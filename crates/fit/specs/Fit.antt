@@ -1,10 +1,10 @@
 -- A dynamic orbit fitted to observed positions: initial state and nine empirical accelerations, by Gauss-Newton with partials from the J2 model (document 01, module 4; the
 -- source's `fit_orbit`). It is a function of `covered`, of the full attraction as a function of the time, of the state at a time's second, and of the arc. Assumes nothing.
 use Prim.Native.Nat.{ℕ, zero, suc, _+_, _*_, _/_, _%_}
-use mathlib.Core.Bool.{Bool, true, false, cond, _&&_}
+use mathlib.Core.Bool.{Bool, cond, _&&_}
 use mathlib.Core.List.{List, [], _∷_, _++_}
 use lib.Dec.{ltb}
-use lib.Ieee.{Float, nan, binary64, le, lt}
+use lib.Ieee.{Float, nan, binary64}
 use lib.IntN.{ℤ}
 use lib.ListN.{length, getD, set, replicate}
 use Rattle.root.specs.Root.{sqrt}

@@ -2,16 +2,13 @@
 use mathlib.Core.Path.{_≡_}
 use mathlib.Core.Bool.{true, false, cond}
 use mathlib.Core.List.{List}
-use Prim.Native.Nat.{ℕ, _+_, _*_, _/_, _%_, _≤_, _<_}
+use Prim.Native.Nat.{ℕ, _+_, _*_, _/_, _%_, _<_}
 use lib.Dec.{leb}
 use lib.Ieee.{Float, nan, fin, lt, toUnsigned}
 use lib.IntN.{pos}
 use lib.ListN.{length, getD}
-use Rattle.vectors.specs.declared.Vector.{Vector}
-use Rattle.integrate.specs.declared.kernel.State.{State}
-use Rattle.fit.specs.Fit.{Observed, axis, nth}
+use Rattle.fit.specs.Fit.{Observed, nth}
 use Rattle.integrate.specs.Room.{runSize, Holds3}
-use Rattle.laws.specs.Floats.{_⊖_}
 use Rattle.laws.specs.WholeNumbers.{number}
 
 -- where the parts of a fit's work begin, counted from the states of a run on, which come first: at most 1,061 observed steps, four numbers each; the base positions

@@ -1,7 +1,7 @@
 -- The call `gravity`: its tests, the field copied into a prepared scratch, what is left behind. Assumes nothing.
 use mathlib.Core.Path.{_≡_, sym, ap, ap₂, _∙_, subst}
 use mathlib.Core.Bool.{Bool, true, cond, _&&_}
-use mathlib.Core.List.{List, [], _∷_, _++_}
+use mathlib.Core.List.{List, [], _++_}
 use Prim.Native.Nat.{ℕ, _+_, _*_, _-_, _<_, _≤_}
 use native.Mathlib.Omega.{arith}
 use borrow.Author.Tests.{lt-leb, le-leb, leb-true, eqb-true}
@@ -14,7 +14,7 @@ use Rattle.laws.specs.Floats.{zero64}
 use Rattle.laws.specs.Loops.{cleared}
 use Rattle.laws.specs.Bools.{both-true}
 use Rattle.slices.specs.Slices.{copied}
-use Rattle.slices.specs.Calls.{Left, left, settled}
+use Rattle.slices.specs.Calls.{left, settled}
 use Rattle.slices.proofs.Calls.{cond-passes, call-refused}
 use Rattle.slices.proofs.Laws.{copied-all}
 use Rattle.series.specs.Field.{size, Fits}

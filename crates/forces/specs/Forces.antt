@@ -14,7 +14,6 @@ use Rattle.numbers.specs.Constants.{decimal, earthGM, earthRadius, sunGM, moonG
 use Rattle.sky.specs.Sky.{sunMoon}
 use Rattle.series.specs.Field.{partialsWith, partialsBy}
 use Rattle.tide.specs.Tide.{placeOf, solidTide}
-use Rattle.tide.specs.declared.kernel.Place.{Place}
 use Rattle.tide.specs.Gravity.{gradient, tideGravity}
 use Rattle.forces.specs.declared.kernel.Moment.{Moment}
 use Rattle.forces.specs.declared.kernel.Axes.{Axes}

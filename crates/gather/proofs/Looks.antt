@@ -10,7 +10,7 @@ use lib.Ieee.{Float, nan}
 use lib.ListN.{length, getD}
 use borrow.Author.Tests.{le-leb}
 use Rattle.laws.specs.Checks.{all, isTime, isKey, time-says}
-use Rattle.laws.specs.Times.{Time, second, natural, natural-bound, second-is}
+use Rattle.laws.specs.Times.{Time, natural, natural-bound, second-is}
 use Rattle.laws.specs.Bools.{by, holds, left-true, right-true}
 use Rattle.numbers.specs.Seconds.{isHeld, wholeSecond}
 use Rattle.finality.specs.Tables.{Table, find}

@@ -8,7 +8,7 @@ use lib.Dec.{leb, eqb}
 use lib.IntN.{ℤ}
 use lib.Ieee.{Float}
 use lib.ListN.{length, replicate, length-replicate}
-use borrow.Author.Tests.{leb-true, le-leb, eqb-true, eq-eqb}
+use borrow.Author.Tests.{leb-true, eqb-true}
 use Rattle.lent.specs.Lent.{frontSize, Front}
 use Rattle.laws.specs.Floats.{zero64}
 use Rattle.laws.specs.Checks.{all, isTime, risingSeconds}
@@ -65,22 +65,6 @@ serving N p q ts values good outtimes outraws room h =
       outtimes = eqb-true outtimes m (outs .0);
       outraws = eqb-true outraws m (outs .1);
     }
-
--- and the other way, for callers
-pub serves-where : (N : ℕ) (p q : List ℤ) (ts : List Float) (values good outtimes outraws room : ℕ) → Serving N p q ts values good outtimes outraws room → gatherServes N p q ts values good outtimes outraws room ≡ true
-unfolding gatherServes
-serves-where N p q ts values good outtimes outraws room s =
-    rw (
-      le-leb N 180 (s .degree),
-      le-leb (frontSize N) room (s .room),
-      s .accC,
-      s .accD,
-      s .times,
-      eq-eqb values (length ts) (s .values),
-      eq-eqb good (length ts) (s .good),
-      eq-eqb outtimes (length ts) (s .outtimes),
-      eq-eqb outraws (length ts) (s .outraws),
-    )
 
 -- ---- the work
 

@@ -17,7 +17,7 @@ use Rattle.epochs.specs.Epochs.{time, residual}
 use Rattle.epochs.specs.declared.Epoch.{Epoch}
 use Rattle.integrate.specs.declared.kernel.State.{State}
 use Rattle.integrate.proofs.Places.{only-same}
-use Rattle.sighting.specs.Kept.{epochBy, observation, observations}
+use Rattle.sighting.specs.Kept.{epochBy, observation}
 use Rattle.sighting.specs.Work.{madeOf, Tried}
 use Rattle.sighting.specs.declared.Sighting.{Sighting}
 use Rattle.sighting.specs.declared.Made.{Made}

@@ -1,5 +1,5 @@
 -- Laws of printed pieces, as loops and calls give their premises. Assumes nothing.
-use mathlib.Core.Path.{_≡_, refl, sym, ap, _∙_}
+use mathlib.Core.Path.{_≡_, sym, ap, _∙_}
 use mathlib.Core.Bool.{Bool, true, false, cond}
 use mathlib.Core.List.{List, [], _∷_, _++_, append-assoc, append-nil}
 use Prim.Native.Nat.{ℕ, zero, suc, _+_, _-_, _/_, _<_, _≤_}
@@ -11,7 +11,7 @@ use lib.ListN.{length, take, drop, getD, set, length-append, length-take}
 use lib.Seq.{take-suc, take-at, take-all, length-take-le}
 use Rattle.laws.specs.Lists.{cond-ind}
 use Rattle.laws.specs.Loops.{take-set}
-use Rattle.hex.specs.Digits.{digitsOf, written, placesIn, placesOf, decimalOf, Put}
+use Rattle.hex.specs.Digits.{written, placesIn, placesOf, decimalOf, Put}
 use Rattle.hex.specs.Printing.{lineFeed, refusedText, Printed}
 use Rattle.hex.proofs.Laws.{digits-length}
 

@@ -1,29 +1,26 @@
 -- Laws of the public call. Assumes nothing.
-use mathlib.Core.Path.{_≡_, refl, sym, ap, subst, _∙_}
-use mathlib.Core.Bool.{Bool, true, false, cond, _&&_, and-true}
+use mathlib.Core.Path.{_≡_, refl, sym, ap, _∙_}
+use mathlib.Core.Bool.{Bool, true, false, _&&_, and-true}
 use mathlib.Core.List.{List, [], _∷_, _++_}
 use Prim.Native.Nat.{ℕ, zero, suc, _+_, _*_, _-_, _≤_, _<_}
 use native.Mathlib.Omega.{arith}
 use lib.Dec.{leb, eqb}
-use lib.Ieee.{Float, nan, le}
+use lib.Ieee.{Float, nan}
 use lib.Ieee.Scale.{finite}
 use lib.ListN.{length, take, drop, getD, length-append, length-drop}
 use lib.Seq.{ext-getD, getD-take, getD-drop, length-take-le, take-add, drop-drop}
 use borrow.Author.Tests.{leb-true, lt-leb, le-leb, eqb-true}
-use Rattle.laws.specs.Floats.{bits}
-use Rattle.laws.specs.Checks.{all, isTime, rising, latest, degreeFine}
+use Rattle.laws.specs.Checks.{all, isTime, rising, degreeFine}
 use Rattle.laws.specs.Loops.{cleared}
 use Rattle.laws.specs.Bools.{both-true}
 use Rattle.slices.specs.Slices.{copied}
 use Rattle.slices.specs.Calls.{left}
-use Rattle.slices.specs.declared.Outcome.{Outcome}
 use Rattle.slices.specs.declared.Outcome.the-variants.{Accepted, Refused}
 use Rattle.slices.proofs.Calls.{call-refused, call-handed}
 use Rattle.slices.proofs.Laws.{copied-all}
 use Rattle.lent.specs.Lent.{fitRoom, fieldsFine, lengthsFit, modelFine, frontSize, Front}
 use Rattle.lent.proofs.Passed.{all-pass, degree-passes, lengths-room}
 use Rattle.integrate.specs.declared.kernel.Arc.{Arc}
-use Rattle.integrate.specs.declared.kernel.State.{State}
 use Rattle.integrate.specs.declared.kernel.Force.{Force}
 use Rattle.integrate.specs.Room.{runSize, Run, Orbit, six, flat}
 use Rattle.integrate.specs.Force.{model, attractionOf, runOf, runFits}

@@ -1,19 +1,18 @@
 -- Laws of the numbers before the states: the field at a time, written over that of another. Assumes nothing.
-use mathlib.Core.Path.{_≡_, sym, ap, _∙_, subst}
-use mathlib.Core.Bool.{Bool, true, false, cond, not, _&&_, false≢true}
-use mathlib.Core.List.{List, [], _++_, append-assoc}
+use mathlib.Core.Path.{_≡_, sym, ap, _∙_}
+use mathlib.Core.Bool.{Bool, true, false, not, _&&_, false≢true}
+use mathlib.Core.List.{List, _++_}
 use Prim.Native.Nat.{ℕ, _+_, _*_, _-_, _/_, _≤_, _<_}
 use native.Mathlib.Decide.{decLe}
 use native.Mathlib.Omega.{arith}
 use lib.Dec.{T, leb, eqb}
 use lib.Ieee.{Float, nan, inf, fin, eq, isNan}
 use lib.ListN.{length, take, drop, getD, replicate, length-append, length-drop, length-replicate}
-use lib.Seq.{take-at, drop-at, take-all, getD-append-add, getD-drop, getD-take, ext-getD, length-take-le}
+use lib.Seq.{take-at, drop-at, getD-append-add, getD-drop, getD-take, ext-getD, length-take-le}
 use borrow.Author.Tests.{leb-true}
-use borrow.Rule.Slice.PartMut.{midOf, putMid}
+use borrow.Rule.Slice.PartMut.{putMid}
 use Rattle.lent.specs.Lent.{fieldSize, frontSize}
 use Rattle.laws.specs.Floats.{zero64}
-use Rattle.laws.specs.Loops.{cleared}
 use Rattle.laws.specs.Tables.{tri}
 use Rattle.laws.specs.Bools.{by, left-true, right-true}
 use Rattle.model.specs.Field.{cosines, sines}
@@ -22,7 +21,7 @@ use Rattle.model.specs.Calls.{atFits, atLeft}
 use Rattle.model.proofs.Checks.{kind-long}
 use Rattle.series.specs.Prepared.{prepared}
 use Rattle.series.proofs.Published.{prepared-length as long}
-use Rattle.integrate.specs.Force.{Model, model, frontAt}
+use Rattle.integrate.specs.Force.{Model, frontAt}
 use Rattle.integrate.specs.Room.{Only}
 
 -- a number that equals itself is none

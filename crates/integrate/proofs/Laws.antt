@@ -8,8 +8,8 @@ use native.Mathlib.Numerals.{add-one}
 use native.Mathlib.Omega.{arith}
 use lib.Dec.{leb}
 use lib.Ieee.{Float, nan}
-use lib.ListN.{length, take, drop, getD, replicate}
-use borrow.Rule.Slice.PartMut.{midOf, putMid, mid-len}
+use lib.ListN.{length, take, getD, replicate}
+use borrow.Rule.Slice.PartMut.{midOf, putMid}
 use lib.Seq.{length-take-le}
 use borrow.Author.Tests.{le-leb, lt-leb, leb-true}
 use Rattle.lent.specs.Lent.{frontSize}
@@ -36,7 +36,7 @@ use Rattle.integrate.specs.Force.{Model, model, frontAt, fullForce, attr
 use Rattle.integrate.specs.Room.{runSize, stateIn, Run, Only, Holds3, Orbit}
 use Rattle.integrate.specs.Work.{Ready, ReadyFor, Refreshed, Pulled, Pushed, Moved, Stored, Advanced, Begun, Flown, Fitting, Ran}
 use Rattle.integrate.proofs.Places.{only-same, only-then, orbit-first}
-use Rattle.integrate.proofs.Front.{at-length, at-again, prepared-length, front-length, put-front, put-only, take-only}
+use Rattle.integrate.proofs.Front.{at-length, at-again, front-length, put-front, put-only, take-only}
 
 -- ---- the instant
 
@@ -199,9 +199,6 @@ advanced force M w w1 w2 base k known a t0 t s r lk eb lw et m p =
     }
 
 module _ (force : Force) (M : Model) (w w' : List Float) where
-  pub begun-full : (r : Instant) → Ready M w' r × Only 0 (frontSize (M .degree)) w w' → Begun force M w w' r
-  begun-full r h = record { ready = λ e. h .0; only = h .1 }
-
   pub begun-j2 : (r : Instant) → force ≡ J2 → Begun force M w w r
   begun-j2 r e = record { ready = λ f. absurd (other (sym e ∙ f)); only = only-same 0 (frontSize (M .degree)) w }
     where

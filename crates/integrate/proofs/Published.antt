@@ -31,7 +31,6 @@ use Rattle.lent.specs.Lent.{fieldSize, frontSize, fieldsFine, lengthsFit, model
 use Rattle.lent.proofs.Passed.{all-pass, degree-passes, lengths-pass}
 use Rattle.integrate.specs.declared.kernel.Arc.{Arc}
 use Rattle.integrate.specs.declared.kernel.Force.the-variants.{Full}
-use Rattle.integrate.specs.Room.{Run}
 use Rattle.integrate.specs.Force.{Model, model, frontAt, gravityAt, fullForce, attractionOf, runOf}
 use Rattle.integrate.specs.Calls.{outFits, arcFits, refusal}
 use Rattle.integrate.proofs.Front.{fitting, prepared-length}

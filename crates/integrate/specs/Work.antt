@@ -14,7 +14,6 @@ use Rattle.integrate.specs.declared.kernel.Push.{Push}
 use Rattle.integrate.specs.declared.kernel.Stepped.{Stepped}
 use Rattle.integrate.specs.declared.kernel.Force.{Force}
 use Rattle.integrate.specs.declared.kernel.Force.the-variants.{Full}
-use Rattle.integrate.specs.Steps.{Acceleration, stepOf}
 use Rattle.integrate.specs.Force.{Model, frontAt, fullForce, runFits}
 use Rattle.integrate.specs.Room.{runSize, Run, Only, Holds3, Orbit, flat}
 

@@ -1,9 +1,9 @@
 -- What a call tests of its lists, as Bools that compute, and what each says of every element: finite, within 0 to 2^31, strictly rising. Assumes nothing.
 use mathlib.Core.Path.{_≡_, refl, subst}
-use mathlib.Core.Bool.{Bool, true, false, _&&_}
+use mathlib.Core.Bool.{Bool, true, _&&_}
 use mathlib.Core.List.{List, [], _∷_}
 use Prim.Native.Nat.{ℕ}
-use lib.Dec.{T, leb, ltb, ltb→lt, lt→ltb}
+use lib.Dec.{T, leb, ltb→lt, lt→ltb}
 use lib.IntN.{ℤ, pos, negsuc}
 use lib.Signed.{ltZ, leZ}
 use native.Mathlib.Omega.{arith}

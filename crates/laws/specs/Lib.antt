@@ -7,7 +7,6 @@
 -- order of floats: transitive, total; NaN and infinities apart          Order           le-tr, lt-tr, lt-le-tr, le-lt-tr, le-or-lt, lt→nle, le-rfl, le-antisym, neg-le
 -- rounding is monotone: sums, differences, quotients by 2               Order           add-mono-l, add-mono-r, sub-mono-l, sub-anti-r, round-signed; half-mono in WholeNumbers
 -- a finite value as a signed fraction (below Order; rarely needed)      Signed          p, n, d, Order, order-of-le, le-of-order
--- a value of the format rounds to itself; z ≤ z + c                     Exact           round-self, add-ge
 -- 0 < b - a; 0 ≤ x / y ≤ 1                                              Quotient        sub-positive, quotient-in
 -- the weight of a blend lies from 0 to 1, both included                 Weight          weight-between, difference-finite
 -- whole numbers up to 2^53 are exact; ceil and floor; squeezing         WholeNumbers    number, Is, is-le, is-lt, add-int, sub-int, half-int, ceil, floor, ceil-le, Floored, between
@@ -26,7 +25,6 @@ pub mod Bools
 pub mod Lists
 pub mod Signed
 pub mod Order
-pub mod Exact
 pub mod Quotient
 pub mod WholeNumbers
 pub mod Times

@@ -11,11 +11,7 @@ unfoldable pub sumTo : (ℕ → Float) → ℕ → Float
 sumTo f zero = zero64
 sumTo f (suc n) = sumTo f n ⊕ f n
 
--- the empty sum, and one term more
-pub sum-none : (f : ℕ → Float) → zero64 ≡ sumTo f 0
-unfolding sumTo
-sum-none f = refl
-
+-- one term more
 pub sum-more : (f : ℕ → Float) (n : ℕ) (s v : Float) → s ≡ sumTo f n → v ≡ f n → s ⊕ v ≡ sumTo f (n + 1)
 unfolding sumTo
 sum-more f n s v p q = ap₂ (λ (a b : Float). a ⊕ b) p q ∙ ap (sumTo f) (sym (add-one n))

@@ -6,7 +6,7 @@ use native.Mathlib.Nat.{add-zero, mul-add, mul-comm, mul-le-mul, add-assoc}
 use native.Mathlib.Numerals.{add-one}
 use native.Mathlib.Decide.{decLe}
 use native.Mathlib.Omega.{arith}
-use lib.ListN.{length, take, drop, getD, set, length-append, List·getD-append}
+use lib.ListN.{length, take, getD, set, length-append, List·getD-append}
 use lib.Seq.{getD-append-add, getD-at, take-all}
 use lib.Ieee.{Float, nan}
 use Rattle.laws.specs.Loops.{take-set}

@@ -1,29 +1,24 @@
 -- Whole numbers in floats: sums, differences, doubles and halves of whole numbers up to 2 ^ 53 are exact, and `ceil` and `floor` lie where they should.
 -- With monotone rounding (Order) this bounds a rounded expression without error terms: squeeze it between whole numbers. Assumes nothing.
 use mathlib.Core.Path.{_≡_, refl, sym, ap, _∙_, subst}
-use Prim.Native.Nat.{ℕ, zero, suc, _+_, _-_, _*_, _/_, _%_, _^_, _≤_, _<_, min}
-use native.Mathlib.Nat.{le-trans, le-of-eq, le-refl, add-mul, mul-add, mul-one, one-mul, mul-comm, mul-assoc, mul-left-comm, mul-right-comm, mul-pos, mul-le-mul-right, le-of-suc-le-suc, div-lt-iff-lt-mul, eq-of-mul-eq-mul-right}
+use Prim.Native.Nat.{ℕ, suc, _+_, _-_, _*_, _/_, _^_, _≤_, _<_, min}
+use native.Mathlib.Nat.{le-trans, add-mul, mul-add, mul-one, one-mul, mul-comm, mul-assoc, mul-left-comm, mul-right-comm, mul-pos, mul-le-mul-right, le-of-suc-le-suc, div-lt-iff-lt-mul}
 use native.Mathlib.Omega.{arith}
-use mathlib.Core.Bool.{Bool, true, false, not, cond, true≢false}
+use mathlib.Core.Bool.{Bool, true, false, cond, true≢false}
 use lib.Dec.{T}
 use lib.IntN.{ℤ, pos}
-use lib.Ieee.{Float, nan, inf, fin, Format, binary64, up, down, round, neg, add, sub, mul, div, ofInt, ofBits, le, lt, prec}
-use lib.Ieee.Fits.{down-pos, up-pos}
+use lib.Ieee.{Float, nan, inf, fin, binary64, up, down, round, neg, add, sub, mul, div, ofInt, ofBits, le, lt}
+use lib.Ieee.Fits.{down-pos}
 use lib.Ieee.Exact.{HasValue}
 use lib.Ieee.Back.{round-whole}
-use lib.Ieee.Order.{round-mono}
 use lib.Ieee.Scale.{round-same, finite}
 use Rattle.laws.specs.Floats.{two64}
-use Rattle.laws.specs.Signed.{plus, minus, p, n, d, d-pos, real, finite→real, Order, Strict, order-of-le, le-of-order, lt-of-strict}
-use Rattle.laws.specs.Order.{le-tr, le-lt-tr, lt-le-tr, add-is, round-signed, round-real, neg-finite, neg-p, neg-n, neg-d, add-mono-l, sub-mono-l, add-mono-r, no-bottom, le-real-r}
+use Rattle.laws.specs.Signed.{plus, minus, p, n, d, d-pos, order-of-le, le-of-order, lt-of-strict}
+use Rattle.laws.specs.Order.{add-is, round-signed, neg-finite, neg-p, neg-n, neg-d, no-bottom, le-real-r}
 
 -- ---- a natural number as a float
 unfoldable pub number : ℕ → Float
 number k = ofInt binary64 (pos k)
-
-pub number-mono : (i j : ℕ) → i ≤ j → T (le (number i) (number j))
-unfolding number ofInt
-number-mono i j h = round-mono binary64 i 1 j 1 (omega arith) (omega arith) (omega arith)
 
 -- ---- x is the whole number P - N
 pub record Is (x : Float) (P N : ℕ) : Type 0 where

@@ -14,10 +14,9 @@ use Rattle.laws.specs.Loops.{cleared}
 use Rattle.laws.specs.Tables.{row-length}
 use Rattle.laws.specs.Bools.{right-true}
 use Rattle.slices.specs.Calls.{left, firstFailed}
-use Rattle.slices.specs.declared.Outcome.{Outcome}
 use Rattle.slices.specs.declared.Outcome.the-variants.{Accepted, Refused}
 use Rattle.slices.proofs.Calls.{cond-passes, call-refused, call-failed, call-handed}
-use Rattle.least_squares.specs.LeastSquares.{solvable, solved, residualsOf, residualAt, coefficientAt}
+use Rattle.least_squares.specs.LeastSquares.{solvable, solved, residualsOf, residualAt}
 use Rattle.least_squares.specs.Kernel.{solvableFor, coefficientsOf, solvedElse}
 use Rattle.least_squares.specs.Calls.{upTo, laterTests, refusal, failure, leastSquaresCall}
 use Rattle.least_squares.proofs.Shapes.{kernel-is}

@@ -1,15 +1,12 @@
 -- Document 01's checked instances: rows 1, 1 on 2, 4 give 3; a zero column is refused by 9. Assumes nothing.
 use mathlib.Core.Path.{_≡_, refl}
-use mathlib.Core.List.{List, [], _∷_}
-use Prim.Native.Nat.{ℕ}
-use lib.Ieee.{Float, binary64, ofBits, ofFields, odd, units, round, sum, add, sub, mul, div, neg, lt, le, ne, eq, span, climb, size}
-use lib.Ieee.Scale.{finite}
+use mathlib.Core.List.{[], _∷_}
+use lib.Ieee.{Float, ofBits, ofFields, odd, units, round, sum, add, sub, mul, div, neg, lt, le, ne, eq, span, climb, size}
 use Rattle.laws.specs.Floats.{bits, zero64, one64, two64}
 use Rattle.laws.specs.Sums.{sumTo}
 use Rattle.laws.specs.Tables.{row}
 use Rattle.numbers.specs.Numbers.{magnitude}
 use Rattle.slices.specs.Calls.{left}
-use Rattle.slices.specs.declared.Outcome.{Outcome}
 use Rattle.slices.specs.declared.Outcome.the-variants.{Accepted, Refused}
 use Rattle.least_squares.specs.Elimination.{swapped, eliminated, reaches, largest, pivotRow, tooSmall, turn, stage, singular, fine}
 use Rattle.least_squares.specs.LeastSquares.{valueAt, normalAt, solvable, coefficientAt, solved, fittedAt, residualAt, residualsOf}

@@ -1,15 +1,15 @@
 -- Laws of matrices in lists, and of one turn of each loop. Assumes nothing.
-use mathlib.Core.Path.{_≡_, refl, sym, ap, _∙_, subst}
-use mathlib.Core.Bool.{Bool, true, false, cond, _&&_, not}
-use mathlib.Core.List.{List, [], _∷_, _++_}
+use mathlib.Core.Path.{_≡_, refl, sym, ap, _∙_}
+use mathlib.Core.Bool.{Bool, true, false, cond}
+use mathlib.Core.List.{List}
 use Prim.Native.Nat.{ℕ, zero, suc, _+_, _*_, _-_, _/_, _%_, _≤_, _<_}
 use native.Mathlib.Numerals.{add-one}
 use native.Mathlib.Nat.{mul-le-mul-right, suc-mul}
 use native.Mathlib.Omega.{arith}
 use lib.Dec.{ltb, eqb}
 use lib.Ieee.{Float, nan}
-use lib.ListN.{length, getD, set, take, length-append, length-set, replicate, getD-replicate}
-use lib.Seq.{getD-at, getD-set-same, getD-set-other, ext-getD, take-suc-set, take-all}
+use lib.ListN.{length, getD, set, take, length-set, replicate, getD-replicate}
+use lib.Seq.{getD-set-same, getD-set-other, ext-getD, take-suc-set, take-all}
 use borrow.Author.Tests.{lt-ltb, le-ltb, eq-eqb, ne-eqb, ltb-true, ltb-false, eqb-true, eqb-false}
 use Rattle.laws.specs.Floats.{_⊖_, _⊗_, _⊘_, zero64}
 use Rattle.laws.specs.Tables.{row, row-at, row-length}
@@ -88,10 +88,6 @@ module _ (c i k : ℕ) (m : Matrix) where
   pub reduced-at : m i k ⊖ m i c ⊘ m c c ⊗ m c k ≡ reducedTo c i (k + 1) m i k
   unfolding reducedTo
   reduced-at = simp (eq-eqb i i refl, lt-ltb k (k + 1) (omega arith))
-
-  pub reduced-row : (i' j : ℕ) → (i' ≡ i → ⊥) → reducedTo c i k m i' j ≡ m i' j
-  unfolding reducedTo
-  reduced-row i' j h = simp (ne-eqb i' i h)
 
   pub reduced-col : (i' : ℕ) → reducedTo c i k m i' k ≡ m i' k
   unfolding reducedTo

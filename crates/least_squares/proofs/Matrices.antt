@@ -1,17 +1,11 @@
 -- The elimination of the list of 240 numbers is that of the matrices, in the first p rows and p + 1 columns. Assumes nothing.
-use mathlib.Core.Path.{_≡_, refl, sym, ap, _∙_}
-use mathlib.Core.Bool.{Bool, true, false, cond, _&&_, not}
+use mathlib.Core.Path.{_≡_, refl, ap, _∙_}
 use mathlib.Core.List.{List}
-use Prim.Native.Nat.{ℕ, zero, suc, _+_, _*_, _-_, _≤_, _<_}
+use Prim.Native.Nat.{ℕ, zero, suc, _+_, _-_, _≤_, _<_}
 use native.Mathlib.Omega.{arith}
-use lib.Dec.{ltb, eqb}
-use lib.Ieee.{Float, nan}
-use lib.ListN.{length, getD}
-use borrow.Author.Tests.{lt-ltb, eqb-true}
-use Rattle.laws.specs.Bools.{by}
-use Rattle.laws.specs.Floats.{_⊖_, _⊗_, _⊘_}
+use lib.Ieee.{Float}
+use borrow.Author.Tests.{lt-ltb}
 use Rattle.laws.specs.Tables.{row, row-same}
-use Rattle.numbers.specs.Numbers.{magnitude}
 use Rattle.least_squares.specs.Elimination.{Matrix, swapped, eliminated, largest, pivotRow, tooSmall, turn, stage, singular, fine}
 use Rattle.least_squares.specs.LeastSquares.{normalAt, solvable, coefficientAt, solved}
 use Rattle.least_squares.specs.Flat.{view, flatten, augmented, equations, swappedTo, eliminatedTo, pivotRowIn, turnIn, stageIn, singularIn, fineIn}

@@ -1,6 +1,6 @@
 -- The chosen pivot is the last of the largest, NaN counting as largest. Assumes nothing.
-use mathlib.Core.Path.{_≡_, sym, ap, subst, _∙_}
-use mathlib.Core.Bool.{true, false, cond, not, false≢true}
+use mathlib.Core.Path.{_≡_, sym, subst}
+use mathlib.Core.Bool.{false, cond, not, false≢true}
 use Prim.Native.Nat.{ℕ, zero, suc, _+_, _-_, _≤_, _<_}
 use native.Mathlib.Decide.{decLe}
 use native.Mathlib.Omega.{arith}
@@ -8,7 +8,7 @@ use lib.Dec.{T}
 use lib.Ieee.{Float, nan, inf, fin, le, ne}
 use lib.Ieee.Bits.{is-true}
 use Rattle.laws.specs.Signed.{real}
-use Rattle.laws.specs.Order.{le-tr, le-rfl, le-total, lt→le, nle→lt}
+use Rattle.laws.specs.Order.{le-tr, le-rfl, lt→le, nle→lt}
 use Rattle.laws.specs.Bools.{by, holds}
 use Rattle.numbers.specs.Numbers.{magnitude}
 use Rattle.least_squares.specs.Elimination.{Matrix, reaches, largest, pivotRow}

@@ -6,7 +6,7 @@ use Prim.Native.Nat.{ℕ, _+_, _-_, _*_, _/_, _<_, _≤_}
 use native.Mathlib.Nat.{add-mul, mul-le-mul-right, div-mul-le-self, le-trans}
 use native.Mathlib.Omega.{arith}
 use borrow.Author.Tests.{lt-ltb, le-ltb, lt-leb, le-leb, eq-eqb, ne-eqb, leb-true}
-use lib.Dec.{ltb, leb, eqb}
+use lib.Dec.{leb, eqb}
 use lib.ListN.{length, take, drop, getD, set}
 use lib.Seq.{take-at, drop-at, drop-drop}
 use borrow.Rule.Slice.PartMut.{putMid, postOf}

@@ -7,7 +7,7 @@ use Prim.Native.Nat.{ℕ, suc, _+_, _-_, _*_, _<_, _≤_}
 use native.Mathlib.Nat.{mul-le-mul-right}
 use native.Mathlib.Omega.{arith}
 use lib.ListN.{length, drop, getD, length-drop, List·getD-eq-default}
-use lib.Ieee.{Float, nan, inf, fin, add, sub, div, neg, le, lt, ofBits, ofFields}
+use lib.Ieee.{Float, nan, inf, fin, add, sub, div, le, lt, ofBits, ofFields}
 use Rattle.laws.specs.Floats.{_⊖_, _⊘_, zero64}
 use Rattle.laws.specs.Loops.{head-at}
 use Rattle.laws.specs.Times.{end, precedes}
@@ -79,23 +79,11 @@ bracket-done ts t j g h inv =
 
 -- ---- NaN
 
-sub-nan : (x : Float) → x ⊖ nan ≡ nan
-unfolding sub add neg
-sub-nan nan = refl
-sub-nan (inf s) = refl
-sub-nan (fin s m e) = refl
-
 div-nan : (x : Float) → x ⊘ nan ≡ nan
 unfolding div
 div-nan nan = refl
 div-nan (inf s) = refl
 div-nan (fin s m e) = refl
-
-nan-div : (x : Float) → nan ⊘ x ≡ nan
-unfolding div
-nan-div nan = refl
-nan-div (inf s) = refl
-nan-div (fin s m e) = refl
 
 nan-sub : (x : Float) → nan ⊖ x ≡ nan
 unfolding sub add
@@ -107,14 +95,7 @@ none-is : zero64 ⊘ zero64 ≡ nan
 unfolding div ofBits ofFields
 none-is = refl
 
--- field j is missing, or the next
-pub weight-out : (ts : List Float) (t : Float) (j : ℕ) → length ts ≤ j → zero64 ⊘ zero64 ≡ weight ts t j
-unfolding weight
-weight-out ts t j h =
-    let u : Float = getD ts (j + 1) nan in
-    let e : getD ts j nan ≡ nan = List·getD-eq-default ts nan h in
-    none-is ∙ sym (ap (λ (a : Float). (t ⊖ a) ⊘ (u ⊖ a)) e ∙ ap (λ (x : Float). x ⊘ (u ⊖ nan)) (sub-nan t) ∙ nan-div (u ⊖ nan))
-
+-- the next field is missing
 pub weight-last : (ts : List Float) (t : Float) (j : ℕ) → length ts ≤ j + 1 → zero64 ⊘ zero64 ≡ weight ts t j
 unfolding weight
 weight-last ts t j h =

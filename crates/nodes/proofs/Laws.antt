@@ -1,12 +1,12 @@
 -- Laws of the ascending nodes. Assumes nothing.
 use mathlib.Core.Path.{_≡_, refl, sym, ap, _∙_}
 use mathlib.Core.List.{List, [], _∷_, _++_, append-nil}
-use mathlib.Core.Bool.{Bool, true, false, cond}
-use Prim.Native.Nat.{ℕ, zero, _+_, _-_, _*_, _<_, _≤_}
+use mathlib.Core.Bool.{Bool, true, false}
+use Prim.Native.Nat.{ℕ, _+_, _-_, _<_, _≤_}
 use native.Mathlib.Numerals.{add-one}
 use native.Mathlib.Omega.{arith}
 use lib.IntN.{ℤ}
-use lib.Ieee.{Float, nan, lt, le, eq}
+use lib.Ieee.{Float, eq}
 use lib.ListN.{length, set, replicate, length-append}
 use Rattle.laws.specs.Floats.{_⊖_, _⊕_, _⊘_, zero64, one64}
 use Rattle.laws.specs.Loops.{filledUp, filled-none, filled-set}
@@ -84,9 +84,6 @@ upto-all ks st k count out h l u =
       counted = u .counted ∙ ap (λ (j : ℕ). length (nodesTo ks st j)) e;
       held = u .held ∙ ap (λ (j : ℕ). filledUp zero64 (length ks) (nodesTo ks st j)) e;
     }
-
-pub upto-room : (ks : List ℤ) (st : List Float) (k count : ℕ) (out : List Float) → k + 1 < length ks → Upto ks st k count out → count < length ks
-upto-room ks st k count out h u = omega (arith, u .few)
 
 pub upto-slot : (ks : List ℤ) (st : List Float) (k count : ℕ) (out out₀ : List Float) → k + 1 < length ks → Upto ks st k count out → length out ≡ length out₀ → length out₀ ≡ length ks → count < length out
 upto-slot ks st k count out out₀ h u l l₀ = omega (arith, u .few)

@@ -1,5 +1,5 @@
 -- The public call `ascending_nodes` (document 01, "Outcomes" and "Bounds"): which refusal, and what is left behind. Assumes nothing.
-use Prim.Native.Nat.{ℕ, _-_, _*_}
+use Prim.Native.Nat.{ℕ, _*_}
 use mathlib.Core.List.{List, [], _∷_}
 use lib.Dec.{leb, eqb}
 use lib.IntN.{ℤ}

@@ -1,7 +1,7 @@
 -- Ascending nodes (the source's `ascending_nodes`): where an orbit crosses the equator northward. Its states lie end to end, six numbers a key, of which the third is z. Assumes nothing.
 use mathlib.Core.Path.{_≡_}
 use Prim.Native.Nat.{ℕ, zero, suc, _+_, _-_, _*_}
-use mathlib.Core.Bool.{Bool, true, false, cond}
+use mathlib.Core.Bool.{Bool, false, cond}
 use mathlib.Core.List.{List, [], _∷_, _++_}
 use lib.IntN.{ℤ, pos}
 use lib.Ieee.{Float, nan, lt, le, eq}

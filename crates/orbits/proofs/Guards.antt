@@ -2,7 +2,7 @@
 use mathlib.Core.Path.{_≡_, _∙_}
 use mathlib.Core.Bool.{Bool, false, _&&_}
 use Prim.Native.Nat.{ℕ, _-_, _*_, _≤_, _<_}
-use lib.Dec.{leb, eqb}
+use lib.Dec.{eqb}
 use borrow.Author.Tests.{le-leb, lt-leb}
 use Rattle.orbits.specs.Calls.{placesFit}
 

@@ -12,7 +12,6 @@ use borrow.Rule.Slice.PartMut.{midOf, postOf, putMid, mid-len}
 use lib.Ieee.{Float, binary64, ofBits}
 use Rattle.laws.specs.Checks.{all}
 use Rattle.laws.specs.Loops.{head-at, fill-turn, fill-done, take-set}
-use Rattle.laws.specs.Lists.{decide}
 use Rattle.hex.specs.Digits.{isDigit, digitOf, wordAt, decimalAt, part, isWord, bitsOf, floatAt}
 use Rattle.hex.specs.declared.Parsed.{Parsed}
 use Rattle.hex.specs.declared.Parsed.the-variants.{Value, Malformed}

@@ -6,9 +6,9 @@ use native.Mathlib.Nat.{zero-add}
 use native.Mathlib.Numerals.{add-one}
 use native.Mathlib.Omega.{arith}
 use lib.Ieee.{Float, nan}
-use lib.ListN.{length, take, drop, getD, set, length-set, length-map, length-append, length-drop}
+use lib.ListN.{length, take, drop, getD, set, length-set, length-map}
 use lib.Seq.{set-append-left, take-set-lt, drop-set-lt, length-take-le, take-all, drop-drop, take-at, drop-at}
-use borrow.Rule.Slice.PartMut.{midOf, putMid, same-len-mid}
+use borrow.Rule.Slice.PartMut.{putMid, same-len-mid}
 use Rattle.epochs.specs.Epochs.{time, residual, timesOf, residualsOf}
 use Rattle.epochs.specs.declared.Epoch.{Epoch}
 use Rattle.detrend.proofs.Lists.{put-more, put-none, length-mid}

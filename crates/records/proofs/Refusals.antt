@@ -6,7 +6,7 @@ use Prim.Native.Nat.{ℕ, zero, suc, _*_, _/_, _≤_}
 use native.Mathlib.Omega.{arith}
 use lib.Dec.{T, leb}
 use lib.Ieee.{Float, lt, eq, le, ofBits}
-use lib.Ieee.Bits.{is-true, is-false}
+use lib.Ieee.Bits.{is-true}
 use lib.Ieee.Scale.{finite}
 use lib.ListN.{length}
 use lib.Ieee.Fits.{and-l, and-r}
@@ -16,7 +16,7 @@ use Rattle.laws.specs.Floats.{zero64}
 use Rattle.laws.specs.Order.{le-lt-tr, lt→nle, eq→le}
 use Rattle.laws.specs.Bools.{by, no}
 use Rattle.slices.proofs.Calls.{cond-passes}
-use Rattle.slices.specs.declared.Outcome.the-variants.{Accepted, Refused}
+use Rattle.slices.specs.declared.Outcome.the-variants.{Refused}
 use Rattle.epochs.specs.Epochs.{timesOf, epochFits}
 use Rattle.epochs.specs.declared.Epoch.{Epoch}
 use Rattle.records.specs.Records.{nothingYet, unfit, unordered, orderedOf, scannedOf, scanOf, refusalAfter}

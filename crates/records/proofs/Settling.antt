@@ -1,24 +1,22 @@
 -- Laws of the work area. Assumes nothing.
 use mathlib.Core.Path.{_≡_, refl, sym, ap, _∙_}
-use mathlib.Core.Bool.{Bool, true, false, cond}
-use mathlib.Core.List.{List, [], _∷_, _++_, append-nil, append-assoc}
-use Prim.Native.Nat.{ℕ, zero, suc, _+_, _-_, _*_, _<_, _≤_}
+use mathlib.Core.Bool.{Bool, true, false}
+use mathlib.Core.List.{List, [], _∷_, _++_, append-nil}
+use Prim.Native.Nat.{ℕ, suc, _+_, _-_, _*_, _<_, _≤_}
 use native.Mathlib.Numerals.{add-one}
-use native.Mathlib.Nat.{le-refl}
 use native.Mathlib.Omega.{arith}
 use lib.Ieee.{Float, nan}
 use lib.Ieee.Scale.{finite}
-use lib.ListN.{length, length-map, replicate-append-replicate, take, drop, getD, set, replicate, length-set, length-drop, length-append, length-replicate, drop-of-length-le}
+use lib.ListN.{length, length-map, replicate-append-replicate, take, drop, getD, set, replicate, length-drop, length-append, length-replicate, drop-of-length-le}
 use lib.Seq.{take-at, drop-at, take-suc, drop-set-lt, getD-drop, getD-take, length-take-le}
 use borrow.Rule.Slice.PartMut.{midOf, putMid}
 use Rattle.laws.specs.Checks.{all}
 use Rattle.laws.specs.Floats.{zero64}
 use Rattle.laws.specs.Loops.{cleared, take-set}
 use Rattle.laws.specs.Bools.{by}
-use Rattle.slices.specs.declared.Outcome.{Outcome}
 use Rattle.slices.specs.declared.Outcome.the-variants.{Accepted, Refused}
 use Rattle.detrend.specs.Revolutions.{removedOf}
-use Rattle.detrend.specs.Work.{Removed, RemovedWithin}
+use Rattle.detrend.specs.Work.{RemovedWithin}
 use Rattle.detrend.proofs.Lists.{length-mid}
 use Rattle.detrend.proofs.Split.{removed-length}
 use Rattle.epochs.specs.Epochs.{time, residual, timesOf, residualsOf, withResidual, putBack}

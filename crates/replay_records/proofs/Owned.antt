@@ -16,7 +16,7 @@ use base.Logic.{SProp, ent, sep, ex, guard}
 use base.Fml.{Lft, GName, Fml, fsep, fdead, flent, fat}
 use prog.Wp.{Heap}
 use ghost.Atoms.{Atoms, sem}
-use types.Kit.{Given, ‵, _⊛_, some, given, later, _$_, _∵_, !, qed, move, keep, use1, use2, use3, drop, split, pick, rewrite, check, fsplit, fjoin, fpick, fpack, feqL, feqI, frame, await, updating, now as at-once, show, done}
+use types.Kit.{Given, ‵, _⊛_, some, later, _$_, _∵_, !, qed, move, keep, use1, use2, use3, drop, split, pick, rewrite, check, fsplit, fjoin, fpick, fpack, feqL, feqI, frame, await, updating, now as at-once, show, done}
 use types.SemTy.{cells, Arr}
 use types.Share.{arr-parts}
 use denote.RattleType.{RattleType}

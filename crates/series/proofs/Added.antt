@@ -6,7 +6,7 @@ use Rattle.laws.specs.Sums.{sumTo, sum-same}
 use Rattle.series.specs.Field.{totals}
 use Rattle.series.specs.declared.Totals.{Totals}
 use Rattle.series.specs.Sums.{Degree, RowSums, even, odd, Evaluation, degrees, AllSums, power, allV, allR, allLat, allLon}
-use Prim.Native.Nat.{ℕ, _+_, _≤_, _<_}
+use Prim.Native.Nat.{ℕ, _+_, _<_}
 use mathlib.Core.Path.{_≡_, refl, sym, ap, _∙_, subst}
 use native.Mathlib.Numerals.{add-one}
 use lib.Ieee.{Float, nan, ofInt, ofBits, round, add}

@@ -1,11 +1,11 @@
 -- Tables and the diagonal filled from the front; what the guards say. Assumes nothing.
-use Prim.Native.Nat.{ℕ, zero, suc, _+_, _-_, _*_, _≤_, _<_}
+use Prim.Native.Nat.{ℕ, _+_, _-_, _*_, _≤_, _<_}
 use mathlib.Core.Path.{_≡_, refl, sym, ap, ap₂, _∙_}
 use mathlib.Core.Bool.{Bool, true, false, _&&_}
 use mathlib.Core.List.{List, [], _∷_, _++_}
 use native.Mathlib.Omega.{arith}
 use native.Mathlib.Numerals.{add-one}
-use borrow.Author.Tests.{le-leb, lt-leb, eq-eqb, ne-eqb, leb-true, eqb-true}
+use borrow.Author.Tests.{le-leb, lt-leb, leb-true, eqb-true}
 use lib.Dec.{eqb, leb}
 use lib.ListN.{length, take, set}
 use lib.Seq.{take-all}
@@ -13,7 +13,7 @@ use lib.Ieee.{Float, binary64}
 use Rattle.root.specs.Root.{sqrt}
 use Rattle.laws.specs.Floats.{_⊗_}
 use Rattle.laws.specs.Loops.{take-set}
-use Rattle.laws.specs.Tables.{tri, row, rows, tri-next, row-turn, rows-turn, rows-done}
+use Rattle.laws.specs.Tables.{tri, row, rows, tri-next, rows-turn, rows-done}
 use Rattle.laws.specs.Bools.{both-true}
 use Rattle.series.specs.Legendre.{ratio, diagonal}
 use Rattle.series.specs.Field.{size, fitsIn, Fits}

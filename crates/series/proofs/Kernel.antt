@@ -1,26 +1,24 @@
 -- The guarded calls: a work slice prepared part by part, a table where its length fits, an evaluation from the parts of a work slice. Assumes nothing.
-use Prim.Native.Nat.{ℕ, zero, suc, _+_, _-_, _*_, _≤_, _<_}
-use mathlib.Core.Path.{_≡_, refl, sym, ap, ap₂, _∙_}
-use mathlib.Core.Bool.{Bool, true, false, cond, _&&_}
-use mathlib.Core.List.{List, [], _∷_, _++_, append-assoc}
+use Prim.Native.Nat.{ℕ, _+_, _-_, _*_, _≤_, _<_}
+use mathlib.Core.Path.{_≡_, sym, ap, ap₂, _∙_}
+use mathlib.Core.Bool.{Bool, true, false}
+use mathlib.Core.List.{List, _++_, append-assoc}
 use native.Mathlib.Omega.{arith}
 use borrow.Author.Tests.{le-leb, lt-leb, eq-eqb, ne-eqb}
 use borrow.Rule.Slice.PartMut.{putMid, post-is, mid-len}
-use lib.Dec.{eqb, leb}
 use lib.ListN.{length, take, drop, length-append, take-append-drop}
 use lib.Seq.{take-at, drop-at, length-take-le}
 use lib.Ieee.{Float}
 use Rattle.laws.specs.Floats.{_⊘_}
-use Rattle.laws.specs.Tables.{tri, row, rows, tri-next, rows-length, row-length}
+use Rattle.laws.specs.Tables.{tri, row, rows, rows-length}
 use Rattle.numbers.specs.Numbers.{sineCosine}
 use Rattle.numbers.specs.declared.SineCosine.{SineCosine}
 use Rattle.series.specs.Legendre.{lowerOf, upperOf, diagonal}
-use Rattle.series.specs.Rows.{Tables, tablesOf, Room}
+use Rattle.series.specs.Rows.{tablesOf, Room}
 use Rattle.series.specs.Sums.{evaluation, degrees, FieldRoom}
-use Rattle.series.specs.Field.{totals, finished, size, part, tablesIn, evaluationIn, fitsIn, Fits, nothing, partialsWith}
+use Rattle.series.specs.Field.{totals, finished, size, part, evaluationIn, fitsIn, Fits, nothing, partialsWith}
 use Rattle.series.specs.Prepared.{factorOf, tabulated, prepared}
 use Rattle.series.specs.declared.Totals.{Totals}
-use Rattle.series.specs.declared.Partials.{Partials}
 use Rattle.series.specs.declared.Factor.{Factor}
 use Rattle.series.proofs.Index.{in-table}
 use Rattle.series.proofs.Filling.{fits-says, heads-in}

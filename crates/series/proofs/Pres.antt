@@ -1,7 +1,7 @@
 -- An array filled from its first place on. Assumes nothing.
 use Rattle.series.specs.Arrays.{Begins, Has}
-use Prim.Native.Nat.{ℕ, zero, suc, _+_, _-_, _≤_, _<_}
-use mathlib.Core.Path.{_≡_, refl, sym, ap, _∙_, subst}
+use Prim.Native.Nat.{ℕ, _+_, _-_, _<_}
+use mathlib.Core.Path.{_≡_, refl, sym, _∙_, subst}
 use mathlib.Core.List.{List}
 use native.Mathlib.Decide.{decLe}
 use native.Mathlib.Omega.{arith}
@@ -25,9 +25,6 @@ pre-more {j} {g} {w₀} {w} v r inside ev = record {
       ];
   rest = λ i le. getD-set-other w j i v nan (λ q. absurd (omega arith)) ∙ r .rest i (omega arith);
 }
-
-pub pre-as : {j : ℕ} {g f : ℕ → Float} {w₀ w : List Float} → Begins j g w₀ w → ((i : ℕ) → i < j → g i ≡ f i) → Begins j f w₀ w
-pre-as r e = record { len = r .len; set = λ i h. r .set i h ∙ e i h; rest = r .rest }
 
 pub has-none : {g : ℕ → Float} {w : List Float} → length w ≡ 184 → Has 0 g w
 has-none e = record { len = e; set = λ i h. absurd (omega arith) }

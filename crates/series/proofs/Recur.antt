@@ -6,12 +6,12 @@ use Rattle.series.specs.Rows.{Tables, stepAt, nextRow, scaledRow, legend
 use Rattle.series.specs.Legendre.{unscale, derivedRow}
 use Rattle.series.specs.Sums.{Evaluation, degrees, degreeOf, cosines, sines, RowSums, FieldRoom}
 use Prim.Native.Nat.{ℕ, zero, suc, _+_, _-_, _≤_, _<_}
-use mathlib.Core.Path.{_≡_, refl, sym, ap, ap₂, _∙_, subst}
+use mathlib.Core.Path.{_≡_, refl, sym, ap₂, _∙_, subst}
 use mathlib.Core.List.{List}
 use native.Mathlib.Decide.{decLe}
 use native.Mathlib.Omega.{arith}
 use borrow.Author.Tests.{lt-ltb, le-ltb}
-use lib.ListN.{length, getD, replicate, length-replicate, getD-replicate}
+use lib.ListN.{getD, replicate, length-replicate, getD-replicate}
 use lib.Ieee.{Float, nan}
 use Rattle.series.proofs.Pres.{has-as}
 use Rattle.series.proofs.Rows.{der-cong}

@@ -3,14 +3,14 @@ use Rattle.laws.specs.Floats.{_⊖_, _⊗_, zero64}
 use Rattle.series.specs.Legendre.{half64, derivedRow}
 use Rattle.series.specs.Arrays.{at, Begins}
 use Rattle.series.specs.Rows.{nextRow, stepAt}
-use Prim.Native.Nat.{ℕ, zero, suc, _+_, _-_, _≤_, _<_}
-use mathlib.Core.Path.{_≡_, refl, sym, ap, ap₂, _∙_, subst}
+use Prim.Native.Nat.{ℕ, _+_, _-_, _≤_, _<_}
+use mathlib.Core.Path.{_≡_, ap, ap₂, _∙_}
 use mathlib.Core.List.{List}
 use native.Mathlib.Decide.{decLe}
 use native.Mathlib.Omega.{arith}
 use borrow.Author.Tests.{lt-ltb, le-ltb, eq-eqb, ne-eqb}
 use lib.Ieee.{Float, nan, neg}
-use lib.ListN.{length, getD, set}
+use lib.ListN.{getD}
 
 -- the recursion's row, where q2 is being overwritten
 pub next-mid : (n k : ℕ) (t h : Float) (a b q1 q2₀ : List Float) {q2 : List Float} {g : ℕ → Float} {m : ℕ} → Begins m g q2₀ q2 → m < n → stepAt a b t (k + m) (getD q1 m nan) (getD q2 m nan) ≡ nextRow n k t h a b (at q1) (at q2₀) m

@@ -1,23 +1,22 @@
 -- Rows of arrays as rows of whole tables. Assumes nothing.
-use Prim.Native.Nat.{ℕ, zero, suc, _+_, _-_, _*_, _≤_, _<_}
+use Prim.Native.Nat.{ℕ, _+_, _-_, _*_}
 use mathlib.Core.Path.{_≡_, sym, ap, ap₂, _∙_}
-use mathlib.Core.Bool.{Bool, true, false, cond, _&&_}
-use mathlib.Core.List.{List, _++_}
+use mathlib.Core.Bool.{Bool, true, false, _&&_}
+use mathlib.Core.List.{List}
 use native.Mathlib.Omega.{arith}
-use borrow.Rule.Slice.PartMut.{mid-len}
-use lib.ListN.{length, take}
+use lib.ListN.{length}
 use lib.Ieee.{Float}
-use Rattle.laws.specs.Tables.{tri, row, rows, row-same, rows-length}
+use Rattle.laws.specs.Tables.{tri, row, rows, row-same}
 use Rattle.laws.specs.Bools.{both-true}
 use Rattle.numbers.specs.Numbers.{sineCosine}
 use Rattle.numbers.specs.declared.SineCosine.{SineCosine}
 use Rattle.series.specs.Legendre.{derivedRow}
 use Rattle.series.specs.Arrays.{at, from, Has}
-use Rattle.series.specs.Rows.{Tables, tablesOf, legendreBy, derivedBy, Room}
-use Rattle.series.specs.Field.{size, part, fitsIn, Fits}
+use Rattle.series.specs.Rows.{tablesOf, legendreBy, derivedBy}
+use Rattle.series.specs.Field.{part, fitsIn, Fits}
 use Rattle.series.specs.Tables.{derivedFrom, derivedWith, bothFit, legendreWith, derivativeWith}
 use Rattle.series.proofs.Rows.{der-cong}
-use Rattle.series.proofs.Kernel.{fits-true, room-in}
+use Rattle.series.proofs.Kernel.{fits-true}
 
 -- an array that holds g, as a row
 pub row-has : {j : ℕ} {g : ℕ → Float} {w : List Float} → Has j g w → row (at w) j ≡ row g j
@@ -40,13 +39,6 @@ derived-is N l p work dp x f e ex =
 pub derived-not : (N : ℕ) (p work dp : List Float) (y : Bool) → y ≡ fitsIn N (length p) (length dp) (length work) → y ≡ false → dp ≡ derivedWith N p work dp
 unfolding derivedWith
 derived-not N p work dp y e h = rw (sym e ∙ h)
-
--- the lengths of the parts that the derivative reads
-pub derive-room : (N l : ℕ) (p work dp : List Float) → Fits N (length p) (length dp) (length work) → l ≡ tri (N + 1) →
-    (N ≤ 180) × (length (part work (2 * l) (3 * l)) ≡ size N) × (length (part work (3 * l) (4 * l)) ≡ size N) × (length p ≡ size N)
-derive-room N l p work dp f e =
-    let g = f .work in
-    (f .degree, omega (arith, mid-len (2 * l) (3 * l) work (omega arith)), omega (arith, mid-len (3 * l) (4 * l) work (omega arith)), f .a)
 
 both-fit : (N : ℕ) (a b work p dp : List Float) → Fits N (length a) (length b) (length work) → Fits N (length p) (length dp) (length work) → bothFit N a b work p dp ≡ true
 both-fit N a b work p dp f g = rw (fits-true N (length a) (length b) (length work) f, fits-true N (length p) (length dp) (length work) g)

@@ -9,7 +9,7 @@ use lib.ListN.{length, getD}
 use lib.Ieee.{Float, nan}
 use Rattle.laws.specs.Floats.{_⊖_, _⊗_, zero64}
 use Rattle.laws.specs.Tables.{tri}
-use Rattle.series.specs.Legendre.{unscale, derivedRow, aOf, bOf, lowerOf, upperOf, diagonal}
+use Rattle.series.specs.Legendre.{unscale, derivedRow}
 use Rattle.series.specs.Arrays.{at, from}
 
 -- the recursion's factors a, b and the derivative's, each by degree and order, and the diagonal by order

@@ -1,9 +1,8 @@
 -- What the call answers and leaves, in the cases of its code. Assumes nothing.
 use mathlib.Core.Path.{_≡_, refl, sym, ap, _∙_}
 use mathlib.Core.Bool.{Bool, true, false}
-use mathlib.Core.Option.{Option}
-use mathlib.Core.List.{List, [], _∷_, _++_, map}
-use Prim.Native.Nat.{ℕ, zero, suc, _-_, _≤_}
+use mathlib.Core.List.{List, [], _∷_}
+use Prim.Native.Nat.{ℕ, _-_, _≤_}
 use native.Mathlib.Omega.{arith}
 use lib.Ieee.{Float}
 use lib.Ieee.Scale.{finite}
@@ -12,10 +11,10 @@ use lib.Seq.{take-at}
 use Rattle.laws.specs.Floats.{bits, zero64}
 use Rattle.laws.specs.Checks.{all}
 use Rattle.laws.specs.Loops.{cleared}
-use Rattle.slices.specs.Calls.{left, leftClear, handed, settled}
+use Rattle.slices.specs.Calls.{left, handed}
 use Rattle.slices.proofs.Calls.{call-refused, call-handed}
 use Rattle.finality.specs.Kernels.{stagesOf}
-use Rattle.finality.specs.Sheet.{Ends, horizonOf, countTo, kept, times, published}
+use Rattle.finality.specs.Sheet.{horizonOf, countTo, kept, times}
 use Rattle.horizon.specs.Horizon.{endsOf}
 use Rattle.epochs.specs.Epochs.{time}
 use Rattle.windows.specs.Stage.{Setting}

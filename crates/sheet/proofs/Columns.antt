@@ -3,20 +3,19 @@ use mathlib.Core.Path.{_≡_, refl, sym, ap, _∙_}
 use mathlib.Core.Option.{Option, none, some}
 use Prim.Native.Nat.{ℕ}
 use mathlib.Core.List.{List, [], _∷_, map}
-use lib.IntN.{ℤ}
 use lib.Ieee.{Float}
-use lib.ListN.{length, length-map}
+use lib.ListN.{length-map}
 use Rattle.laws.specs.Times.{end, secondTime}
-use Rattle.finality.specs.Tables.{Table, keyOf, rowTime}
+use Rattle.finality.specs.Tables.{keyOf}
 use Rattle.finality.specs.Stages.{timeOf}
 use Rattle.finality.specs.Kernels.{stagesOf}
-use Rattle.finality.specs.Sheet.{Ends, obsTime, kept, times, raws, detrended, passedValues, sampleOf, countTo, endsOf as submissionEnds}
+use Rattle.finality.specs.Sheet.{obsTime, kept, times, detrended, passedValues, countTo, endsOf as submissionEnds}
 use Rattle.finality.specs.Detrending.{Sample, detrend}
 use Rattle.epochs.specs.declared.Epoch.{Epoch}
 use Rattle.epochs.specs.Epochs.{time, residual}
 use Rattle.detrend.specs.Revolutions.{revolvedOf, removedOf}
 use Rattle.detrend.proofs.Split.{samplesOf, removed-split}
-use Rattle.filter.specs.Filter.{pass, bandPass}
+use Rattle.filter.specs.Filter.{bandPass}
 use Rattle.horizon.specs.Horizon.{endsOf, horizonAnswer, horizonAt}
 use Rattle.horizon.specs.declared.kernel.HorizonNode.{HorizonNode}
 use Rattle.model.specs.Stages.{timed}

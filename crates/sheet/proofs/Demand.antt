@@ -12,9 +12,9 @@ use lib.Ieee.Scale.{finite}
 use lib.ListN.{length, take, length-map}
 use Rattle.laws.specs.Checks.{all}
 use Rattle.laws.specs.Runs.{runsOf}
-use Rattle.slices.specs.Calls.{Left, left, leftClear, handed, settled}
+use Rattle.slices.specs.Calls.{handed, settled}
 use Rattle.finality.specs.Kernels.{stagesOf}
-use Rattle.finality.specs.Sheet.{Submission, times, kept, horizon, final, count, countTo, countRuns}
+use Rattle.finality.specs.Sheet.{Submission, times, kept, horizon, final, countTo, countRuns}
 use Rattle.finality.proofs.Counts.{count-le}
 use Rattle.windows.specs.Stage.{Setting}
 use Rattle.sheet.specs.Stages.{kernels}

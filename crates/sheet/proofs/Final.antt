@@ -6,7 +6,7 @@
 -- Setting, Lists, Passed, ListsGrow and `submissionOf` are in specs/Submission.antt, the stages in specs/Stages.antt; sheet, horizon, final and countRuns in crate `finality`. Assumes nothing.
 use mathlib.Core.Path.{_≡_, sym, _∙_, subst}
 use mathlib.Core.Option.{none, some}
-use mathlib.Core.List.{List, map}
+use mathlib.Core.List.{List}
 use Prim.Native.Nat.{ℕ, _*_}
 use native.Mathlib.Omega.{arith}
 use lib.Dec.{T}
@@ -16,7 +16,6 @@ use lib.Ieee.{Float}
 use Rattle.lent.specs.Lent.{fieldSize}
 use Rattle.laws.specs.Checks.{all, isTime, rising, risingSeconds}
 use Rattle.laws.specs.Runs.{runsOf}
-use Rattle.finality.specs.Stages.{timeOf}
 use Rattle.finality.specs.Kernels.{stagesOf}
 use Rattle.finality.specs.Sheet.{Submission, Valid, Grows, Begins, times, horizon, final, countRuns}
 use Rattle.finality.proofs.Accepted.{valid-of}

@@ -1,9 +1,9 @@
 -- The epochs that the code keeps, over the tables of all windows, are those of the submission. Assumes nothing.
-use mathlib.Core.Path.{_≡_, refl, sym, ap, _∙_, subst}
-use mathlib.Core.Option.{Option, none, some}
+use mathlib.Core.Path.{_≡_, refl, sym, ap, _∙_}
+use mathlib.Core.Option.{Option, none}
 use mathlib.Core.Bool.{not, cond, _&&_}
-use mathlib.Core.List.{List, [], _∷_, map}
-use Prim.Native.Nat.{ℕ, zero, suc, _+_, _*_, _≤_, _<_}
+use mathlib.Core.List.{List, [], _∷_}
+use Prim.Native.Nat.{ℕ, suc, _≤_}
 use native.Mathlib.Numerals.{add-one}
 use native.Mathlib.Nat.{add-zero}
 use native.Mathlib.Omega.{arith}
@@ -12,20 +12,19 @@ use lib.IntN.{ℤ}
 use lib.ListN.{length, drop, getD}
 use lib.Seq.{drop-drop, getD-drop}
 use lib.Ieee.{Float, nan}
-use borrow.Author.Tests.{eqb-true, eqb-false, ltb-false, lt-ltb, le-ltb}
+use borrow.Author.Tests.{eqb-true, eqb-false, lt-ltb, le-ltb}
 use Rattle.laws.specs.Lists.{All, all-map}
 use Rattle.laws.specs.Times.{Time}
 use Rattle.laws.specs.Bools.{by}
 use Rattle.numbers.proofs.Seconds.{second-of-time}
-use Rattle.finality.specs.Tables.{Table, find}
-use Rattle.finality.specs.Brackets.{covers}
+use Rattle.finality.specs.Tables.{find}
 use Rattle.finality.specs.Kernels.{stagesOf}
-use Rattle.finality.specs.Sheet.{Observation, Submission, Valid, fieldIn, fitted, whereFound, epochOf, kept, keep, keptOf}
+use Rattle.finality.specs.Sheet.{Observation, Submission, Valid, fieldIn, fitted, whereFound, epochOf, kept, keptOf}
 use Rattle.finality.proofs.Keeping.{kept-same}
 use Rattle.integrate.specs.Force.{model}
 use Rattle.integrate.specs.declared.kernel.State.{State}
 use Rattle.epochs.specs.declared.Epoch.{Epoch}
-use Rattle.windows.specs.Stage.{Setting, fieldGravity, statesIn}
+use Rattle.windows.specs.Stage.{Setting, fieldGravity}
 use Rattle.windows.proofs.Meaning.{front-is}
 use Rattle.sighting.specs.Epoch.{epochWith}
 use Rattle.sighting.specs.Kept.{keyed, rowsFrom, numbers, recordAt, seenBy, epochBy, observations}
@@ -80,9 +79,6 @@ module _ (S : Setting) (l : Lists) (few : 2 ≤ length (l .fieldTimes)) (fits : 
       (λ i. epochWith (λ x. Rattle.forces.specs.Forces.gravityWith (S .degree) (Rattle.model.specs.Field.gm (S .static)) (Rattle.model.specs.Field.radius (S .static)) (S .a) (S .b)
       (front-is (S .degree) (S .static) (l .fieldTimes) (l .added) t fits i) x) t v (c .position) (c .velocity) (d .position) (d .velocity) p q)
       ∙ (λ i. epochStage S t v (field-is S l few t i) c d p q)
-
-  abbrev record-of : Observation → State → State → Float → Float → Epoch
-  record-of o = recordAt (model (S .degree) (S .static) (l .fieldTimes) (l .added)) (S .a) (S .b) (o .at) (o .observed)
 
   epoch-is : (o : Observation) → Time (o .at) →
       epochBy (model (S .degree) (S .static) (l .fieldTimes) (l .added)) (S .a) (S .b) (fitted (stagesOf (kernels S)) sub (sub .statesC)) (fitted (stagesOf (kernels S)) sub (sub .statesD))

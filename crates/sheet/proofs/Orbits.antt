@@ -1,9 +1,9 @@
 -- The windows that the code fits are those of the submission's stages, all of them end to end are its fitted orbits, and each can be searched. Assumes nothing.
 use mathlib.Core.Path.{_≡_, refl, sym, ap, _∙_, subst}
-use mathlib.Core.Bool.{Bool, true, false, _&&_}
+use mathlib.Core.Bool.{Bool, true}
 use mathlib.Core.List.{List, [], _∷_, _++_}
 use mathlib.Core.Option.{Option}
-use Prim.Native.Nat.{ℕ, zero, suc, _+_, _-_, _*_, _≤_, _<_}
+use Prim.Native.Nat.{ℕ, zero, suc, _+_, _-_, _≤_}
 use native.Mathlib.Numerals.{add-one}
 use native.Mathlib.Omega.{arith}
 use lib.Dec.{T, le→leb, ltb→lt}
@@ -11,26 +11,25 @@ use lib.IntN.{ℤ, pos, negsuc}
 use lib.Signed.{ltZ, leZ}
 use lib.ListN.{length, getD}
 use mathlib.Core.List.{append-assoc, append-nil}
-use lib.Ieee.{Float, nan, fin, le, lt, ofInt}
+use lib.Ieee.{Float, nan, le, lt, ofInt}
 use lib.Ieee.Fits.{and-i}
 use lib.ListN.{replicate}
 use Rattle.lent.specs.Lent.{frontSize}
 use Rattle.laws.specs.Floats.{zero64, zero⁺}
-use Rattle.laws.specs.Lists.{All, all-map}
-use Rattle.laws.specs.Order.{lt-le-tr, le-tr, lt→le}
+use Rattle.laws.specs.Lists.{All}
+use Rattle.laws.specs.Order.{lt-le-tr}
 use Rattle.laws.specs.Checks.{isKey}
-use Rattle.laws.specs.Times.{Time, Rising, RisingSeconds, bound, second, secondTime, second-below}
-use Rattle.finality.specs.Tables.{Table, find, keyOf}
-use Rattle.finality.specs.Brackets.{covers, bracketed}
+use Rattle.laws.specs.Times.{Time, bound, secondTime, second-below}
+use Rattle.finality.specs.Tables.{Table, find}
+use Rattle.finality.specs.Brackets.{covers}
 use Rattle.finality.specs.Arcs.{windowOf}
 use Rattle.finality.specs.Kernels.{stagesOf}
 use Rattle.finality.specs.Sheet.{orbits, coveredIn, fieldIn}
 use Rattle.finality.proofs.Fits.{starts, ends, rises, leaves}
 use Rattle.series.specs.Prepared.{prepared}
 use Rattle.model.specs.Model.{fieldAt}
-use Rattle.model.specs.Stages.{blendFields, timed}
 use Rattle.model.specs.Calls.{atFits}
-use Rattle.model.proofs.Stages.{combine, timed-times, field-bracketed}
+use Rattle.model.proofs.Stages.{timed-times, field-bracketed}
 use Rattle.integrate.specs.Force.{model, fullForce}
 use Rattle.integrate.specs.declared.kernel.State.{State}
 use Rattle.fit.specs.Fit.{stateFor}

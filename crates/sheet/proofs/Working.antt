@@ -1,25 +1,22 @@
 -- What the parts of the work leave is what the call publishes. Assumes nothing.
 use mathlib.Core.Path.{_≡_, refl, sym, ap, _∙_, subst}
-use mathlib.Core.Bool.{Bool, true, false, _&&_}
-use mathlib.Core.List.{List, [], _∷_, _++_, map}
-use Prim.Native.Nat.{ℕ, zero, suc, _+_, _-_, _*_, _/_, _≤_, _<_}
-use native.Mathlib.Numerals.{add-one}
+use mathlib.Core.Bool.{Bool, true, _&&_}
+use mathlib.Core.List.{List, [], _∷_, map}
+use Prim.Native.Nat.{ℕ, _+_, _-_, _*_, _/_, _≤_, _<_}
 use native.Mathlib.Omega.{arith}
-use lib.Dec.{T, leb, eqb}
+use lib.Dec.{eqb}
 use lib.IntN.{ℤ}
 use lib.ListN.{length, take, getD, length-map}
 use lib.Ieee.{Float, nan, lt}
-use borrow.Author.Tests.{leb-true, le-leb, eqb-true, eq-eqb}
+use borrow.Author.Tests.{le-leb, eqb-true, eq-eqb}
 use Rattle.lent.specs.Lent.{windowRoom, frontSize}
 use Rattle.laws.specs.Floats.{zero64}
-use Rattle.laws.specs.Checks.{all, isTime, rising, risingSeconds}
-use Rattle.laws.specs.Times.{Time}
 use Rattle.laws.specs.Bools.{both-true}
 use Rattle.laws.specs.Loops.{filled-length, filled-front}
 use Rattle.finality.specs.Tables.{Table, find}
 use Rattle.finality.specs.Brackets.{covers}
 use Rattle.finality.specs.Kernels.{stagesOf}
-use Rattle.finality.specs.Sheet.{Submission, Valid, published, coveredIn, fieldIn, fitted, orbits, epochOf, obsTime, kept, keptOf}
+use Rattle.finality.specs.Sheet.{Submission, published, coveredIn, fieldIn, fitted, epochOf, obsTime, kept, keptOf}
 use Rattle.finality.proofs.Keeping.{kept-length}
 use Rattle.epochs.specs.Epochs.{time, residual}
 use Rattle.epochs.specs.declared.Epoch.{Epoch}
@@ -32,14 +29,14 @@ use Rattle.sighting.specs.Kept.{keyed, numbers, epochBy, observations}
 use Rattle.windows.specs.Stage.{Setting, statesIn}
 use Rattle.windows.specs.Slots.{Slot}
 use Rattle.windows.specs.Windows.{slotAt, windowBy, windowsServe, Ends}
-use Rattle.windows.proofs.Filling.{Served, served}
+use Rattle.windows.proofs.Filling.{served}
 use Rattle.shelf.specs.Shelf.{joined, Shelved, BothFit}
 use Rattle.gather.specs.Gather.{Given, given, keptIn, gatherServes, Listed, Gathered}
-use Rattle.columns.specs.Columns.{columnsServe, firstDetrended, firstPassed, ColumnsFilled}
+use Rattle.columns.specs.Columns.{columnsServe, ColumnsFilled}
 use Rattle.sheet.specs.Stages.{kernels}
-use Rattle.sheet.specs.Submission.{Lists, submissionOf, observationsIn}
+use Rattle.sheet.specs.Submission.{Lists, submissionOf}
 use Rattle.sheet.specs.Calls.{sheetRefusal, columnsOf, keptCount, Worked}
-use Rattle.sheet.proofs.Orbits.{ModelFits, windowIn, fitted-window, windowAt, windows-joined, window-orderly}
+use Rattle.sheet.proofs.Orbits.{fitted-window, windowAt, windows-joined, window-orderly}
 use Rattle.sheet.proofs.Accepted.{Accepts, accepts, passed, model-fits, windows-serve}
 use Rattle.sheet.proofs.Columns.{detrended-is, passed-is}
 use Rattle.sheet.proofs.Kept.{kept-is}

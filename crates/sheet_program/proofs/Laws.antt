@@ -1,19 +1,17 @@
 -- Laws of the numbers that were read and of what is printed, as the loops and calls give their premises. Assumes nothing.
 use mathlib.Core.Path.{_≡_, refl, sym, ap, _∙_, subst}
-use mathlib.Core.Bool.{not, _&&_}
 use mathlib.Core.List.{List, [], _∷_, _++_, append-assoc, append-nil}
 use Prim.Native.Nat.{ℕ, zero, suc, _+_, _-_, _*_, _/_, _%_, _<_, _≤_, min}
-use native.Mathlib.Nat.{mul-le-mul, mod-lt, div-le-self}
+use native.Mathlib.Nat.{mul-le-mul, div-le-self}
 use native.Mathlib.Omega.{arith}
 use borrow.Author.Tests.{lt-ltb, le-ltb}
-use lib.Dec.{eqb}
-use lib.IntN.{ℤ, pos}
-use lib.ListN.{length, take, getD, set, length-append, drop-of-length-le, List·getD-eq-default}
+use lib.IntN.{ℤ}
+use lib.ListN.{length, take, getD, set, length-append, List·getD-eq-default}
 use lib.Seq.{length-take-le}
 use borrow.Rule.Slice.PartMut.{putMid, postOf}
 use lib.Ieee.{Float, nan, binary64, toBits}
-use Rattle.laws.specs.Loops.{head-at, fill-turn, fill-done, take-set}
-use Rattle.hex.specs.Digits.{digitsOf, written, placesOf, decimalOf}
+use Rattle.laws.specs.Loops.{fill-turn, fill-done, take-set}
+use Rattle.hex.specs.Digits.{digitsOf, written, decimalOf}
 use Rattle.hex.proofs.Printing.{then, written-prints, refused-prints, printed-fits}
 use Rattle.hex.proofs.Laws.{digits-length}
 use Rattle.hex.specs.Printing.{lineFeed, refusedText, Printed}

@@ -1,8 +1,8 @@
 -- The sheet program: what the numbers of a submission's text say, and what is printed of a sheet. Bytes are ASCII. Assumes nothing.
-use mathlib.Core.Bool.{Bool, true, false, cond, _&&_}
+use mathlib.Core.Bool.{cond}
 use mathlib.Core.List.{List, [], _∷_, _++_}
-use Prim.Native.Nat.{ℕ, zero, suc, _+_, _-_, _*_, _/_, _%_, _≤_, min}
-use lib.Dec.{leb, ltb, eqb}
+use Prim.Native.Nat.{ℕ, zero, suc, _+_, _*_, _/_, _%_, _≤_}
+use lib.Dec.{ltb}
 use lib.IntN.{ℤ}
 use lib.ListN.{getD}
 use mir.Syntax.{w64}

@@ -1,7 +1,7 @@
 -- A second is looked up by its float: exact for keys, so that halving over the floats finds what the table has. Assumes nothing.
 use mathlib.Core.Path.{_≡_, refl, sym, ap, _∙_, subst}
 use mathlib.Core.Option.{Option, none, some}
-use mathlib.Core.Bool.{Bool, true, false, not, cond}
+use mathlib.Core.Bool.{Bool, true, false, not}
 use mathlib.Core.List.{List, [], _∷_, _++_, map}
 use Prim.Native.Nat.{ℕ, zero, suc, _+_, _-_, _*_, _/_, _^_, _≤_, _<_, min}
 use native.Mathlib.Nat.{mul-div-cancel, le-of-mul-le-mul-right}
@@ -26,7 +26,7 @@ use Rattle.integrate.specs.declared.kernel.State.{State}
 use Rattle.fit.specs.declared.kernel.Held.{Held}
 use Rattle.fit.specs.declared.kernel.Held.the-variants.{Known, Missing}
 use Rattle.windows.specs.Stage.{heldOf}
-use Rattle.windows.specs.Slots.{nth, Entry, Slot}
+use Rattle.windows.specs.Slots.{nth, Entry}
 use Rattle.shelf.specs.Shelf.{joined, Shelved, Looked, Sought, Searched, InSlot, InSlots}
 use Rattle.lent.specs.Lent.{windowRoom}
 

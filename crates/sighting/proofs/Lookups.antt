@@ -9,7 +9,6 @@ use lib.IntN.{ℤ}
 use lib.ListN.{length, getD}
 use lib.Signed.{ltZ}
 use lib.Ieee.{Float, nan}
-use Rattle.laws.specs.Bools.{by}
 use Rattle.slices.specs.Slices.{lookup, lookupFrom}
 use Rattle.slices.specs.declared.Found.{Found}
 use Rattle.slices.specs.declared.Found.the-variants.{At, Nothing}

@@ -1,5 +1,5 @@
 -- Rows by whole second, one epoch over them, and the epochs that are kept (document 01, module 5). Assumes nothing.
-use Prim.Native.Nat.{ℕ, suc, _*_, _-_}
+use Prim.Native.Nat.{ℕ, suc, _*_}
 use mathlib.Core.Bool.{Bool, cond, _&&_}
 use mathlib.Core.Option.{Option, none}
 use mathlib.Core.List.{List, [], _∷_}

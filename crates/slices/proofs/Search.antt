@@ -1,16 +1,15 @@
 -- A strictly rising list of keys, the bracket of a binary search in it, and the linear search that it equals. Assumes nothing.
 use mathlib.Core.Path.{_≡_, refl, sym, _∙_, ap, subst}
 use mathlib.Core.Logic.{_⊎_, ⊎-elim}
-use Prim.Native.Nat.{ℕ, zero, suc, _+_, _-_, _/_, _<_, _≤_}
+use Prim.Native.Nat.{ℕ, zero, suc, _+_, _-_, _<_, _≤_}
 use native.Mathlib.Nat.{eq-or-lt-of-le}
 use native.Mathlib.Omega.{arith}
-use native.Mathlib.Numerals.{add-one}
-use mathlib.Core.Bool.{Bool, true, false, not, cond, _||_}
+use mathlib.Core.Bool.{Bool, true, false, not, _||_}
 use mathlib.Core.List.{List, [], _∷_}
 use lib.Dec.{T}
 use lib.ListN.{length, getD}
 use lib.IntN.{ℤ, pos}
-use lib.Signed.{ltZ, leZ, _<ℤ_, _≤ℤ_, ltZ-yes, ltZ-no, <ℤ-≤ℤ-trans, <ℤ-irrefl}
+use lib.Signed.{ltZ, _<ℤ_, _≤ℤ_, ltZ-yes, ltZ-no, <ℤ-≤ℤ-trans}
 use lib.Ieee.Bits.{is-true}
 use Rattle.laws.specs.Checks.{risingSeconds, below-tr}
 use Rattle.laws.specs.Bools.{left-true, right-true}

@@ -1,8 +1,7 @@
 -- The factors of the recursion and of the derivative up to degree 3, by their bits. Assumes nothing.
 use Rattle.laws.specs.WholeNumbers.{number}
 use mathlib.Core.Path.{_≡_, refl}
-use Prim.Native.Nat.{ℕ}
-use lib.Ieee.{Float, binary64, size, round, add, sub, mul, div, ofBits, ofInt}
+use lib.Ieee.{round, add, sub, mul, div, ofBits, ofInt}
 use Rattle.root.specs.Root.{digits, isqrt, rootOfUnits, sqrt}
 use Rattle.laws.specs.Floats.{bits}
 use Rattle.series.specs.Legendre.{aOf, bOf, diagonal, lowerOf, upperOf}

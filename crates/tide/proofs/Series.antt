@@ -7,7 +7,6 @@ use Rattle.laws.specs.Floats.{_⊗_, _⊘_}
 use Rattle.laws.specs.Tables.{tri, row, rows}
 use Rattle.numbers.specs.Constants.{earthGM, earthRadius}
 use Rattle.numbers.specs.Numbers.{sineCosine}
-use Rattle.numbers.specs.declared.SineCosine.{SineCosine}
 use Rattle.vectors.specs.declared.Vector.{Vector}
 use Rattle.laws.specs.Sums.{sumTo}
 use Rattle.series.specs.Field.{partialsOf}
@@ -17,7 +16,6 @@ use Rattle.tide.specs.Gravity.{tablesOf, orderSums, addOrder, degreeSums
 use Rattle.tide.specs.declared.SolidTide.{SolidTide}
 use Rattle.tide.specs.declared.kernel.Place.{Place}
 use Rattle.tide.specs.declared.degree3.Tables.{Tables}
-use Rattle.tide.specs.declared.degree3.Totals.{Totals}
 
 -- the loops: one order more, one degree more
 pub one-order : (f : Tables) (n m : ℕ) → addOrder f n m (orderSums f n m) ≡ orderSums f n (m + 1)

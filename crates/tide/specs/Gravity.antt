@@ -17,7 +17,6 @@ use Rattle.series.specs.Legendre.{legendre, derived}
 use Rattle.series.specs.Sums.{Degree, degreeOf, termV, termLat, termLon, power, allR, allLat, allLon}
 use Rattle.series.specs.declared.Partials.{Partials}
 use Rattle.fields.specs.Calls.{accelerationOf}
-use Rattle.fields.specs.declared.NorthEastUp.{NorthEastUp}
 use Rattle.tide.specs.Tide.{entry, placeOf, ordersOf}
 use Rattle.tide.specs.declared.SolidTide.{SolidTide}
 use Rattle.tide.specs.declared.kernel.Place.{Place}

@@ -5,7 +5,7 @@ use mathlib.Core.List.{List, [], _∷_}
 use lib.Dec.{ltb}
 use lib.ListN.{getD}
 use lib.Ieee.{Float, nan}
-use Rattle.laws.specs.Floats.{_⊕_, _⊖_, _⊗_, _⊘_, zero64, one64}
+use Rattle.laws.specs.Floats.{_⊕_, _⊗_, _⊘_, zero64, one64}
 use Rattle.laws.specs.WholeNumbers.{number}
 use Rattle.numbers.specs.Numbers.{sine, cosine, arcsine, arctangent, power}
 use Rattle.vectors.specs.Vector.{norm}

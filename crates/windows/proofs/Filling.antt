@@ -1,9 +1,8 @@
 -- Laws of the windows' slots: what one window leaves, and that the slots before it stay. Assumes nothing.
 use mathlib.Core.Path.{_≡_, refl, sym, ap, _∙_, subst}
-use mathlib.Core.Bool.{Bool, true, false, cond, _&&_, false≢true}
+use mathlib.Core.Bool.{Bool, true, false, _&&_, false≢true}
 use mathlib.Core.List.{List, [], _∷_}
 use Prim.Native.Nat.{ℕ, zero, suc, _+_, _-_, _*_, _/_, _≤_, _<_}
-use native.Mathlib.Numerals.{add-one}
 use native.Mathlib.Omega.{arith}
 use lib.Dec.{T, leb, eqb, leb→le, eqb→eq}
 use lib.IntN.{ℤ}
@@ -17,15 +16,14 @@ use Rattle.lent.specs.Lent.{windowRoom, slotRoom, fitRoom, frontSize}
 use Rattle.laws.specs.Floats.{_⊖_}
 use Rattle.laws.specs.Checks.{all, isTime, rising, risingSeconds, time-says}
 use Rattle.laws.specs.Order.{lt→le}
-use Rattle.laws.specs.Times.{Time}
 use Rattle.laws.specs.WholeNumbers.{number}
 use Rattle.laws.specs.Bools.{by}
 use Rattle.laws.specs.Tables.{row, row-length}
 use Rattle.finality.specs.Tables.{Table}
 use Rattle.finality.specs.Arcs.{longest, start, steps, arcOf, inside}
-use Rattle.finality.proofs.Windows.{steps-short, states-short}
+use Rattle.finality.proofs.Windows.{states-short}
 use Rattle.vectors.specs.declared.Vector.{Vector}
-use Rattle.integrate.specs.Room.{Run, Only, Holds3, Orbit}
+use Rattle.integrate.specs.Room.{Run, Holds3, Orbit}
 use Rattle.integrate.specs.declared.kernel.State.{State}
 use Rattle.integrate.specs.declared.kernel.Arc.{Arc as ArcStruct}
 use Rattle.fit.specs.Fit.{fitOf, orbitOf}
@@ -34,8 +32,8 @@ use Rattle.fit.specs.declared.kernel.Held.{Held}
 use Rattle.fit.specs.declared.kernel.Fitted.{Fitted}
 use Rattle.fit.specs.declared.kernel.Fitted.the-variants.{Fitted as Rms, Refused}
 use Rattle.windows.specs.Stage.{arcStruct, statesOf}
-use Rattle.windows.specs.Slots.{nth, Entry, Entries, Slot, Keeps}
-use Rattle.windows.specs.Windows.{windowBy, roomFor, windowsServe, Apart, Leaves, Windowed, Ends, Filled, WindowsFit, slotAt}
+use Rattle.windows.specs.Slots.{nth, Entries, Slot, Keeps}
+use Rattle.windows.specs.Windows.{windowBy, roomFor, windowsServe, Leaves, Windowed, Ends, Filled, WindowsFit}
 use Rattle.fit.specs.Room.{workSize}
 
 -- ---- numbers that stay

@@ -1,20 +1,19 @@
 -- The fit obeys the law that the theorem on final entries asks of it: at most one state a step, and nothing read but at the arc's own times. Assumes nothing.
 use mathlib.Core.Path.{_≡_, refl, sym, ap, _∙_}
 use mathlib.Core.Option.{Option}
-use mathlib.Core.Logic.{_⊎_, inl, inr}
-use mathlib.Core.Bool.{Bool, true, false, not, cond}
+use mathlib.Core.Bool.{Bool, true, false, cond}
 use mathlib.Core.List.{List, []}
-use Prim.Native.Nat.{ℕ, suc, _*_, _/_, _≤_, _<_}
+use Prim.Native.Nat.{ℕ, suc, _*_, _≤_, _<_}
 use native.Mathlib.Nat.{le-refl, le-of-eq}
 use native.Mathlib.Omega.{arith}
 use lib.Dec.{T, leb, leb→le}
 use lib.IntN.{ℤ}
 use lib.ListN.{length}
-use lib.Ieee.{Float, binary64, div, ofBits}
-use Rattle.laws.specs.Floats.{_⊕_, _⊘_, bits, one64, two64}
+use lib.Ieee.{Float, div, ofBits}
+use Rattle.laws.specs.Floats.{_⊕_, _⊘_, two64}
 use Rattle.laws.specs.Times.{second, step, stepTime}
 use Rattle.laws.specs.Tables.{row-length, row-same}
-use Rattle.finality.specs.Arcs.{Arc, Fit, halfStep}
+use Rattle.finality.specs.Arcs.{Arc, halfStep}
 use Rattle.finality.proofs.Fits.{LawfulFit}
 use Rattle.vectors.specs.Vector.{plus}
 use Rattle.vectors.specs.declared.Vector.{Vector}
@@ -22,7 +21,6 @@ use Rattle.forces.specs.Forces.{tidesOf}
 use Rattle.integrate.specs.Room.{Run}
 use Rattle.integrate.specs.declared.kernel.State.{State}
 use Rattle.fit.specs.Fit.{fitOf, orbitOf}
-use Rattle.fit.specs.declared.kernel.Held.{Held}
 use Rattle.fit.specs.declared.kernel.Fitted.{Fitted}
 use Rattle.fit.specs.declared.kernel.Fitted.the-variants.{Fitted as Rms, Refused}
 use Rattle.fit.proofs.Locality.{Agree, SameReads, fit-same, orbit-same}

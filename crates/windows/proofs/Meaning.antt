@@ -1,13 +1,10 @@
 -- The code's full attraction and look-up of states are those of the stage: the field at a time with the numbers that the degree gives, and the first row at a whole second. Assumes nothing.
-use mathlib.Core.Path.{_≡_, refl, sym, ap, _∙_, subst}
-use mathlib.Core.Option.{Option, none, some}
-use mathlib.Core.Bool.{Bool, true, false, cond, not, _&&_, _||_}
+use mathlib.Core.Path.{_≡_, refl, sym, ap, _∙_}
+use mathlib.Core.Bool.{true, false, not, _||_}
 use mathlib.Core.List.{List, [], _∷_, _++_}
-use Prim.Native.Nat.{ℕ, zero, suc, _+_, _*_, _/_, _≤_}
+use Prim.Native.Nat.{ℕ, suc, _+_, _*_, _≤_}
 use native.Mathlib.Numerals.{add-one}
-use native.Mathlib.Nat.{add-comm}
 use native.Mathlib.Omega.{arith}
-use lib.Dec.{T, leb}
 use lib.IntN.{ℤ}
 use lib.Signed.{ltZ}
 use lib.Ieee.{Float, nan}
@@ -29,9 +26,8 @@ use Rattle.forces.proofs.Published.{front-published}
 use Rattle.model.specs.Field.{gm, radius}
 use Rattle.model.specs.Model.{fieldAt}
 use Rattle.model.specs.Calls.{atFits, atLeft}
-use Rattle.integrate.specs.Force.{Model, model, frontAt, fullForce}
+use Rattle.integrate.specs.Force.{model, frontAt, fullForce}
 use Rattle.integrate.specs.Room.{stateIn}
-use Rattle.integrate.specs.declared.kernel.State.{State}
 use Rattle.finality.specs.Tables.{sameSecond, find}
 use Rattle.finality.proofs.Lookup.{same-order}
 use Rattle.slices.specs.Slices.{lookup, lookupFrom}

@@ -1,13 +1,13 @@
 -- Laws of the states of a window in their slot. Assumes nothing.
 use mathlib.Core.Path.{_≡_, refl, sym, ap, _∙_, subst}
-use mathlib.Core.Bool.{Bool, true, false, cond, _&&_}
+use mathlib.Core.Bool.{Bool, true, false, cond}
 use mathlib.Core.List.{List, [], _∷_, _++_, append-nil}
 use Prim.Native.Nat.{ℕ, zero, suc, _+_, _*_, _≤_, _<_}
 use native.Mathlib.Numerals.{add-one}
 use native.Mathlib.Omega.{arith}
 use lib.Dec.{T, eqb}
 use lib.IntN.{ℤ, pos}
-use lib.Ieee.{Float, nan, le, lt}
+use lib.Ieee.{Float, nan}
 use lib.ListN.{length, getD, set, length-set, length-append, List·getD-append}
 use lib.Seq.{getD-set-same, getD-at}
 use borrow.Author.Tests.{eqb-true, eqb-false}
@@ -22,7 +22,7 @@ use Rattle.integrate.specs.Room.{runSize, Run, stateIn, Only, Holds3, Orbit}
 use Rattle.integrate.specs.Work.{Stored}
 use Rattle.integrate.proofs.Places.{only-then, only-wide, only-same, stays3}
 use Rattle.fit.proofs.Rows.{set-only}
-use Rattle.windows.specs.Slots.{entriesRoom, within, nth, Entry, Entries, Slot, Entered, keptIf, Keeping, Keeps}
+use Rattle.windows.specs.Slots.{entriesRoom, within, nth, Entry, Entries, Entered, keptIf, Keeping, Keeps}
 use Rattle.windows.proofs.Times.{held-inside}
 
 -- ---- one state at its place
@@ -44,11 +44,6 @@ entry-stays a e at s s' x o h f = record {
   second = o .same at (λ p q. f at (omega arith) (omega arith) p q) ∙ h .second;
   position = stays3 a e (at + 1) s s' (x .1 .position) o (h .position) (λ k p q u v. f k (omega arith) (omega arith) u v);
   velocity = stays3 a e (at + 4) s s' (x .1 .velocity) o (h .velocity) (λ k p q u v. f k (omega arith) (omega arith) u v);
-}
-
-pub entries-stay : (a e at : ℕ) (s s' : List Float) (table : Table State) → Only a e s s' → Entries s at table → ((k : ℕ) → at ≤ k → k < at + 7 * length table → a ≤ k → k < e → ⊥) → Entries s' at table
-entries-stay a e at s s' table o h f = record {
-  each = λ j l. entry-stays a e (at + 7 * j) s s' (nth table j) o (h .each j l) (λ k p q u v. f k (omega arith) (omega arith) u v);
 }
 
 entries-more : (s s' : List Float) (at : ℕ) (table : Table State) (second : ℤ) (state : State) → Entries s at table → Entered s s' (at + 7 * length table) second state → Entries s' at (table ++ ((second, state) ∷ []))

@@ -1,21 +1,21 @@
 -- The start and the steps of a window's arc lie where the code takes their whole numbers. Assumes nothing.
-use mathlib.Core.Path.{_≡_, refl, sym, ap, _∙_, subst}
+use mathlib.Core.Path.{_≡_, refl}
 use mathlib.Core.Bool.{true, false}
-use Prim.Native.Nat.{ℕ, zero, suc, _+_, _-_, _*_, _/_, _^_, _≤_, _<_}
+use Prim.Native.Nat.{ℕ, _+_, _-_, _^_, _≤_}
 use native.Mathlib.Omega.{arith}
 use lib.Dec.{T}
-use lib.IntN.{ℤ, pos}
-use lib.Ieee.{Float, fin, binary64, add, sub, mul, div, ofBits, le, lt, eq}
+use lib.IntN.{pos}
+use lib.Ieee.{Float, fin, binary64, ofBits, le, lt, eq}
 use lib.Ieee.Fits.{and-l, and-r, and-i}
 use lib.Ieee.Scale.{finite}
 use lib.Ieee.Bits.{is-true}
-use Rattle.laws.specs.Floats.{zero⁺, zero64, two64, _⊕_, _⊖_, _⊗_, _⊘_}
+use Rattle.laws.specs.Floats.{zero⁺, zero64, _⊕_, _⊖_, _⊘_}
 use Rattle.laws.specs.Order.{le-tr, lt→le, lt-le-tr, le-lt-tr, sub-mono-l, add-mono-l}
-use Rattle.laws.specs.WholeNumbers.{Is, is-le, number, number-is, add-int, sub-int, two-mul-int, half-int, half-mono, floor, between, Floored}
-use Rattle.laws.specs.Times.{Time, bound, natural, natural-le, natural-next, second, step}
+use Rattle.laws.specs.WholeNumbers.{Is, is-le, number, number-is, add-int, sub-int, two-mul-int, half-int, half-mono, floor, between}
+use Rattle.laws.specs.Times.{Time, bound, natural-le, natural-next, second, step}
 use Rattle.numbers.specs.Seconds.{isHeld, wholeSecond}
-use Rattle.finality.specs.Arcs.{halfHour, longest, start, steps}
-use Rattle.finality.proofs.Windows.{k, k-le, P, N, floored, P-le, N-le, half}
+use Rattle.finality.specs.Arcs.{halfHour, start}
+use Rattle.finality.proofs.Windows.{k, k-le, P, N, floored, P-le, N-le}
 use Rattle.windows.specs.Slots.{lowest, highest, within}
 
 half-hour-is : Is halfHour 1800 0

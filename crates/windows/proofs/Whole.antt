@@ -1,9 +1,8 @@
 -- What a window leaves by the code's force and look-up is what the stage's window leaves. Assumes nothing.
 use mathlib.Core.Path.{_≡_, refl, sym, ap, _∙_, subst}
-use mathlib.Core.Bool.{Bool, true, false, cond, _&&_}
-use mathlib.Core.List.{List, []}
-use Prim.Native.Nat.{ℕ, zero, suc, _+_, _*_, _/_, _≤_, _<_}
-use native.Mathlib.Nat.{le-refl}
+use mathlib.Core.Bool.{Bool, true, false, _&&_}
+use mathlib.Core.List.{List}
+use Prim.Native.Nat.{ℕ, _*_, _≤_}
 use native.Mathlib.Omega.{arith}
 use lib.Dec.{T, leb}
 use lib.IntN.{ℤ, pos}
@@ -24,16 +23,16 @@ use Rattle.series.specs.Prepared.{prepared}
 use Rattle.model.specs.Model.{fieldAt}
 use Rattle.model.specs.Calls.{atFits}
 use Rattle.finality.specs.Brackets.{covers}
-use Rattle.finality.specs.Tables.{Table, find}
+use Rattle.finality.specs.Tables.{find}
 use Rattle.finality.specs.Arcs.{longest, start, steps, arcOf, inside, windowOf}
-use Rattle.finality.proofs.Windows.{k, k-le, P, N, P-le, N-le, steps-le, step-is, steps-short}
+use Rattle.finality.proofs.Windows.{k-le, P-le, N-le, steps-le, step-is, steps-short}
 use Rattle.integrate.specs.Force.{model, fullForce}
 use Rattle.integrate.specs.declared.kernel.State.{State}
 use Rattle.integrate.specs.declared.kernel.Arc.{Arc as ArcStruct}
 use Rattle.fit.specs.Fit.{fitOf, orbitOf, stateFor}
 use Rattle.fit.specs.declared.kernel.Held.{Held}
-use Rattle.fit.proofs.Locality.{Agree, SameReads, fit-same, orbit-same}
-use Rattle.windows.specs.Stage.{Setting, setting, fullOf, arcStruct, lookOf, statesOf, fitStage, statesIn}
+use Rattle.fit.proofs.Locality.{SameReads, fit-same, orbit-same}
+use Rattle.windows.specs.Stage.{setting, fullOf, arcStruct, lookOf, statesOf, fitStage, statesIn}
 use Rattle.windows.specs.Windows.{windowBy, Ends}
 use Rattle.windows.proofs.Times.{start-is}
 use Rattle.windows.proofs.Lawful.{states-same}

@@ -1,9 +1,9 @@
 -- The code's way to the whole number above or below a number: cut, and one more where the cut number lies below. Assumes nothing.
 use mathlib.Core.Path.{_≡_, refl, sym, ap, _∙_, subst}
-use mathlib.Core.Logic.{_⊎_, inl, inr}
-use mathlib.Core.Bool.{Bool, true, false, not, cond, _||_, Bool·beq}
-use Prim.Native.Nat.{ℕ, zero, suc, _+_, _-_, _*_, _/_, _^_, _≤_, _<_, min, zero-le}
-use native.Mathlib.Nat.{le-trans, le-antisymm, le-of-suc-le-suc, div-lt-iff-lt-mul, le-div-iff-mul-le, min-eq-left, min-eq-right, suc-mul, add-mul, mul-right-comm, mul-comm, lt-of-mul-lt-mul-right, div-mul-le-self, lt-div-mul-add}
+use mathlib.Core.Logic.{inl, inr}
+use mathlib.Core.Bool.{Bool, true, false, not, _||_, Bool·beq}
+use Prim.Native.Nat.{ℕ, suc, _+_, _-_, _*_, _/_, _^_, _≤_, _<_, min, zero-le}
+use native.Mathlib.Nat.{le-antisymm, le-of-suc-le-suc, div-lt-iff-lt-mul, le-div-iff-mul-le, min-eq-left, min-eq-right, suc-mul, add-mul, mul-right-comm, lt-of-mul-lt-mul-right, div-mul-le-self, lt-div-mul-add}
 use native.Mathlib.Omega.{arith}
 use lib.Dec.{T, eqb, ltb, ltb→lt, nltb→le}
 use lib.IntN.{ℤ, pos}
@@ -12,9 +12,9 @@ use lib.Ieee.Fits.{down-pos}
 use lib.Ieee.Scale.{finite, round-same}
 use Rattle.laws.specs.Floats.{zero64, _⊗_}
 use Rattle.laws.specs.Lists.{decide}
-use Rattle.laws.specs.Signed.{p, n, d, d-pos, finite→real, Order, Strict, order-of-le, le-of-order, strict-of-lt, lt-of-strict}
-use Rattle.laws.specs.Order.{le-real-l, le-tr, le-lt-tr, lt-le-tr, lt→le, lt→nle, nlt→le, le-antisym, neg-le}
-use Rattle.laws.specs.WholeNumbers.{Is, is-le, number, number-is, ceil, floor, ceil-le, between, under-div}
+use Rattle.laws.specs.Signed.{p, n, d, d-pos, finite→real, order-of-le, le-of-order, strict-of-lt}
+use Rattle.laws.specs.Order.{le-real-l, le-tr, le-lt-tr, lt-le-tr, lt→le, nlt→le, le-antisym, neg-le}
+use Rattle.laws.specs.WholeNumbers.{Is, number, number-is, ceil, floor, ceil-le, between, under-div}
 use Rattle.windows.specs.Slots.{lowest, highest}
 
 -- ---- whole numbers

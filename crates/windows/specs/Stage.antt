@@ -2,7 +2,7 @@
 -- and Legendre tables, which are fixed for a call and no part of a submission's lists. Assumes nothing.
 use Prim.Native.Nat.{ℕ, suc, _*_}
 use mathlib.Core.Option.{Option, none, some}
-use mathlib.Core.Bool.{Bool, cond}
+use mathlib.Core.Bool.{cond}
 use mathlib.Core.List.{List, [], _∷_, _++_}
 use lib.Dec.{leb}
 use lib.IntN.{ℤ}

@@ -1,6 +1,5 @@
 use Prim.Native.Nat.{_-_, _≤_}
 use native.Mathlib.Omega.{arith}
-use lib.ListN.{length}
 use borrow.Author.Needs.{needs}
 use Rattle.instances.proofs.unchanged.Statement.{statement}
 use Rattle.instances.proofs.unchanged.Tie as tie

@@ -1,7 +1,5 @@
 use Rattle.integrate.proofs.Calls.{integrate-refused, passed-here, integrate-accepted, integrate-unfit}
 use native.Mathlib.Omega.{arith}
-use mathlib.Core.Path.{ap, sym, _∙_}
-use lib.ListN.{length}
 use borrow.Author.Needs.{needs}
 use Rattle.integrate.proofs.integrate.Statement.{statement}
 use Rattle.integrate.proofs.integrate.Tie as tie

@@ -1,10 +1,8 @@
-use mathlib.Core.Path.{_≡_, refl, sym, ap, _∙_}
-use Prim.Native.Nat.{ℕ, suc, _+_, _*_, _-_, _≤_, _<_}
-use native.Mathlib.Numerals.{add-one}
+use mathlib.Core.Path.{_≡_, refl}
+use Prim.Native.Nat.{ℕ, _+_, _*_, _-_, _≤_}
 use native.Mathlib.Omega.{arith}
-use lib.ListN.{length, getD}
-use lib.Ieee.{Float, nan}
-use borrow.Author.Needs.{needs}
+use lib.ListN.{getD}
+use lib.Ieee.{nan}
 use Rattle.laws.specs.Floats.{_⊗_}
 use Rattle.laws.specs.Sums.{sum-more, sumTo}
 use Rattle.least_squares.specs.LeastSquares.{fittedAt}

@@ -1,11 +1,11 @@
-use mathlib.Core.Path.{_≡_, refl, sym, ap, _∙_}
-use Prim.Native.Nat.{ℕ, suc, _+_, _*_, _-_, _≤_, _<_}
+use mathlib.Core.Path.{_≡_, refl}
+use Prim.Native.Nat.{_-_, _≤_}
 use native.Mathlib.Omega.{arith}
-use lib.ListN.{length, take, set, length-set}
+use lib.ListN.{length, take, length-set}
 use borrow.Author.Needs.{needs}
 use Rattle.least_squares.proofs.Laws.{row-more, row-whole, row-end}
 use Rattle.laws.specs.Tables.{row}
-use Rattle.least_squares.specs.LeastSquares.{fittedAt, residualAt, residualsOf}
+use Rattle.least_squares.specs.LeastSquares.{residualAt, residualsOf}
 use Rattle.least_squares.proofs.residuals_of.Statement.{statement}
 use Rattle.least_squares.proofs.residuals_of.Tie as tie
 

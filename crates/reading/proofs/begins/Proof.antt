@@ -1,7 +1,7 @@
 use Rattle.reading.proofs.Laws.{begins-stops, begins-goes, begins-done}
 use mathlib.Core.Path.{_≡_, refl}
-use Prim.Native.Nat.{_+_, _-_, _*_, _≤_}
-use lib.ListN.{length, take, drop}
+use Prim.Native.Nat.{_-_, _≤_}
+use lib.ListN.{length, drop}
 use Rattle.reading.specs.Text.{beginsWith}
 use borrow.Author.Needs.{needs}
 use Rattle.reading.proofs.begins.Statement.{statement}

@@ -1,6 +1,6 @@
 use mathlib.Core.Path.{_≡_, refl}
-use Prim.Native.Nat.{_+_, _-_, _*_, _≤_}
-use lib.ListN.{length, take, drop}
+use Prim.Native.Nat.{_-_, _≤_}
+use lib.ListN.{length, drop}
 use Rattle.hex.specs.Digits.{isDigit}
 use Rattle.laws.specs.Checks.{all}
 use Rattle.laws.specs.Loops.{all-stops, all-goes, all-done}

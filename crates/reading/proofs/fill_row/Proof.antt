@@ -1,7 +1,7 @@
 use Rattle.reading.proofs.Laws.{column-starts, column-turn, column-done}
 use mathlib.Core.Path.{_≡_, refl}
-use Prim.Native.Nat.{_+_, _-_, _*_, _≤_}
-use lib.ListN.{length, take, drop}
+use Prim.Native.Nat.{_+_, _-_, _*_}
+use lib.ListN.{length, take}
 use mathlib.Core.List.{_++_}
 use Rattle.reading.specs.Text.{column}
 use borrow.Author.Needs.{needs}

@@ -1,7 +1,6 @@
 use Rattle.reading.proofs.Laws.{row-bad, row-goes, row-done}
 use mathlib.Core.Path.{_≡_, refl}
-use Prim.Native.Nat.{_+_, _-_, _*_, _≤_}
-use lib.ListN.{length, take, drop}
+use Prim.Native.Nat.{_+_, _-_, _*_}
 use Rattle.reading.specs.Text.{isRow}
 use borrow.Author.Needs.{needs}
 use Rattle.reading.proofs.is_row.Statement.{statement}

@@ -5,7 +5,7 @@ use Prim.Native.Nat.{ℕ, zero, suc, _+_, _*_, _-_, _<_, _≤_, _^_, zero-le}
 use native.Mathlib.Nat.{le-antisymm}
 use native.Mathlib.Omega.{arith}
 use native.Mathlib.Numerals.{add-one}
-use mathlib.Core.Bool.{Bool, true, false}
+use mathlib.Core.Bool.{true}
 use mathlib.Core.List.{List, [], _∷_}
 use lib.ListN.{length, getD, set, length-set}
 use lib.WfN.{Nat·lt-wfRel}
@@ -29,7 +29,7 @@ use types.Run.{look, init, store, forget, stop, hop, fld, from, load, lit, unit-
 use types.Part.{whole, sub, look-in, store-in}
 use types.Share.{arr-parts}
 use sound.WpLaws.{WpFn-mono}
-use denote.RattleType.{RattleType, owns}
+use denote.RattleType.{owns}
 use denote.Shadow.{pureI}
 use denote.Laws.{Is, shows}
 use denote.Memory.{pointee, shares}
@@ -56,9 +56,6 @@ use Rattle.records.proofs.put_back as f
 use Rattle.records.proofs.put_back.Statement as stated
 use Rattle.records.proofs.put_back.Code as code
 use Rattle.records.proofs.put_back.Code.Mir as mirs
-
-abbrev R : RattleType
-R = T.the-row
 
 abbrev vals : Epoch → List Val
 vals = LL.vals T.the-type T′.the-laws

@@ -1,11 +1,11 @@
 -- `records::read` meets its contract: a walk of its MIR, by hand. The work area at the head of the loop is `reading i`; a turn looks into one record through the shared borrow, and writes its time and its residual through the other borrow.
 -- Assumes nothing.
 use mathlib.Core.Path.{_≡_, refl, sym, _∙_, ap, subst}
-use Prim.Native.Nat.{ℕ, zero, suc, _+_, _*_, _-_, _<_, _≤_, _^_, zero-le}
+use Prim.Native.Nat.{ℕ, suc, _+_, _*_, _-_, _<_, _≤_, _^_, zero-le}
 use native.Mathlib.Nat.{le-antisymm}
 use native.Mathlib.Omega.{arith}
 use native.Mathlib.Numerals.{add-one}
-use mathlib.Core.Bool.{Bool, true, false}
+use mathlib.Core.Bool.{true}
 use mathlib.Core.List.{List, [], _∷_}
 use lib.ListN.{length, getD, set, length-set}
 use lib.WfN.{Nat·lt-wfRel}
@@ -26,10 +26,10 @@ use contract.Monad.{Fun}
 use contract.Running.{givenOf, tables, tablesOf}
 use types.Kit.{Given, Item, Sq, ‵, _⊛_, ⋆, runs, anyQ, atRet, _$_, _∵_, !, qed, by, move, keep, drop, split, join, rewrite, fsplit, fjoin, feqI, suffices, frame, done}
 use types.Run.{look, init, store, forget, stop, hop, fld, from, load, lit, unit-lit, of-opd, bin, assigns, assigns-last, first, branches, skips, jumps, blocks, exec, returns, enter, alloc1, alloc0, params1, pass1, pass0, free1, free0, Below, again, loops}
-use types.Part.{whole, sub, look-in, store-in}
+use types.Part.{whole, sub, look-in}
 use types.Share.{arr-parts}
 use sound.WpLaws.{WpFn-mono}
-use denote.RattleType.{RattleType, owns}
+use denote.RattleType.{owns}
 use denote.Shadow.{pureI}
 use denote.Laws.{Is, shows}
 use denote.Memory.{pointee, shares}
@@ -48,7 +48,6 @@ use denote.Triple.Table.{entered}
 use denote.Triple.Walked.{says, needs, Stays, stay-slice, stay-none-slice, walkOf, AllGo, goes-slice, goes-none-slice, Walks, ends-at, walked, walk-meets}
 use denote.Exit.{yes}
 use Rattle.epochs.specs.declared.Epoch.{Epoch}
-use Rattle.records.specs.Records.{readInto}
 use Rattle.records.proofs.Reading.{none, reading, length-reading, reading-all}
 use Rattle.epochs.proofs.Epoch as T
 use Rattle.epochs.proofs.Epoch.Laws as T′
@@ -57,9 +56,6 @@ use Rattle.records.proofs.read as f
 use Rattle.records.proofs.read.Statement as stated
 use Rattle.records.proofs.read.Code as code
 use Rattle.records.proofs.read.Code.Mir as mirs
-
-abbrev R : RattleType
-R = T.the-row
 
 abbrev vals : Epoch → List Val
 vals = LL.vals T.the-type T′.the-laws

@@ -6,7 +6,6 @@ use mir.Syntax.{w64}
 use mir.Val.{toZ, ofZ}
 use mir.ValLaws.{toZ-ofZ}
 use Rattle.replay.proofs.Signs.{Negative, negative, Positive, positive}
-use borrow.Author.Needs.{needs}
 use Rattle.replay.proofs.unsigned.Statement.{statement}
 use Rattle.replay.proofs.unsigned.Tie as tie
 

@@ -1,6 +1,5 @@
-use mathlib.Core.Path.{_≡_, refl}
 use Prim.Native.Nat.{_-_}
-use lib.ListN.{length, length-set}
+use lib.ListN.{length}
 use borrow.Author.Needs.{needs}
 use Rattle.replay_detrend.proofs.say_counts.Statement.{statement}
 use Rattle.replay_detrend.proofs.say_counts.Tie as tie

@@ -1,5 +1,5 @@
 -- `replay_records::read_epochs` is safe and ends. Assumes nothing.
-use mathlib.Core.Path.{_≡_, refl}
+use mathlib.Core.Path.{_≡_}
 use Prim.Native.Nat.{_-_}
 use lib.ListN.{length, length-set}
 use borrow.Author.Needs.{needs}

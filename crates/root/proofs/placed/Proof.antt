@@ -1,8 +1,7 @@
 -- `root::placed` meets its contract. Assumes nothing.
-use mathlib.Core.Path.{_∙_, subst}
 use borrow.Author.Needs.{needs}
 use native.Mathlib.Omega.{arith}
-use Prim.Native.Nat.{ℕ, _+_, _*_, _/_, _%_, _≤_, _<_}
+use Prim.Native.Nat.{_+_}
 use Rattle.root.proofs.Whole.{sum-range, placed-at}
 use Rattle.root.proofs.placed.Statement.{statement}
 use Rattle.root.proofs.placed.Tie as tie

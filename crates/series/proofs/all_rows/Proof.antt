@@ -3,15 +3,10 @@ use Rattle.series.specs.Rows.{tablesOf, Holds}
 use Rattle.series.specs.Sums.{evaluation, AllSums, allV, allR, allLat, allLon, power}
 use Rattle.series.proofs.Recur.{holds-at, room-less, field-less, has-less}
 use Rattle.series.proofs.Added.{sums-at}
-use Prim.Native.Nat.{ℕ, zero, suc, _+_, _-_, _*_, _≤_, _<_}
-use mathlib.Core.Path.{_≡_, refl, sym, ap, ap₂, _∙_, subst}
-use mathlib.Core.List.{List}
+use Prim.Native.Nat.{suc, _+_, _-_, _≤_}
+use mathlib.Core.Path.{_≡_, refl}
 use native.Mathlib.Omega.{arith}
-use native.Mathlib.Numerals.{add-one}
-use borrow.Author.Needs.{needs}
-use lib.ListN.{length, getD, set, length-set}
-use lib.Ieee.{Float, nan}
-use Rattle.series.proofs.Pres.{pre-none, pre-more, pre-as, has-none, has-more, has-one, has-first, has-as}
+use lib.ListN.{length}
 use Rattle.series.proofs.all_rows.Statement.{statement}
 use Rattle.series.proofs.all_rows.Tie as tie
 

@@ -1,15 +1,11 @@
 use borrow.Author.Needs.{needs}
-use Prim.Native.Nat.{ℕ, suc, _+_, _-_, _≤_, _<_}
-use mathlib.Core.Path.{_≡_, refl, sym, ap, _∙_}
-use mathlib.Core.List.{List, _++_}
+use Prim.Native.Nat.{ℕ, _+_, _-_, _≤_}
+use mathlib.Core.Path.{_≡_, refl}
 use native.Mathlib.Omega.{arith}
 use lib.ListN.{length, take}
 use lib.Ieee.{Float}
 use Rattle.laws.specs.Tables.{tri, rows, tri-next, tri-mono}
-use Rattle.series.specs.Legendre.{derivedRow}
-use Rattle.series.specs.Arrays.{from}
 use Rattle.series.specs.Tables.{derivedFrom}
-use Rattle.laws.specs.Tables.{row}
 use Rattle.series.proofs.Filling.{rows-none, rows-more, rows-full}
 use Rattle.series.proofs.derive_rows.Statement.{statement}
 use Rattle.series.proofs.derive_rows.Tie as tie

@@ -2,15 +2,13 @@ use Rattle.laws.specs.Floats.{_⊗_}
 use Rattle.series.specs.Legendre.{derivedRow}
 use Rattle.series.specs.Arrays.{from, at, Has}
 use Rattle.series.proofs.Rows.{der-none, der-first, der-mid, der-last}
-use Prim.Native.Nat.{ℕ, zero, suc, _+_, _-_, _*_, _≤_, _<_}
-use mathlib.Core.Path.{_≡_, refl, sym, ap, ap₂, _∙_, subst}
+use Prim.Native.Nat.{ℕ, _+_, _-_, _≤_}
+use mathlib.Core.Path.{_≡_, ap, _∙_}
 use mathlib.Core.List.{List}
 use native.Mathlib.Omega.{arith}
-use native.Mathlib.Numerals.{add-one}
-use borrow.Author.Needs.{needs}
-use lib.ListN.{length, getD, set, length-set}
+use lib.ListN.{getD}
 use lib.Ieee.{Float, nan}
-use Rattle.series.proofs.Pres.{pre-none, pre-more, pre-as, has-none, has-more, has-one, has-first, has-as}
+use Rattle.series.proofs.Pres.{has-more, has-one, has-first}
 use Rattle.series.proofs.derived_row.Statement.{statement}
 use Rattle.series.proofs.derived_row.Tie as tie
 

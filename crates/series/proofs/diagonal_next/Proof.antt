@@ -1,12 +1,6 @@
-use Prim.Native.Nat.{ℕ, zero, suc, _+_, _-_, _*_, _≤_, _<_}
-use mathlib.Core.Path.{_≡_, refl, sym, ap, ap₂, _∙_, subst}
-use mathlib.Core.List.{List}
-use native.Mathlib.Omega.{arith}
-use native.Mathlib.Numerals.{add-one}
+use Prim.Native.Nat.{_-_}
 use borrow.Author.Needs.{needs}
-use borrow.Author.Tests.{le-leb, lt-leb, eq-eqb, ne-eqb}
-use lib.ListN.{length, getD, set, length-set}
-use lib.Ieee.{Float, nan}
+use borrow.Author.Tests.{eq-eqb, ne-eqb}
 use Rattle.series.proofs.diagonal_next.Statement.{statement}
 use Rattle.series.proofs.diagonal_next.Tie as tie
 

@@ -1,9 +1,8 @@
 use borrow.Author.Needs.{needs}
-use Prim.Native.Nat.{ℕ, _+_, _-_, _≤_, _<_}
-use mathlib.Core.Path.{_≡_, refl, sym, ap, _∙_}
-use mathlib.Core.List.{_++_}
+use Prim.Native.Nat.{_+_, _-_, _≤_}
+use mathlib.Core.Path.{_≡_, refl}
 use native.Mathlib.Omega.{arith}
-use lib.ListN.{length, take, length-set}
+use lib.ListN.{length, take}
 use Rattle.laws.specs.Tables.{row}
 use Rattle.series.specs.Legendre.{diagonal}
 use Rattle.series.proofs.Filling.{diagonal-none, diagonal-turn, diagonal-more, diagonal-full}

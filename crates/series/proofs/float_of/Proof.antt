@@ -1,7 +1,6 @@
-use Prim.Native.Nat.{ℕ, _+_, _-_, _*_, _^_, _≤_, _<_}
-use mathlib.Core.Path.{_≡_, refl, sym, ap, _∙_}
+use Prim.Native.Nat.{_-_, _^_}
 use lib.Dec.{le→leb}
-use lib.Ieee.{inFloat, ofInt}
+use lib.Ieee.{inFloat}
 use Rattle.laws.specs.WholeNumbers.{number}
 use native.Mathlib.Omega.{arith}
 use borrow.Author.Needs.{needs}

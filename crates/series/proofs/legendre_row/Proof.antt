@@ -2,15 +2,12 @@ use Rattle.laws.specs.Floats.{_⊗_}
 use Rattle.series.specs.Rows.{nextRow}
 use Rattle.series.specs.Arrays.{at, Begins, Has}
 use Rattle.series.proofs.Rows.{next-mid, next-last}
-use Prim.Native.Nat.{ℕ, zero, suc, _+_, _-_, _*_, _≤_, _<_}
-use mathlib.Core.Path.{_≡_, refl, sym, ap, ap₂, _∙_, subst}
-use mathlib.Core.List.{List}
+use Prim.Native.Nat.{ℕ, _-_, _≤_}
+use mathlib.Core.Path.{_≡_, ap}
 use native.Mathlib.Omega.{arith}
-use native.Mathlib.Numerals.{add-one}
-use borrow.Author.Needs.{needs}
-use lib.ListN.{length, getD, set, length-set}
+use lib.ListN.{getD}
 use lib.Ieee.{Float, nan}
-use Rattle.series.proofs.Pres.{pre-none, pre-more, pre-as, has-none, has-more, has-one, has-first, has-as}
+use Rattle.series.proofs.Pres.{pre-none, pre-more, has-none, has-more}
 use Rattle.series.proofs.legendre_row.Statement.{statement}
 use Rattle.series.proofs.legendre_row.Tie as tie
 

@@ -1,8 +1,7 @@
 use borrow.Author.Needs.{needs}
-use Prim.Native.Nat.{ℕ, _+_, _-_, _≤_, _<_}
-use mathlib.Core.Path.{_≡_, refl, sym, ap, _∙_}
+use Prim.Native.Nat.{_+_, _-_, _≤_}
+use mathlib.Core.Path.{_≡_, refl}
 use native.Mathlib.Omega.{arith}
-use lib.ListN.{length, take}
 use Rattle.series.specs.Arrays.{from, Has}
 use Rattle.series.proofs.Pres.{has-none, has-more}
 use Rattle.series.proofs.load_row.Statement.{statement}

@@ -3,15 +3,9 @@ use Rattle.series.specs.Sums.{evaluation, Evaluation}
 use Rattle.series.specs.Arrays.{at}
 use Rattle.series.proofs.Recur.{p-is, d-is, row-sums-are, holds-next}
 use Rattle.series.proofs.Added.{all-more}
-use Prim.Native.Nat.{ℕ, zero, suc, _+_, _-_, _*_, _≤_, _<_}
-use mathlib.Core.Path.{_≡_, refl, sym, ap, ap₂, _∙_, subst}
-use mathlib.Core.List.{List}
+use Prim.Native.Nat.{_-_}
 use native.Mathlib.Omega.{arith}
-use native.Mathlib.Numerals.{add-one}
 use borrow.Author.Needs.{needs}
-use lib.ListN.{length, getD, set, length-set}
-use lib.Ieee.{Float, nan}
-use Rattle.series.proofs.Pres.{pre-none, pre-more, pre-as, has-none, has-more, has-one, has-first, has-as}
 use Rattle.series.proofs.one_row.Statement.{statement}
 use Rattle.series.proofs.one_row.Tie as tie
 

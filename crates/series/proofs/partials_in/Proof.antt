@@ -1,5 +1,4 @@
 use borrow.Author.Needs.{needs}
-use native.Mathlib.Omega.{arith}
 use Rattle.series.proofs.Filling.{heads-in}
 use Rattle.series.proofs.Kernel.{room-in, partials-are}
 use Rattle.series.proofs.partials_in.Statement.{statement}

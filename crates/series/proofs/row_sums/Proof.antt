@@ -4,15 +4,10 @@ use Rattle.laws.specs.Floats.{_⊕_, one64}
 use Rattle.laws.specs.WholeNumbers.{number}
 use Rattle.laws.specs.Sums.{sumTo}
 use Rattle.series.proofs.Added.{sums-more, number-first, number-next}
-use Prim.Native.Nat.{ℕ, zero, suc, _+_, _-_, _*_, _≤_, _<_}
-use mathlib.Core.Path.{_≡_, refl, sym, ap, ap₂, _∙_, subst}
-use mathlib.Core.List.{List}
+use Prim.Native.Nat.{_+_, _-_, _≤_}
+use mathlib.Core.Path.{_≡_, refl, ap, _∙_}
 use native.Mathlib.Omega.{arith}
-use native.Mathlib.Numerals.{add-one}
-use borrow.Author.Needs.{needs}
-use lib.ListN.{length, getD, set, length-set}
-use lib.Ieee.{Float, nan}
-use Rattle.series.proofs.Pres.{pre-none, pre-more, pre-as}
+use lib.Ieee.{Float}
 use Rattle.series.proofs.row_sums.Statement.{statement}
 use Rattle.series.proofs.row_sums.Tie as tie
 

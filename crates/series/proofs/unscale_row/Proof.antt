@@ -1,14 +1,10 @@
 use Rattle.series.specs.Legendre.{unscale}
 use Rattle.series.specs.Arrays.{Has}
-use Prim.Native.Nat.{ℕ, zero, suc, _+_, _-_, _*_, _≤_, _<_}
-use mathlib.Core.Path.{_≡_, refl, sym, ap, ap₂, _∙_, subst}
-use mathlib.Core.List.{List}
+use Prim.Native.Nat.{_+_, _-_, _≤_}
+use mathlib.Core.Path.{_≡_, refl}
 use native.Mathlib.Omega.{arith}
 use native.Mathlib.Numerals.{add-one}
-use borrow.Author.Needs.{needs}
-use lib.ListN.{length, getD, set, length-set}
-use lib.Ieee.{Float, nan}
-use Rattle.series.proofs.Pres.{pre-none, pre-more, pre-as, has-none, has-more, has-one, has-first, has-as}
+use Rattle.series.proofs.Pres.{has-none, has-more}
 use Rattle.series.proofs.unscale_row.Statement.{statement}
 use Rattle.series.proofs.unscale_row.Tie as tie
 

@@ -1,8 +1,8 @@
 use Rattle.hex.proofs.Printing.{bytes-starts, bytes-turn, bytes-done}
 use mathlib.Core.Path.{_≡_, refl}
 use mathlib.Core.List.{_++_}
-use Prim.Native.Nat.{_+_, _-_, _*_, _≤_}
-use lib.ListN.{length, take, drop}
+use Prim.Native.Nat.{_+_, _-_, _≤_}
+use lib.ListN.{length, take}
 use borrow.Author.Needs.{needs}
 use Rattle.sheet_program.proofs.put_bytes.Statement.{statement}
 use Rattle.sheet_program.proofs.put_bytes.Tie as tie

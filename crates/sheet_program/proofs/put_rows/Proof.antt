@@ -2,7 +2,7 @@ use Rattle.sheet_program.proofs.Laws.{rows-start, rows-turn, rows-done,
 use mathlib.Core.Path.{_≡_, refl}
 use mathlib.Core.List.{_++_}
 use Prim.Native.Nat.{_+_, _-_, _*_, _≤_}
-use lib.ListN.{length, take, drop}
+use lib.ListN.{length, take}
 use Rattle.sheet_program.specs.Text.{rowsText}
 use borrow.Author.Needs.{needs}
 use Rattle.sheet_program.proofs.put_rows.Statement.{statement}

@@ -1,7 +1,6 @@
 use mathlib.Core.Path.{_≡_, refl}
-use mathlib.Core.List.{_++_}
-use Prim.Native.Nat.{_+_, _-_, _*_, _≤_}
-use lib.ListN.{length, take, drop}
+use Prim.Native.Nat.{_-_}
+use lib.ListN.{length}
 use borrow.Author.Needs.{needs}
 use Rattle.sheet_program.proofs.read_all.Statement.{statement}
 use Rattle.sheet_program.proofs.read_all.Tie as tie

@@ -1,8 +1,7 @@
 use Rattle.sheet_program.proofs.Laws.{counts, set-fits}
 use mathlib.Core.Path.{_≡_, refl}
-use mathlib.Core.List.{_++_}
-use Prim.Native.Nat.{_+_, _-_, _*_, _≤_}
-use lib.ListN.{length, take, drop}
+use Prim.Native.Nat.{_-_, _≤_}
+use lib.ListN.{length}
 use borrow.Author.Needs.{needs}
 use Rattle.sheet_program.proofs.read_header.Statement.{statement}
 use Rattle.sheet_program.proofs.read_header.Tie as tie

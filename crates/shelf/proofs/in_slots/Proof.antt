@@ -1,4 +1,4 @@
-use Prim.Native.Nat.{ℕ, _+_, _*_, _-_, _≤_, _<_}
+use Prim.Native.Nat.{_-_, _≤_}
 use native.Mathlib.Omega.{arith}
 use Rattle.shelf.proofs.Looking.{Empty, empty-none, empty-next, slot-found, none-found}
 use borrow.Author.Needs.{needs}

@@ -1,5 +1,5 @@
-use mathlib.Core.Path.{_≡_, refl}
-use Prim.Native.Nat.{ℕ, _+_, _*_, _/_, _-_, _≤_, _<_}
+use mathlib.Core.Path.{refl}
+use Prim.Native.Nat.{_+_, _/_, _-_, _<_}
 use native.Mathlib.Omega.{arith}
 use Rattle.shelf.proofs.Looking.{Bracket, start, higher, lower, met, missed}
 use borrow.Author.Needs.{needs}

@@ -1,7 +1,6 @@
 use mathlib.Core.Path.{_≡_, sym, ap, _∙_}
 use mathlib.Core.Bool.{true}
 use Prim.Native.Nat.{ℕ}
-use native.Mathlib.Omega.{arith}
 use lib.Ieee.{Float}
 use mir.Syntax.{w64}
 use mir.Val.{toZ, ofZ}

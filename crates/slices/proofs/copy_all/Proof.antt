@@ -1,12 +1,8 @@
-use mathlib.Core.Path.{_≡_, refl, sym, ap, _∙_}
-use mathlib.Core.List.{List, [], _∷_, _++_, reverse}
-use mathlib.Core.Logic.{⊎-elim}
-use Prim.Native.Nat.{ℕ, suc, _+_, _-_, _*_, _<_, _≤_}
-use native.Mathlib.Omega.{arith}
+use mathlib.Core.Path.{_≡_, refl}
+use mathlib.Core.List.{_++_}
+use Prim.Native.Nat.{_+_, _-_}
 use borrow.Author.Needs.{needs}
-use lib.ListN.{length, take, drop, getD, set, replicate, length-set}
-use lib.Ieee.{Float, nan}
-use lib.ListN.{drop-of-length-le}
+use lib.ListN.{length, take, drop}
 use Rattle.laws.specs.Loops.{copy-turn, copy-done}
 use Rattle.slices.proofs.copy_all.Statement.{statement}
 use Rattle.slices.proofs.copy_all.Tie as tie

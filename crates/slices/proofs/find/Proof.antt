@@ -11,8 +11,7 @@ use mir.Val.{toZ, ofZ}
 use mir.ValLaws.{toZ-ofZ}
 use Rattle.slices.specs.Slices.{lookup}
 use Rattle.slices.proofs.Search.{Bracket, start, up, down, hit, over}
-use Prim.Native.Nat.{ℕ, _≤_, _<_, _-_}
-use lib.ListN.{length}
+use Prim.Native.Nat.{ℕ, _<_, _-_}
 use Rattle.slices.proofs.find.Statement.{statement}
 use Rattle.slices.proofs.find.Tie as tie
 

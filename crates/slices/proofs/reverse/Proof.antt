@@ -1,11 +1,9 @@
-use mathlib.Core.Path.{_≡_, refl, sym, ap, _∙_}
-use mathlib.Core.List.{List, [], _∷_, _++_, reverse}
-use mathlib.Core.Logic.{⊎-elim}
-use Prim.Native.Nat.{ℕ, suc, _+_, _-_, _*_, _<_, _≤_}
+use mathlib.Core.Path.{_≡_, refl}
+use mathlib.Core.List.{reverse}
+use Prim.Native.Nat.{_-_, _≤_}
 use native.Mathlib.Omega.{arith}
 use borrow.Author.Needs.{needs}
-use lib.ListN.{length, take, drop, getD, set, replicate, length-set}
-use lib.Ieee.{Float, nan}
+use lib.ListN.{length, length-set}
 use Rattle.slices.proofs.Laws.{halfway, halfway-start, reversing, reversed-now}
 use Rattle.slices.proofs.reverse.Statement.{statement}
 use Rattle.slices.proofs.reverse.Tie as tie

@@ -1,10 +1,8 @@
-use mathlib.Core.Path.{_≡_, refl, sym, ap, _∙_}
-use mathlib.Core.List.{List}
-use Prim.Native.Nat.{ℕ, suc, _+_, _-_, _<_, _≤_}
+use mathlib.Core.Path.{_≡_, refl}
+use Prim.Native.Nat.{_+_, _-_, _≤_}
 use native.Mathlib.Omega.{arith}
 use borrow.Author.Needs.{needs}
 use lib.ListN.{length, drop}
-use lib.Ieee.{Float}
 use Rattle.detrend.specs.Revolutions.{countBefore}
 use Rattle.detrend.proofs.Windows.{count-goes, count-stops, count-done}
 use Rattle.detrend.proofs.work.count_from.Statement.{statement}

@@ -1,11 +1,11 @@
-use mathlib.Core.Path.{_≡_, refl, sym, ap, _∙_}
-use Prim.Native.Nat.{ℕ, _+_, _-_, _*_, _<_, _≤_}
+use mathlib.Core.Path.{_≡_, refl}
+use Prim.Native.Nat.{_-_, _*_, _≤_}
 use native.Mathlib.Omega.{arith}
 use borrow.Author.Needs.{needs}
 use borrow.Rule.Slice.PartMut.{midOf, putMid}
 use lib.ListN.{length}
 use Rattle.detrend.specs.Fit.{rowsOf}
-use Rattle.detrend.proofs.Rows.{rows-none, rows-turn, rows-done, rows-length}
+use Rattle.detrend.proofs.Rows.{rows-none, rows-turn, rows-done}
 use Rattle.detrend.proofs.Lists.{put-length}
 use Rattle.detrend.proofs.work.fill_rows.Statement.{statement}
 use Rattle.detrend.proofs.work.fill_rows.Tie as tie

@@ -1,9 +1,9 @@
-use mathlib.Core.Path.{_≡_, refl, sym, ap, _∙_}
-use mathlib.Core.List.{List, _++_}
-use Prim.Native.Nat.{ℕ, _+_, _-_, _*_, _<_, _≤_}
+use mathlib.Core.Path.{_≡_, refl}
+use mathlib.Core.List.{_++_}
+use Prim.Native.Nat.{_+_, _-_, _<_, _≤_}
 use native.Mathlib.Omega.{arith}
 use borrow.Author.Needs.{needs}
-use borrow.Rule.Slice.PartMut.{midOf, putMid}
+use borrow.Rule.Slice.PartMut.{midOf}
 use lib.Ieee.{nan}
 use lib.ListN.{length, take, drop, getD}
 use Rattle.detrend.specs.Revolutions.{windowsOf, removedOf}

@@ -1,11 +1,10 @@
-use mathlib.Core.Path.{_≡_, refl, sym, ap, _∙_}
-use Prim.Native.Nat.{ℕ, _+_, _-_, _*_, _<_, _≤_}
+use mathlib.Core.Path.{_≡_, refl}
+use Prim.Native.Nat.{_-_, _*_, _≤_}
 use native.Mathlib.Omega.{arith}
 use borrow.Author.Needs.{needs}
 use borrow.Rule.Slice.PartMut.{midOf, putMid}
-use lib.ListN.{length, take, length-set}
+use lib.ListN.{length, take}
 use Rattle.detrend.specs.Work.{lessRows}
-use Rattle.detrend.proofs.Lists.{length-mid}
 use Rattle.detrend.proofs.Parts.{less-none, less-turn, less-done}
 use Rattle.detrend.proofs.work.subtract_fit.Statement.{statement}
 use Rattle.detrend.proofs.work.subtract_fit.Tie as tie

@@ -1,5 +1,3 @@
-use mathlib.Core.Path.{_≡_, refl, sym, ap, _∙_}
-use native.Mathlib.Omega.{arith}
 use borrow.Author.Needs.{needs}
 use Rattle.detrend.proofs.Windows.{window-long, window-short}
 use Rattle.detrend.proofs.work.window.Statement.{statement}

@@ -3,7 +3,7 @@ use mathlib.Core.List.{List}
 use Prim.Native.Nat.{suc, _+_, _-_, _<_, _≤_}
 use native.Mathlib.Omega.{arith}
 use borrow.Author.Needs.{needs}
-use lib.ListN.{length, take, drop, getD}
+use lib.ListN.{length, drop, getD}
 use lib.Ieee.{Float}
 use Rattle.filter.proofs.Laws.{run-goes, run-ends, run-stops}
 use Rattle.laws.specs.Runs.{runsOf, splits}

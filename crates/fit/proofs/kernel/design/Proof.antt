@@ -1,8 +1,8 @@
 use Rattle.fit.proofs.Columns.{designed-none, designed-more}
 use Rattle.fit.specs.Fit.{movedOf}
 use Rattle.fit.specs.Contracts.{Designed}
-use Rattle.integrate.specs.Force.{model, runOf, attractionOf, fullForce}
-use Rattle.integrate.specs.declared.kernel.Force.the-variants.{Full, J2}
+use Rattle.integrate.specs.Force.{model, runOf, attractionOf}
+use Rattle.integrate.specs.declared.kernel.Force.the-variants.{J2}
 use native.Mathlib.Omega.{arith}
 use Prim.Native.Nat.{ℕ, _*_, _-_, _≤_}
 use mathlib.Core.Path.{_≡_}

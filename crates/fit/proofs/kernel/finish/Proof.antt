@@ -1,5 +1,5 @@
 use Rattle.fit.proofs.Whole.{finished}
-use Rattle.integrate.specs.Force.{model, runOf, attractionOf, fullForce}
+use Rattle.integrate.specs.Force.{model}
 use native.Mathlib.Omega.{arith}
 use Prim.Native.Nat.{_+_, _*_, _-_}
 use borrow.Author.Needs.{needs}

@@ -1,5 +1,5 @@
 use Rattle.fit.proofs.Whole.{first-bad, second-bad, both-good}
-use Rattle.integrate.specs.Force.{model, runOf, attractionOf, fullForce}
+use Rattle.integrate.specs.Force.{model, fullForce}
 use native.Mathlib.Omega.{arith}
 use borrow.Author.Tests.{not-true, not-false}
 use borrow.Author.Needs.{needs}

@@ -1,7 +1,7 @@
 use Rattle.fit.proofs.Whole.{first-uncovered, last-uncovered, few, no-start, started}
 use Rattle.fit.specs.Fit.{stateFor}
 use Rattle.finality.specs.Brackets.{covers}
-use Rattle.integrate.specs.Force.{model, runOf, attractionOf, fullForce}
+use Rattle.integrate.specs.Force.{model, fullForce}
 use native.Mathlib.Omega.{arith}
 use borrow.Author.Tests.{not-true, not-false}
 use mathlib.Core.Path.{sym, _∙_}

@@ -1,5 +1,5 @@
 use Rattle.fit.proofs.Flights.{flew}
-use Rattle.integrate.specs.Force.{model, runOf, attractionOf, fullForce}
+use Rattle.integrate.specs.Force.{model, runOf, attractionOf}
 use borrow.Author.Needs.{needs}
 use Rattle.fit.proofs.kernel.fly.Statement.{statement}
 use Rattle.fit.proofs.kernel.fly.Tie as tie

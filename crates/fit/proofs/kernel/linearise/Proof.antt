@@ -1,6 +1,6 @@
 use Rattle.fit.proofs.Columns.{linearised}
 use Rattle.fit.specs.Fit.{movedOf}
-use Rattle.integrate.specs.Force.{model, runOf, attractionOf, fullForce}
+use Rattle.integrate.specs.Force.{model, runOf, attractionOf}
 use Rattle.integrate.specs.declared.kernel.Force.the-variants.{Full, J2}
 use native.Mathlib.Omega.{arith}
 use Prim.Native.Nat.{ℕ, _*_}

@@ -1,8 +1,8 @@
 use Rattle.fit.proofs.Notes.{noted-known, noted-missing}
 use Rattle.fit.specs.Fit.{stateFor}
 use native.Mathlib.Omega.{arith}
-use Prim.Native.Nat.{ℕ, suc, _+_, _*_, _-_, _≤_, _<_}
-use mathlib.Core.Path.{_≡_, refl, sym, ap, _∙_}
+use Prim.Native.Nat.{_*_, _-_}
+use mathlib.Core.Path.{sym, ap, _∙_}
 use borrow.Author.Needs.{needs}
 use Rattle.fit.proofs.kernel.note.Statement.{statement}
 use Rattle.fit.proofs.kernel.note.Tie as tie

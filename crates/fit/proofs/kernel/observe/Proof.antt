@@ -1,8 +1,7 @@
 use Rattle.fit.proofs.Notes.{Sofar, sofar-none, sofar-more, observing}
 use Rattle.fit.specs.Fit.{stateFor}
 use native.Mathlib.Omega.{arith}
-use Prim.Native.Nat.{ℕ, suc, _+_, _*_, _-_, _/_, _≤_, _<_}
-use mathlib.Core.Path.{_≡_, refl, sym, ap, _∙_}
+use Prim.Native.Nat.{_+_, _-_, _/_, _≤_}
 use borrow.Author.Needs.{needs}
 use Rattle.fit.proofs.kernel.observe.Statement.{statement}
 use Rattle.fit.proofs.kernel.observe.Tie as tie

@@ -1,7 +1,7 @@
 use Rattle.fit.proofs.Columns.{differentiated}
 use Rattle.fit.specs.Fit.{movedOf}
-use Rattle.integrate.specs.Force.{model, runOf, attractionOf, fullForce}
-use Rattle.integrate.specs.declared.kernel.Force.the-variants.{Full, J2}
+use Rattle.integrate.specs.Force.{model, runOf, attractionOf}
+use Rattle.integrate.specs.declared.kernel.Force.the-variants.{J2}
 use native.Mathlib.Omega.{arith}
 use Prim.Native.Nat.{_*_}
 use borrow.Author.Needs.{needs}

@@ -1,7 +1,7 @@
 use Rattle.fit.proofs.Notes.{stored}
 use lib.ListN.{length-set}
 use native.Mathlib.Omega.{arith}
-use mathlib.Core.Path.{_≡_, refl, sym, ap, _∙_}
+use mathlib.Core.Path.{_∙_}
 use borrow.Author.Needs.{needs}
 use Rattle.laws.specs.WholeNumbers.{number}
 use Rattle.fit.proofs.kernel.put_observed.Statement.{statement}

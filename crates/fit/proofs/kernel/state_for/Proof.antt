@@ -1,6 +1,6 @@
 use mathlib.Core.Path.{_≡_, sym, ap, _∙_}
 use native.Mathlib.Omega.{arith}
-use Rattle.slices.specs.declared.Found.the-variants.{At, Nothing}
+use Rattle.slices.specs.declared.Found.the-variants.{At}
 use Rattle.slices.specs.Slices.{lookup}
 use Rattle.numbers.specs.Seconds.{wholeSecond}
 use Rattle.fit.specs.declared.kernel.Held.the-variants.{Known}

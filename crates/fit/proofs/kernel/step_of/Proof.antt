@@ -7,7 +7,6 @@ use native.Mathlib.Omega.{arith}
 use Prim.Native.Nat.{ℕ, _≤_, _<_}
 use mathlib.Core.Bool.{true, false}
 use mathlib.Core.Path.{_≡_, sym, subst, _∙_}
-use borrow.Author.Needs.{needs}
 use Rattle.fit.proofs.kernel.step_of.Statement.{statement}
 use Rattle.fit.proofs.kernel.step_of.Tie as tie
 

@@ -1,10 +1,10 @@
 use Rattle.fit.specs.Fit.{updatedOf, scaleOf}
 use Rattle.least_squares.proofs.Laws.{row-more, row-whole}
-use lib.ListN.{length, take, getD, set, length-set}
+use lib.ListN.{length, take, getD, length-set}
 use lib.Ieee.{Float, nan}
 use native.Mathlib.Omega.{arith}
-use Prim.Native.Nat.{ℕ, suc, _+_, _*_, _-_, _≤_, _<_}
-use mathlib.Core.Path.{_≡_, refl, sym, ap, _∙_}
+use Prim.Native.Nat.{ℕ, _-_, _≤_}
+use mathlib.Core.Path.{_≡_, refl, ap}
 use borrow.Author.Needs.{needs}
 use Rattle.laws.specs.Floats.{_⊕_, _⊗_}
 use Rattle.laws.specs.Tables.{row}

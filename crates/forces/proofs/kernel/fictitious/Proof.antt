@@ -1,7 +1,7 @@
 use Rattle.laws.specs.WholeNumbers.{number}
 use lib.Ieee.{ofBits, ofInt, round, neg}
 use Rattle.forces.specs.Forces.{fictitiousOf}
-use mathlib.Core.Path.{_≡_, refl, sym, ap, _∙_}
+use mathlib.Core.Path.{refl}
 use Rattle.forces.proofs.kernel.fictitious.Statement.{statement}
 use Rattle.forces.proofs.kernel.fictitious.Tie as tie
 

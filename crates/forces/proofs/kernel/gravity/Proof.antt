@@ -1,7 +1,6 @@
 use Rattle.numbers.specs.Numbers.{sineCosine}
 use Rattle.tide.specs.Gravity.{gradient}
 use Rattle.forces.specs.Forces.{gravityWith}
-use mathlib.Core.Path.{_≡_, refl, sym, ap, _∙_}
 use borrow.Author.Needs.{needs}
 use Rattle.forces.proofs.kernel.gravity.Statement.{statement}
 use Rattle.forces.proofs.kernel.gravity.Tie as tie

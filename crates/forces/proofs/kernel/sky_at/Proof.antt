@@ -1,5 +1,4 @@
 use Rattle.forces.specs.Forces.{momentOf}
-use mathlib.Core.Path.{_≡_, refl, sym, ap, _∙_}
 use borrow.Author.Needs.{needs}
 use Rattle.forces.proofs.kernel.sky_at.Statement.{statement}
 use Rattle.forces.proofs.kernel.sky_at.Tie as tie

@@ -1,8 +1,7 @@
-use mathlib.Core.Path.{_≡_, refl}
+use mathlib.Core.Path.{_≡_}
 use Prim.Native.Nat.{_+_, _-_, _<_, _≤_}
 use native.Mathlib.Omega.{arith}
 use lib.ListN.{length, drop}
-use lib.Ieee.{Float, nan}
 use Rattle.finality.specs.Sheet.{count as countOf}
 use Rattle.horizon.specs.Horizon.{endAt}
 use Rattle.horizon.proofs.Laws.{count-none, count-turn, count-small, count-all}

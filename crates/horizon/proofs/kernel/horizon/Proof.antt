@@ -1,8 +1,6 @@
-use mathlib.Core.Path.{_≡_, refl}
-use Prim.Native.Nat.{_+_, _-_, _<_, _≤_}
-use native.Mathlib.Omega.{arith}
+use mathlib.Core.Path.{_≡_}
+use Prim.Native.Nat.{_-_, _≤_}
 use lib.ListN.{length, drop}
-use lib.Ieee.{Float, nan}
 use mathlib.Core.Option.{none}
 use Rattle.finality.specs.Sheet.{largest, reachedBy}
 use Rattle.horizon.specs.Horizon.{endsOf}

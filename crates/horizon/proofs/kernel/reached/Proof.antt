@@ -1,4 +1,3 @@
-use Rattle.horizon.proofs.Laws.{six}
 use borrow.Author.Needs.{needs}
 use Rattle.horizon.proofs.kernel.reached.Statement.{statement}
 use Rattle.horizon.proofs.kernel.reached.Tie as tie

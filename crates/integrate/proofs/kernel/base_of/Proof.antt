@@ -1,4 +1,4 @@
-use Rattle.laws.specs.Tables.{tri, tri-small, square-small}
+use Rattle.laws.specs.Tables.{tri, square-small}
 use mathlib.Core.Path.{refl}
 use native.Mathlib.Omega.{arith}
 use Prim.Native.Nat.{_+_}

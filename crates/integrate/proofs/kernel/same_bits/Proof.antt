@@ -1,10 +1,9 @@
-use mathlib.Core.Path.{_≡_, sym, subst}
+use mathlib.Core.Path.{sym, subst}
 use mathlib.Core.Bool.{false≢true}
 use lib.Dec.{T}
 use borrow.Author.Tests.{eqb-true}
 use Rattle.laws.specs.SameBits.{value-of-bits}
 use Rattle.integrate.proofs.Front.{eq-no-nan}
-use borrow.Author.Needs.{needs}
 use Rattle.integrate.proofs.kernel.same_bits.Statement.{statement}
 use Rattle.integrate.proofs.kernel.same_bits.Tie as tie
 

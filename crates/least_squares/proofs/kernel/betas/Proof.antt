@@ -1,8 +1,8 @@
 use Rattle.least_squares.proofs.Laws.{row-more, row-whole}
-use lib.ListN.{length, take, set, length-set}
+use lib.ListN.{length, take, length-set}
 use native.Mathlib.Omega.{arith}
-use Prim.Native.Nat.{ℕ, suc, _+_, _*_, _-_, _≤_, _<_}
-use mathlib.Core.Path.{_≡_, refl, sym, ap, _∙_}
+use Prim.Native.Nat.{_-_, _≤_}
+use mathlib.Core.Path.{_≡_, refl}
 use borrow.Author.Needs.{needs}
 use Rattle.laws.specs.Tables.{row}
 use Rattle.least_squares.specs.Flat.{view}

@@ -1,8 +1,5 @@
-use mathlib.Core.Path.{_≡_, refl, sym, ap, _∙_}
-use lib.ListN.{length}
 use borrow.Author.Needs.{needs}
 use Rattle.least_squares.proofs.Shapes.{shape-rows, shape-few, shape-places, shaped, unshaped, shaped-is, unshaped-is}
-use Rattle.least_squares.specs.Kernel.{coefficientsOf, solvableFor}
 use Rattle.least_squares.proofs.kernel.coefficients.Statement.{statement}
 use Rattle.least_squares.proofs.kernel.coefficients.Tie as tie
 

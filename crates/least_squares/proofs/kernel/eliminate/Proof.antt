@@ -1,13 +1,8 @@
-use mathlib.Core.Path.{_≡_, refl, sym, ap, _∙_}
+use mathlib.Core.Path.{_≡_, _∙_}
 use mathlib.Core.Logic.{⊎-elim}
-use Prim.Native.Nat.{ℕ, suc, _+_, _*_, _-_, _≤_, _<_}
-use native.Mathlib.Numerals.{add-one}
+use Prim.Native.Nat.{_+_, _-_, _≤_}
 use native.Mathlib.Omega.{arith}
-use lib.ListN.{length, getD}
-use lib.Ieee.{Float, nan}
-use borrow.Author.Needs.{needs}
 use Rattle.least_squares.proofs.Laws.{Holds, as-it-is, whole, flat-holds, holds-same, eliminated-none, eliminated-skip, eliminated-more}
-use Rattle.least_squares.proofs.Laws.{filled}
 use Rattle.least_squares.specs.Flat.{eliminatedTo, reducedTo, view}
 use Rattle.least_squares.proofs.kernel.eliminate.Statement.{statement}
 use Rattle.least_squares.proofs.kernel.eliminate.Tie as tie

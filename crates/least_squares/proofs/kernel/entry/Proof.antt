@@ -1,9 +1,7 @@
-use mathlib.Core.Path.{_≡_, refl, sym, ap, _∙_}
-use Prim.Native.Nat.{ℕ, suc, _+_, _*_, _-_, _≤_, _<_}
-use native.Mathlib.Numerals.{add-one}
+use mathlib.Core.Path.{_≡_, refl}
+use Prim.Native.Nat.{ℕ, _-_, _≤_}
 use native.Mathlib.Omega.{arith}
-use lib.ListN.{length, getD}
-use lib.Ieee.{Float, nan}
+use lib.ListN.{length}
 use borrow.Author.Needs.{needs}
 use Rattle.laws.specs.Floats.{_⊗_}
 use Rattle.laws.specs.Sums.{sum-more, sumTo}

@@ -2,7 +2,7 @@ use Rattle.least_squares.proofs.FifteenColumns.{refused, unsolved, shap
 use Rattle.least_squares.proofs.Laws.{length-equations}
 use lib.ListN.{length}
 use native.Mathlib.Omega.{arith}
-use mathlib.Core.Path.{_≡_, refl, sym, ap, _∙_}
+use mathlib.Core.Path.{refl, sym, ap, _∙_}
 use borrow.Author.Needs.{needs}
 use Rattle.least_squares.proofs.kernel.fifteen.Statement.{statement}
 use Rattle.least_squares.proofs.kernel.fifteen.Tie as tie

@@ -1,12 +1,8 @@
-use mathlib.Core.Path.{_≡_, refl, sym, ap, _∙_}
-use mathlib.Core.Logic.{⊎-elim}
-use Prim.Native.Nat.{ℕ, suc, _+_, _*_, _-_, _≤_, _<_}
-use native.Mathlib.Numerals.{add-one}
+use mathlib.Core.Path.{_≡_, refl, ap, _∙_}
+use Prim.Native.Nat.{_+_, _-_, _≤_}
 use native.Mathlib.Omega.{arith}
-use lib.ListN.{length, getD}
-use lib.Ieee.{Float, nan}
-use borrow.Author.Needs.{needs}
-use Rattle.least_squares.proofs.Laws.{Holds, as-it-is, whole, holds-same, store, filled-none, filled-at, filled-more, filled-row}
+use lib.ListN.{length}
+use Rattle.least_squares.proofs.Laws.{Holds, as-it-is, holds-same, store, filled-none, filled-at, filled-more, filled-row}
 use Rattle.least_squares.proofs.Laws.{filled, filled-all}
 use Rattle.least_squares.specs.Elimination.{Matrix}
 use Rattle.least_squares.specs.Flat.{view}

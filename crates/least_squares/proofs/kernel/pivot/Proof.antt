@@ -1,13 +1,9 @@
 use mathlib.Core.Logic.{⊎-elim}
 use Rattle.least_squares.proofs.Laws.{largest-none, largest-more}
-use mathlib.Core.Path.{_≡_, refl, sym, ap, _∙_}
-use Prim.Native.Nat.{ℕ, suc, _+_, _*_, _-_, _≤_, _<_}
-use native.Mathlib.Numerals.{add-one}
+use mathlib.Core.Path.{_≡_, sym, ap, _∙_}
+use Prim.Native.Nat.{ℕ, _+_, _-_, _≤_, _<_}
 use native.Mathlib.Omega.{arith}
-use lib.ListN.{length, getD}
-use lib.Ieee.{Float, nan}
 use borrow.Author.Needs.{needs}
-use Rattle.least_squares.proofs.Laws.{Holds, as-it-is, store, whole, ltb-step}
 use Rattle.least_squares.specs.Elimination.{largest, reaches}
 use Rattle.least_squares.specs.Flat.{view}
 use Rattle.numbers.specs.Numbers.{magnitude}

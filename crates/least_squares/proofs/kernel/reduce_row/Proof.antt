@@ -1,12 +1,8 @@
-use Rattle.least_squares.proofs.Laws.{holds-same, reduced-none, reduced-more, reduced-at, reduced-row, reduced-col}
-use mathlib.Core.Path.{_≡_, refl, sym, ap, _∙_}
-use Prim.Native.Nat.{ℕ, suc, _+_, _*_, _-_, _≤_, _<_}
-use native.Mathlib.Numerals.{add-one}
+use Rattle.least_squares.proofs.Laws.{holds-same, reduced-none, reduced-more, reduced-at, reduced-col}
+use mathlib.Core.Path.{_≡_, refl, _∙_}
+use Prim.Native.Nat.{_+_, _-_, _≤_}
 use native.Mathlib.Omega.{arith}
-use lib.ListN.{length, getD}
-use lib.Ieee.{Float, nan}
-use borrow.Author.Needs.{needs}
-use Rattle.least_squares.proofs.Laws.{Holds, as-it-is, store, whole, ltb-step}
+use Rattle.least_squares.proofs.Laws.{Holds, as-it-is, store, whole}
 use Rattle.least_squares.specs.Flat.{reducedTo, view}
 use Rattle.least_squares.proofs.kernel.reduce_row.Statement.{statement}
 use Rattle.least_squares.proofs.kernel.reduce_row.Tie as tie

@@ -1,9 +1,7 @@
-use mathlib.Core.Path.{_≡_, refl, sym, ap, _∙_}
 use native.Mathlib.Omega.{arith}
 use native.Mathlib.Nat.{mul-le-mul, le-refl}
 use lib.ListN.{length}
 use borrow.Author.Tests.{lt-ltb, le-ltb, eq-eqb, ne-eqb}
-use borrow.Author.Needs.{needs}
 use Rattle.least_squares.specs.Kernel.{shapeFits}
 use Rattle.least_squares.proofs.kernel.shape.Statement.{statement}
 use Rattle.least_squares.proofs.kernel.shape.Tie as tie

@@ -1,7 +1,7 @@
-use mathlib.Core.Path.{_≡_, refl, sym, ap, _∙_}
-use Prim.Native.Nat.{ℕ, suc, _+_, _*_, _-_, _≤_, _<_}
+use mathlib.Core.Path.{_≡_, refl}
+use Prim.Native.Nat.{_-_, _≤_}
 use native.Mathlib.Omega.{arith}
-use lib.ListN.{length, take, set, length-set}
+use lib.ListN.{length, take, length-set}
 use borrow.Author.Needs.{needs}
 use Rattle.least_squares.proofs.Laws.{row-more, row-whole}
 use Rattle.laws.specs.Tables.{row}

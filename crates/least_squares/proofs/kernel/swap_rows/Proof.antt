@@ -1,12 +1,8 @@
-use Rattle.least_squares.proofs.Laws.{holds-same, put, store-put, swapped-none, swapped-col, swapped-more}
-use mathlib.Core.Path.{_≡_, refl, sym, ap, _∙_}
-use Prim.Native.Nat.{ℕ, suc, _+_, _*_, _-_, _≤_, _<_}
-use native.Mathlib.Numerals.{add-one}
+use Rattle.least_squares.proofs.Laws.{holds-same, store-put, swapped-none, swapped-col, swapped-more}
+use mathlib.Core.Path.{_≡_, refl, _∙_}
+use Prim.Native.Nat.{_+_, _-_, _≤_}
 use native.Mathlib.Omega.{arith}
-use lib.ListN.{length, getD}
-use lib.Ieee.{Float, nan}
-use borrow.Author.Needs.{needs}
-use Rattle.least_squares.proofs.Laws.{Holds, as-it-is, store, whole, ltb-step}
+use Rattle.least_squares.proofs.Laws.{Holds, as-it-is, whole}
 use Rattle.least_squares.specs.Flat.{swappedTo, view}
 use Rattle.least_squares.proofs.kernel.swap_rows.Statement.{statement}
 use Rattle.least_squares.proofs.kernel.swap_rows.Tie as tie

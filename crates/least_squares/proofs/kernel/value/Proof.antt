@@ -1,8 +1,6 @@
 use native.Mathlib.Omega.{arith}
-use borrow.Author.Needs.{scaled-fits}
 use borrow.Author.Tests.{lt-ltb, le-ltb}
 use lib.ListN.{length}
-use mathlib.Core.Path.{subst, sym}
 use Rattle.least_squares.proofs.Laws.{row-in}
 use borrow.Author.Needs.{needs}
 use Rattle.least_squares.specs.LeastSquares.{valueAt}

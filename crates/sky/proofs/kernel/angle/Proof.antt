@@ -1,4 +1,4 @@
-use mathlib.Core.Path.{_≡_, refl, sym, ap, _∙_}
+use mathlib.Core.Path.{refl}
 use Rattle.sky.specs.Sky.{angle}
 use borrow.Author.Needs.{needs}
 use Rattle.sky.proofs.kernel.angle.Statement.{statement}

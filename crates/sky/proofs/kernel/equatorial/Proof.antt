@@ -1,7 +1,6 @@
 use Rattle.laws.specs.WholeNumbers.{number}
 use Rattle.numbers.specs.Numbers.{sineCosine}
-use lib.Ieee.{ofBits, ofInt, round, neg}
-use mathlib.Core.Path.{_≡_, refl, sym, ap, _∙_}
+use lib.Ieee.{ofBits, ofInt, round}
 use Rattle.sky.specs.Sky.{equatorial}
 use borrow.Author.Needs.{needs}
 use Rattle.sky.proofs.kernel.equatorial.Statement.{statement}

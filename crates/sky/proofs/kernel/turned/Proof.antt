@@ -1,4 +1,4 @@
-use mathlib.Core.Path.{_≡_, refl, sym, ap, _∙_}
+use mathlib.Core.Path.{refl}
 use Rattle.sky.specs.Sky.{turned}
 use Rattle.sky.proofs.kernel.turned.Statement.{statement}
 use Rattle.sky.proofs.kernel.turned.Tie as tie

@@ -1,7 +1,6 @@
 use Rattle.laws.specs.WholeNumbers.{number}
-use lib.Ieee.{ofBits, ofInt, round, neg}
+use lib.Ieee.{ofBits, ofInt, round}
 use Rattle.tide.proofs.Series.{summed, summed-published}
-use mathlib.Core.Path.{_≡_, refl, sym, ap, _∙_}
 use borrow.Author.Needs.{needs}
 use Rattle.tide.proofs.degree3.gravity.Statement.{statement}
 use Rattle.tide.proofs.degree3.gravity.Tie as tie

@@ -1,6 +1,6 @@
 use Rattle.laws.specs.Tables.{tri, row, rows}
 use Rattle.tide.specs.Tide.{bothRaise}
-use mathlib.Core.Path.{_≡_, refl, sym, ap, _∙_}
+use mathlib.Core.Path.{refl}
 use borrow.Author.Needs.{needs}
 use Rattle.tide.proofs.kernel.both.Statement.{statement}
 use Rattle.tide.proofs.kernel.both.Tie as tie

@@ -1,7 +1,6 @@
-use lib.Ieee.{ofBits, ofInt, round, neg}
+use lib.Ieee.{ofBits, round, neg}
 use Rattle.tide.proofs.Factors.{lower-1-1, lower-2-1, lower-2-2, lower-3-1, lower-3-2, lower-3-3, upper-1-0, upper-2-0, upper-2-1, upper-3-0, upper-3-1, upper-3-2}
 use Rattle.laws.specs.Tables.{tri, row, rows}
-use mathlib.Core.Path.{_≡_, refl, sym, ap, _∙_}
 use borrow.Author.Needs.{needs}
 use Rattle.tide.proofs.kernel.derived.Statement.{statement}
 use Rattle.tide.proofs.kernel.derived.Tie as tie

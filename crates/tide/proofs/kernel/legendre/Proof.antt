@@ -1,8 +1,7 @@
 use Rattle.laws.specs.Tables.{row, rows}
-use lib.Ieee.{ofBits, ofInt, round, neg}
+use lib.Ieee.{ofBits, round}
 use Rattle.tide.proofs.Factors.{a-1-0, a-2-0, a-2-1, a-3-0, a-3-1, a-3-2, b-1-0, b-2-0, b-2-1, b-3-0, b-3-1, b-3-2, diag-0, diag-1, diag-2, diag-3}
 use Rattle.series.specs.Legendre.{column, unscale}
-use mathlib.Core.Path.{_≡_, refl, sym, ap, _∙_}
 use borrow.Author.Needs.{needs}
 use Rattle.tide.proofs.kernel.legendre.Statement.{statement}
 use Rattle.tide.proofs.kernel.legendre.Tie as tie

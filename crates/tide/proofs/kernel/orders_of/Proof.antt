@@ -1,8 +1,7 @@
 use Rattle.laws.specs.WholeNumbers.{number}
 use Rattle.numbers.specs.Numbers.{sineCosine}
-use lib.Ieee.{ofBits, ofInt, round, neg}
+use lib.Ieee.{ofBits, ofInt}
 use Rattle.tide.specs.Tide.{ordersOf}
-use mathlib.Core.Path.{_≡_, refl, sym, ap, _∙_}
 use borrow.Author.Needs.{needs}
 use Rattle.tide.proofs.kernel.orders_of.Statement.{statement}
 use Rattle.tide.proofs.kernel.orders_of.Tie as tie

@@ -1,5 +1,4 @@
 use Rattle.tide.specs.Tide.{placeOf}
-use mathlib.Core.Path.{_≡_, refl, sym, ap, _∙_}
 use borrow.Author.Needs.{needs}
 use Rattle.tide.proofs.kernel.place_of.Statement.{statement}
 use Rattle.tide.proofs.kernel.place_of.Tie as tie

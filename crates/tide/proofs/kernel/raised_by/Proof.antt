@@ -1,9 +1,8 @@
 use Rattle.laws.specs.WholeNumbers.{number}
 use Rattle.numbers.specs.Numbers.{sineCosine}
-use lib.Ieee.{ofBits, ofInt, round, neg}
+use lib.Ieee.{ofBits, ofInt, round}
 use Rattle.laws.specs.Tables.{tri, row, rows}
 use Rattle.tide.specs.Tide.{raisedBy, weight, ratio, loveNumbers}
-use mathlib.Core.Path.{_≡_, refl, sym, ap, _∙_}
 use borrow.Author.Needs.{needs}
 use Rattle.tide.proofs.kernel.raised_by.Statement.{statement}
 use Rattle.tide.proofs.kernel.raised_by.Tie as tie

@@ -1,7 +1,6 @@
 use Rattle.laws.specs.WholeNumbers.{number}
-use lib.Ieee.{ofBits, ofInt, round, neg}
+use lib.Ieee.{ofBits, ofInt}
 use Rattle.tide.specs.Tide.{solidTide}
-use mathlib.Core.Path.{_≡_, refl, sym, ap, _∙_}
 use borrow.Author.Needs.{needs}
 use Rattle.tide.proofs.kernel.solid_tide.Statement.{statement}
 use Rattle.tide.proofs.kernel.solid_tide.Tie as tie

@@ -1,12 +1,11 @@
 use Rattle.windows.proofs.Shelves.{entered}
-use Rattle.laws.specs.Times.{secondTime}
 use Rattle.numbers.specs.Seconds.{wholeSecond}
 use Rattle.integrate.specs.Work.{Stored}
 use lib.Ieee.{Float}
 use lib.ListN.{length-set, set}
 use Prim.Native.Nat.{_+_}
 use native.Mathlib.Omega.{arith}
-use mathlib.Core.Path.{_≡_, refl, sym, ap, _∙_, subst}
+use mathlib.Core.Path.{_∙_, subst}
 use borrow.Author.Needs.{needs}
 use Rattle.windows.proofs.kernel.enter.Statement.{statement}
 use Rattle.windows.proofs.kernel.enter.Tie as tie

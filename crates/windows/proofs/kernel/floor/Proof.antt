@@ -1,10 +1,9 @@
-use mathlib.Core.Path.{_≡_, refl, sym, ap, _∙_, subst}
-use mathlib.Core.Bool.{Bool, true, false, not}
-use Prim.Native.Nat.{ℕ, _+_, _≤_}
-use native.Mathlib.Omega.{arith}
+use mathlib.Core.Path.{_≡_, sym, ap, _∙_, subst}
+use mathlib.Core.Bool.{Bool, not}
+use Prim.Native.Nat.{ℕ}
 use lib.Dec.{T}
 use lib.IntN.{pos}
-use lib.Ieee.{Float, binary64, ofInt, neg, toUnsigned, lt, eq}
+use lib.Ieee.{binary64, ofInt, neg}
 use Rattle.laws.specs.WholeNumbers.{number, ceil}
 use Rattle.windows.proofs.Wholes.{above-cut, below-cut, not-below, under-highest, over-zero, floor-zero, floor-below, floor-above}
 use borrow.Author.Needs.{needs}

@@ -1,7 +1,6 @@
 use Rattle.windows.proofs.Shelves.{keeping-at, keeping-out}
 use Rattle.windows.specs.Slots.{within}
-use native.Mathlib.Omega.{arith}
-use mathlib.Core.Path.{_≡_, refl, sym, ap, _∙_}
+use mathlib.Core.Path.{sym, ap, _∙_}
 use borrow.Author.Needs.{needs}
 use Rattle.windows.proofs.kernel.keep_step.Statement.{statement}
 use Rattle.windows.proofs.kernel.keep_step.Tie as tie

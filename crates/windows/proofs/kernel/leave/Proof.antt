@@ -1,15 +1,9 @@
-use mathlib.Core.Path.{_≡_, refl, sym, ap, _∙_, subst}
-use mathlib.Core.Bool.{Bool, true, false}
-use Prim.Native.Nat.{ℕ, suc, _+_, _*_, _-_, _≤_, _<_}
-use native.Mathlib.Omega.{arith}
+use mathlib.Core.Path.{sym, subst}
+use Prim.Native.Nat.{_-_}
 use lib.Dec.{T}
-use lib.ListN.{length, getD}
-use lib.Ieee.{Float, nan, lt}
-use Rattle.laws.specs.Order.{lt→le}
 use Rattle.finality.specs.Brackets.{covers}
 use Rattle.integrate.specs.Force.{model, fullForce}
 use Rattle.fit.specs.Fit.{stateFor}
-use Rattle.windows.specs.Windows.{windowBy, Filled}
 use Rattle.windows.proofs.Filling.{long-leaves}
 use borrow.Author.Needs.{needs}
 use Rattle.windows.proofs.kernel.leave.Statement.{statement}

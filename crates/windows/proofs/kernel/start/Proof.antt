@@ -1,10 +1,9 @@
-use mathlib.Core.Path.{_≡_, refl, sym, ap, _∙_, subst}
+use mathlib.Core.Path.{ap}
 use lib.Ieee.{Float}
 use Rattle.laws.specs.Floats.{_⊗_}
 use Rattle.laws.specs.Times.{step}
 use Rattle.finality.specs.Arcs.{start}
 use Rattle.windows.proofs.Times.{start-low, start-high}
-use borrow.Author.Needs.{needs}
 use Rattle.windows.proofs.kernel.start.Statement.{statement}
 use Rattle.windows.proofs.kernel.start.Tie as tie
 

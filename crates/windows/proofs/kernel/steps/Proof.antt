@@ -1,5 +1,4 @@
-use mathlib.Core.Path.{_≡_, refl, sym, ap, _∙_, subst}
-use Prim.Native.Nat.{ℕ, _+_, _≤_}
+use mathlib.Core.Path.{_≡_, sym, ap, _∙_, subst}
 use native.Mathlib.Omega.{arith}
 use lib.Dec.{T}
 use lib.Ieee.{Float, le}
@@ -10,7 +9,6 @@ use Rattle.finality.specs.Arcs.{halfHour, start, steps}
 use Rattle.finality.proofs.Windows.{steps-short}
 use Rattle.windows.specs.Slots.{highest}
 use Rattle.windows.proofs.Times.{steps-low, steps-high}
-use borrow.Author.Needs.{needs}
 use Rattle.windows.proofs.kernel.steps.Statement.{statement}
 use Rattle.windows.proofs.kernel.steps.Tie as tie
 
