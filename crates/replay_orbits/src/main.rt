@@ -1,6 +1,11 @@
 // Replays the oracle's list of least squares, fits and fitted windows: each call is its number and its arguments, a word a line. A slice is its length, how many of
 // its numbers are given, and these; the others are 0. Outputs stand at 3.0 or 3 and scratch at 7.0 before a call; of an output some numbers are told, and the sum of
 // all patterns.
+ghost use mathlib.Core.Path.{_≡_};
+ghost use lib.Dec.{eqb};
+ghost use mir.Syntax.{w64};
+ghost use mir.Val.{ofZ};
+ghost use Rattle.laws.specs.Checks.{all};
 use replay::Item;
 
 // The sum of the patterns, modulo 2^64.
@@ -161,7 +166,9 @@ fn say_sums(s: Sums) {
     replay::say(s.sums);
 }
 
-fn keys_are(keys: &[i64], key: i64) -> bool {
+fn keys_are(keys: &[i64], key: i64) -> bool
+    ensures { λ r. ⌜ r ≡ all (λ k. eqb (ofZ w64 k) (ofZ w64 key)) (now (keys .entry)) ⌝ }
+{
     let mut i = 0;
     while i < keys.len() {
         if keys[i] != key {
