@@ -218,14 +218,6 @@ pub fn say_all(values: &[f64]) {
     }
 }
 
-pub fn say_keys(keys: &[i64]) {
-    let mut i = 0;
-    while i < keys.len() {
-        say(unsigned(keys[i]));
-        i += 1;
-    }
-}
-
 // Whether x has these bits; each NaN has 7FF8000000000000.
 fn has_bits(x: f64, bits: u64) -> bool
     ensures { λ r. ⌜ r ≡ eqb (toBits binary64 x) bits ⌝ }
