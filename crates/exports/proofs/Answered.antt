@@ -15,7 +15,7 @@ use Rattle.slices.specs.Answers.{outcomeNumber, countedNumber}
 use Rattle.slices.specs.declared.Outcome.{Outcome}
 use Rattle.slices.specs.declared.Counted.{Counted}
 use Rattle.slices.specs.declared.Counted.the-variants as counted
-use Rattle.series.specs.declared.Partials.{Partials}
+use Rattle.legendre.specs.declared.Partials.{Partials}
 use Rattle.fields.specs.Calls.{refusalOf, partialsNumber}
 use Rattle.fields.specs.declared.PartialsAnswer.{PartialsAnswer}
 use Rattle.fields.specs.declared.PartialsAnswer.the-variants as partials

@@ -4,7 +4,7 @@ use mathlib.Core.List.{List, [], _∷_}
 use native.Mathlib.Omega.{arith}
 use lib.ListN.{length, set}
 use lib.Ieee.{Float}
-use Rattle.series.specs.declared.Partials.{Partials}
+use Rattle.legendre.specs.declared.Partials.{Partials}
 use Rattle.exports.specs.Four.{fourOf}
 
 pub four-set : (out : List Float) (p : Partials) → length out ≡ 4 → set (set (set (set out 0 (p .v)) 1 (p .dr)) 2 (p .dlat)) 3 (p .dlon) ≡ fourOf p

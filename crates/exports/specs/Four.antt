@@ -4,7 +4,7 @@ use mathlib.Core.List.{List, [], _∷_}
 use lib.Dec.{eqb}
 use lib.ListN.{length}
 use lib.Ieee.{Float}
-use Rattle.series.specs.declared.Partials.{Partials}
+use Rattle.legendre.specs.declared.Partials.{Partials}
 
 abbrev pub fourOf : Partials → List Float
 fourOf p = p .v ∷ p .dr ∷ p .dlat ∷ p .dlon ∷ []

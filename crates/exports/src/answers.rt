@@ -96,7 +96,7 @@ pub fn store_counts(answer: sheet::SheetAnswer, counts: &mut [usize]) -> u8
 }
 
 // An out of another length stays as it was.
-pub fn put_four(p: series::Partials, out: &mut [f64])
+pub fn put_four(p: legendre::Partials, out: &mut [f64])
     ensures { λ _. ⌜ now (out .exit) ≡ fourIn p (now (out .entry)) ⌝ }
 {
     if out.len() == 4 {

@@ -16,12 +16,12 @@ use Rattle.slices.specs.Calls.{left, handed, settled}
 use Rattle.slices.specs.declared.Outcome.{Outcome}
 use Rattle.slices.specs.declared.Outcome.the-variants.{Accepted, Refused}
 use Rattle.slices.proofs.Calls.{call-refused}
-use Rattle.series.specs.Legendre.{aOf, bOf}
-use Rattle.series.specs.Field.{size}
-use Rattle.series.specs.Prepared.{factorOf, tabulated}
-use Rattle.series.specs.declared.Factor.{Factor}
-use Rattle.series.specs.declared.Factor.the-variants.{RecursionA, RecursionB}
-use Rattle.series.specs.declared.Partials.{Partials}
+use Rattle.legendre.specs.Legendre.{aOf, bOf}
+use Rattle.legendre.specs.Field.{size}
+use Rattle.legendre.specs.Prepared.{factorOf, tabulated}
+use Rattle.legendre.specs.declared.Factor.{Factor}
+use Rattle.legendre.specs.declared.Factor.the-variants.{RecursionA, RecursionB}
+use Rattle.legendre.specs.declared.Partials.{Partials}
 use Rattle.fields.specs.Calls.{finitePartials, finiteNeu, accelerationOf, accelerationCall, handedTwo, handedOne, twoTables, refusalOf, newCall, judgedPartials}
 use Rattle.fields.specs.declared.PartialsAnswer.the-variants as partials
 use Rattle.fields.specs.declared.AccelerationAnswer.the-variants as acceleration

@@ -8,7 +8,7 @@ use Rattle.laws.specs.Tables.{tri}
 use Rattle.laws.specs.Bools.{both-true}
 use Rattle.laws.specs.Checks.{degreeFine}
 use Rattle.slices.proofs.Calls.{cond-passes}
-use Rattle.series.specs.Field.{size, Fits}
+use Rattle.legendre.specs.Field.{size, Fits}
 use Rattle.fields.specs.Calls.{twoTables, fieldAnd, fourTables, refusalOf, indexOf}
 use Rattle.fields.specs.declared.Index.the-variants as index
 

@@ -21,14 +21,14 @@ use Rattle.slices.specs.declared.Outcome.{Outcome}
 use Rattle.slices.specs.declared.Outcome.the-variants.{Accepted, Refused}
 use Rattle.slices.proofs.Calls.{call-refused}
 use Rattle.slices.proofs.Laws.{copied-all}
-use Rattle.series.specs.Arrays.{from}
-use Rattle.series.specs.Legendre.{derived}
-use Rattle.series.specs.Rows.{legendreBy, derivedBy}
-use Rattle.series.specs.Field.{size, part, lentTables, Fits, partialsBy, partialsWith}
-use Rattle.series.specs.Prepared.{prepared}
-use Rattle.series.specs.Tables.{derivedWith, legendreWith, derivativeWith}
-use Rattle.series.specs.declared.Partials.{Partials}
-use Rattle.series.proofs.Published.{IsPrepared, prepared-prepared, prepared-length, prepared-stays, prepared-partials, prepared-legendre, prepared-derived}
+use Rattle.legendre.specs.Arrays.{from}
+use Rattle.legendre.specs.Legendre.{derived}
+use Rattle.legendre.specs.Rows.{legendreBy, derivedBy}
+use Rattle.legendre.specs.Field.{size, part, lentTables, Fits, partialsBy, partialsWith}
+use Rattle.legendre.specs.Prepared.{prepared}
+use Rattle.legendre.specs.Tables.{derivedWith, legendreWith, derivativeWith}
+use Rattle.legendre.specs.declared.Partials.{Partials}
+use Rattle.legendre.proofs.Published.{IsPrepared, prepared-prepared, prepared-length, prepared-stays, prepared-partials, prepared-legendre, prepared-derived}
 use Rattle.fields.specs.Rescaled.{factorOf, factorWith, rescaledAt}
 use Rattle.fields.specs.Calls.{handedTwo, handedOne, twoTables, fieldAnd, fourTables, refusalOf, rescaledCall, computeCall, deriveCall, placeFine, judgedPartials, partialsOfField, partialsCall}
 use Rattle.fields.specs.declared.PartialsAnswer.{PartialsAnswer}

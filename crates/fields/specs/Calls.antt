@@ -14,11 +14,11 @@ use Rattle.numbers.specs.Numbers.{sine, cosine}
 use Rattle.slices.specs.Calls.{Left, firstFailed, handed, settled}
 use Rattle.slices.specs.declared.Outcome.{Outcome}
 use Rattle.slices.specs.declared.Outcome.the-variants.{Accepted, Refused}
-use Rattle.series.specs.Arrays.{from}
-use Rattle.series.specs.Legendre.{aOf, bOf, derived}
-use Rattle.series.specs.Rows.{legendreBy, derivedBy}
-use Rattle.series.specs.Field.{size, lentTables, partialsBy}
-use Rattle.series.specs.declared.Partials.{Partials}
+use Rattle.legendre.specs.Arrays.{from}
+use Rattle.legendre.specs.Legendre.{aOf, bOf, derived}
+use Rattle.legendre.specs.Rows.{legendreBy, derivedBy}
+use Rattle.legendre.specs.Field.{size, lentTables, partialsBy}
+use Rattle.legendre.specs.declared.Partials.{Partials}
 use Rattle.fields.specs.Rescaled.{rescaledAt}
 use Rattle.fields.specs.declared.Index.{Index}
 use Rattle.fields.specs.declared.Index.the-variants as index

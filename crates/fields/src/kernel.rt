@@ -1,7 +1,7 @@
 // The work of the calls, with no tests of what the slices hold.
 ghost use mathlib.Core.Path.{_≡_};
-ghost use Rattle.series.specs.Field.{partialsWith};
-ghost use Rattle.series.specs.Prepared.{prepared};
+ghost use Rattle.legendre.specs.Field.{partialsWith};
+ghost use Rattle.legendre.specs.Prepared.{prepared};
 ghost use Rattle.fields.specs.Rescaled.{factorWith};
 
 // Fills what depends on the degree alone, in a work slice of at least 8·L numbers: derive's lower factors at 2·L, the upper ones at 3·L, the
@@ -9,7 +9,7 @@ ghost use Rattle.fields.specs.Rescaled.{factorWith};
 pub fn prepare(degree: usize, work: &mut [f64])
     ensures { λ _. ⌜ now (work .exit) ≡ prepared degree (now (work .entry)) ⌝ }
 {
-    series::prepare(degree, work);
+    legendre::prepare(degree, work);
 }
 
 // The potential and its derivatives of the field that stands in a prepared work slice, C at 0 and S at L; a and b are the Legendre tables.
@@ -23,10 +23,10 @@ pub fn partials(
     r: f64,
     lat: f64,
     lon: f64,
-) -> series::Partials
+) -> legendre::Partials
     ensures { λ z. ⌜ z ≡ partialsWith degree gm radius (now (a .entry)) (now (b .entry)) (now (work .entry)) r lat lon ⌝ }
 {
-    series::evaluate(degree, gm, radius, a, b, work, r, lat, lon)
+    legendre::evaluate(degree, gm, radius, a, b, work, r, lat, lon)
 }
 
 // (GM/GM′)·(R/R′)ⁿ for the GM and the radius that a field begins with.

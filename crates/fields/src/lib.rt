@@ -1,4 +1,4 @@
-// Module 1 of document 01, fields: the public calls. The crate `series` and `kernel` do the work.
+// Module 1 of document 01, fields: the public calls. The crate `legendre` and `kernel` do the work.
 pub mod kernel;
 
 ghost use mathlib.Core.Path.{_≡_};
@@ -7,11 +7,11 @@ ghost use Prim.Native.Nat.{ℕ, _+_, _*_, _≤_, _<_};
 ghost use lib.ListN.{length, take};
 ghost use Rattle.laws.specs.Tables.{tri, row, rows};
 ghost use Rattle.slices.specs.Calls.{left};
-ghost use Rattle.series.specs.Field.{size, Fits};
+ghost use Rattle.legendre.specs.Field.{size, Fits};
 ghost use Rattle.fields.specs.Rescaled.{rescaledAt};
 ghost use Rattle.fields.specs.Calls.{indexOf, finitePartials, accelerationCall, twoTables, fieldAnd, fourTables, refusalOf, handedTwo, handedOne, newCall, rescaledCall, computeCall, deriveCall, judgedPartials, placeFine, partialsOfField, partialsCall};
+use legendre;
 use numbers;
-use series;
 use slices;
 
 pub enum Index {
@@ -20,7 +20,7 @@ pub enum Index {
 }
 
 pub enum PartialsAnswer {
-    Value(series::Partials),
+    Value(legendre::Partials),
     Refused(u8),
 }
 
@@ -141,7 +141,7 @@ fn hand_one(x: &mut [f64]) -> slices::Outcome
     slices::Outcome::Refused(10)
 }
 
-fn finite_partials(p: series::Partials) -> bool
+fn finite_partials(p: legendre::Partials) -> bool
     ensures { λ r. ⌜ r ≡ finitePartials p ⌝ }
 {
     slices::both(
@@ -153,7 +153,7 @@ fn finite_partials(p: series::Partials) -> bool
     )
 }
 
-fn judged(z: series::Partials) -> PartialsAnswer
+fn judged(z: legendre::Partials) -> PartialsAnswer
     ensures { λ r. ⌜ r ≡ judgedPartials z ⌝ }
 {
     if finite_partials(z) {
@@ -177,8 +177,8 @@ pub fn legendre_new(
     if n != 0 {
         return slices::Outcome::Refused(n);
     }
-    series::tabulate(series::Factor::RecursionA, degree, a);
-    series::tabulate(series::Factor::RecursionB, degree, b);
+    legendre::tabulate(legendre::Factor::RecursionA, degree, a);
+    legendre::tabulate(legendre::Factor::RecursionB, degree, b);
     slices::clear(scratch);
     hand_two(a, b)
 }
@@ -280,8 +280,8 @@ pub fn derive(degree: usize, p: &[f64], dp: &mut [f64], scratch: &mut [f64]) -> 
     if n != 0 {
         return slices::Outcome::Refused(n);
     }
-    series::prepare(degree, scratch);
-    series::derive(degree, p, &scratch[..], dp);
+    legendre::prepare(degree, scratch);
+    legendre::derive(degree, p, &scratch[..], dp);
     slices::clear(scratch);
     hand_one(dp)
 }
@@ -314,8 +314,8 @@ pub fn compute_with_derivative(
     if n != 0 {
         return slices::Outcome::Refused(n);
     }
-    series::prepare(degree, scratch);
-    series::compute(degree, a, b, &scratch[..], lat, p, dp);
+    legendre::prepare(degree, scratch);
+    legendre::compute(degree, a, b, &scratch[..], lat, p, dp);
     slices::clear(scratch);
     hand_two(p, dp)
 }
@@ -330,15 +330,15 @@ fn partials_in(
     lat: f64,
     lon: f64,
     scratch: &mut [f64],
-) -> series::Partials
+) -> legendre::Partials
     requires { ⌜ (length (now field) ≡ 2 + 2 * size degree) × Fits degree (length (now a)) (length (now b)) (length (now scratch)) ⌝ }
     ensures { λ z. ⌜ z ≡ partialsOfField degree (now (field .entry)) (now (a .entry)) (now (b .entry)) r lat lon ⌝ }
 {
     let l2 = 2 * size_of(degree);
     let end = field.len();
-    series::prepare(degree, scratch);
+    legendre::prepare(degree, scratch);
     slices::copy(&field[2..end], &mut scratch[0..l2]);
-    series::evaluate(degree, field[0], field[1], a, b, &scratch[..], r, lat, lon)
+    legendre::evaluate(degree, field[0], field[1], a, b, &scratch[..], r, lat, lon)
 }
 
 fn values_fine(field: &[f64], a: &[f64], b: &[f64], r: f64, lat: f64, lon: f64) -> bool
@@ -379,7 +379,7 @@ pub fn partials(
 }
 
 // North, east and up from the partials.
-pub fn acceleration_neu(partials: series::Partials, r: f64, lat: f64) -> AccelerationAnswer
+pub fn acceleration_neu(partials: legendre::Partials, r: f64, lat: f64) -> AccelerationAnswer
     ensures { λ z. ⌜ z ≡ accelerationCall partials r lat ⌝ }
 {
     let place = slices::both(numbers::is_finite(r), numbers::is_finite(lat));

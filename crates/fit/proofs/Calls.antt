@@ -21,8 +21,8 @@ use Rattle.slices.specs.Slices.{copied}
 use Rattle.slices.specs.Calls.{left, settled}
 use Rattle.slices.proofs.Calls.{call-refused, call-failed, call-handed}
 use Rattle.slices.proofs.Laws.{copied-all}
-use Rattle.lent.specs.Lent.{fitRoom, fieldsFine, few, lengthsFit, statesFit, modelFine, keyedFine, frontSize, Front}
-use Rattle.lent.proofs.Passed.{all-pass, degree-passes, states-pass, lengths-room}
+use Rattle.inputs.specs.Inputs.{fitRoom, fieldsFine, few, lengthsFit, statesFit, modelFine, keyedFine, frontSize, Front}
+use Rattle.inputs.proofs.Passed.{all-pass, degree-passes, states-pass, lengths-room}
 use Rattle.finality.specs.Brackets.{covers}
 use Rattle.integrate.specs.declared.kernel.Arc.{Arc}
 use Rattle.integrate.specs.Room.{runSize, Run, flat}

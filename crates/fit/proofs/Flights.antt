@@ -8,7 +8,7 @@ use lib.IntN.{ℤ}
 use lib.Ieee.{Float}
 use lib.ListN.{length}
 use borrow.Author.Tests.{le-leb, lt-leb, eq-eqb, ne-eqb}
-use Rattle.lent.specs.Lent.{frontSize, Front}
+use Rattle.inputs.specs.Inputs.{frontSize, Front}
 use Rattle.integrate.specs.Force.{runFits}
 use Rattle.integrate.specs.Room.{runSize, Run, Only, Orbit}
 use Rattle.integrate.specs.Work.{Ran}

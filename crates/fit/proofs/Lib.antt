@@ -5,6 +5,6 @@ pub mod Notes
 pub mod Columns
 pub mod Steps
 pub mod Rounds
-pub mod Whole
+pub mod WholeFit
 pub mod Locality
 pub mod Calls

@@ -9,7 +9,7 @@ use lib.Ieee.Scale.{finite}
 use lib.ListN.{length}
 use Rattle.laws.specs.Checks.{rising, risingSeconds, degreeFine}
 use Rattle.slices.specs.Calls.{Left, settled}
-use Rattle.lent.specs.Lent.{firstOf, fieldsFine, few, lengthsFit, statesFit, modelFine, keyedFine}
+use Rattle.inputs.specs.Inputs.{firstOf, fieldsFine, few, lengthsFit, statesFit, modelFine, keyedFine}
 use Rattle.finality.specs.Brackets.{covers}
 use Rattle.integrate.specs.declared.kernel.Arc.{Arc}
 use Rattle.integrate.specs.Room.{flat}

@@ -7,7 +7,7 @@ use lib.IntN.{ℤ}
 use Prim.Native.Nat.{ℕ, _+_, _*_, _%_, _≤_, _<_}
 use lib.Ieee.{Float, nan}
 use lib.ListN.{length, getD}
-use Rattle.lent.specs.Lent.{frontSize}
+use Rattle.inputs.specs.Inputs.{frontSize}
 use Rattle.least_squares.specs.declared.kernel.Estimate.{Estimate}
 use Rattle.vectors.specs.declared.Vector.{Vector}
 use Rattle.integrate.specs.declared.kernel.State.{State}

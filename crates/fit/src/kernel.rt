@@ -12,7 +12,7 @@ ghost use Rattle.numbers.specs.Seconds.{wholeSecond};
 ghost use Rattle.slices.specs.Slices.{lookup};
 ghost use Rattle.finality.specs.Brackets.{covers};
 ghost use Rattle.integrate.specs.Room.{runSize, Only, Orbit};
-ghost use Rattle.lent.specs.Lent.{frontSize};
+ghost use Rattle.inputs.specs.Inputs.{frontSize};
 ghost use Rattle.integrate.specs.Force.{model, fullForce, attractionOf, runOf};
 ghost use Rattle.integrate.specs.declared.kernel.Force.the-variants.{Full, J2};
 ghost use Rattle.fit.specs.Fit.{stateFor, seen, observed, startOf, scaleOf, movedOf, updatedOf, rmsOf};
@@ -534,7 +534,7 @@ fn arc_fits(degree: usize, steps: usize, keys: &[i64], states: usize, room: usiz
     if states != 6 * keys.len() {
         return false;
     }
-    let base = lent::front_size(degree);
+    let base = inputs::front_size(degree);
     if base + WORK > room {
         return false;
     }
@@ -557,7 +557,7 @@ pub fn fit_arc(
     ensures { λ r. ⌜ ArcFit (arcServes degree (arc .steps) (now (keys .entry)) (length (now (states .entry))) (length (now (s .entry)))) (covers (now (times .entry))) (fullForce (model degree (now (field .entry)) (now (times .entry)) (now (added .entry))) (now (a .entry)) (now (b .entry))) (stateFor (now (keys .entry)) (now (states .entry))) arc (now (s .entry)) (now (s .exit)) (frontSize degree) r ⌝ }
 {
     if arc_fits(degree, arc.steps, keys, states.len(), s.len()) {
-        let base = lent::front_size(degree);
+        let base = inputs::front_size(degree);
         return fit_within(
             degree,
             field,

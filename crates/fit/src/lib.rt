@@ -7,7 +7,7 @@ ghost use Prim.Native.Nat.{_+_, _*_, _≤_};
 ghost use lib.ListN.{length, take, drop};
 ghost use Rattle.slices.specs.Calls.{left};
 ghost use Rattle.slices.specs.Slices.{copied};
-ghost use Rattle.lent.specs.Lent.{frontSize};
+ghost use Rattle.inputs.specs.Inputs.{frontSize};
 ghost use Rattle.fit.specs.Calls.{refusal as refusalOf, fitCall};
 ghost use Rattle.fit.specs.Handing.{Handed};
 ghost use Rattle.integrate.specs.Room.{runSize};
@@ -28,9 +28,9 @@ fn refusal(
     ensures { λ r. ⌜ r ≡ refusalOf degree (now (field .entry)) (now (a .entry)) (now (b .entry)) (now (times .entry)) (now (added .entry)) (now (keys .entry)) (now (states .entry)) arc out scratch ⌝ }
 {
     let fields = times.len();
-    let few = slices::both(lent::fields_fine(fields), arc.steps <= 5302);
+    let few = slices::both(inputs::fields_fine(fields), arc.steps <= 5302);
     let counts = slices::both(few, keys.len() <= 200000);
-    let lists = lent::lengths_fit(
+    let lists = inputs::lengths_fit(
         degree,
         fields,
         field.len(),
@@ -41,13 +41,13 @@ fn refusal(
     );
     let sizes = slices::both(
         integrate::out_fits(arc.steps, out),
-        lent::states_fit(keys.len(), states.len()),
+        inputs::states_fit(keys.len(), states.len()),
     );
     let lengths = slices::both(lists, sizes);
-    let numbers = slices::both(integrate::arc_fine(arc), lent::keyed_fine(keys, states));
-    let values = slices::both(lent::model_fine(field, a, b, times, added), numbers);
+    let numbers = slices::both(integrate::arc_fine(arc), inputs::keyed_fine(keys, states));
+    let values = slices::both(inputs::model_fine(field, a, b, times, added), numbers);
     let order = slices::both(slices::rising(times), slices::rising_keys(keys));
-    lent::first_of(lent::degree_fine(degree), counts, lengths, values, order)
+    inputs::first_of(inputs::degree_fine(degree), counts, lengths, values, order)
 }
 
 // The fitted states into out, and the rms, where all are finite.
@@ -61,7 +61,7 @@ fn hand_out(
     requires { ⌜ (degree ≤ 180) × (steps ≤ 5302) × (frontSize degree + runSize ≤ length (now scratch)) × (length (now out) ≡ 6 * (steps + 1)) ⌝ }
     ensures { λ r. ⌜ Handed x (take (6 * (steps + 1)) (drop (frontSize degree) (now (scratch .entry)))) (now (out .entry)) (now (scratch .entry)) r (now (out .exit)) (now (scratch .exit)) ⌝ }
 {
-    let base = lent::front_size(degree);
+    let base = inputs::front_size(degree);
     let end = base + 6 * (steps + 1);
     slices::copy(&scratch[base..end], out);
     slices::clear(scratch);

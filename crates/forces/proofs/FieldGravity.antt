@@ -17,9 +17,9 @@ use Rattle.slices.specs.Slices.{copied}
 use Rattle.slices.specs.Calls.{left, settled}
 use Rattle.slices.proofs.Calls.{cond-passes, call-refused}
 use Rattle.slices.proofs.Laws.{copied-all}
-use Rattle.series.specs.Field.{size, Fits}
-use Rattle.series.specs.Prepared.{prepared}
-use Rattle.series.proofs.Published.{IsPrepared, prepared-prepared, prepared-length}
+use Rattle.legendre.specs.Field.{size, Fits}
+use Rattle.legendre.specs.Prepared.{prepared}
+use Rattle.legendre.proofs.Published.{IsPrepared, prepared-prepared, prepared-length}
 use Rattle.vectors.specs.declared.Vector.{Vector}
 use Rattle.forces.specs.Forces.{gravityWith}
 use Rattle.forces.specs.Calls.{answer, gravityOfField, lengthsFine, valuesFine, gravityRefusal, gravityCall}

@@ -7,12 +7,12 @@ use lib.ListN.{length, take, drop, getD, length-append, length-drop}
 use lib.Seq.{take-at, drop-at}
 use lib.Ieee.{Float, nan}
 use Rattle.laws.specs.Tables.{rows, rows-length}
-use Rattle.series.specs.Legendre.{aOf, bOf}
-use Rattle.series.specs.Field.{size, part, partialsBy}
-use Rattle.series.proofs.Published.{IsPrepared, lent-published, prepared-partials, prepared-stays}
-use Rattle.tide.specs.Gravity.{gradient, gravityOf}
-use Rattle.tide.specs.Tide.{placeOf}
-use Rattle.tide.specs.declared.kernel.Place.{Place}
+use Rattle.legendre.specs.Legendre.{aOf, bOf}
+use Rattle.legendre.specs.Field.{size, part, partialsBy}
+use Rattle.legendre.proofs.Published.{IsPrepared, lent-published, prepared-partials, prepared-stays}
+use Rattle.solid_tide.specs.Gravity.{gradient, gravityOf}
+use Rattle.solid_tide.specs.Tide.{placeOf}
+use Rattle.solid_tide.specs.declared.kernel.Place.{Place}
 use Rattle.vectors.specs.declared.Vector.{Vector}
 use Rattle.forces.specs.Forces.{gravityBy, gravityWith}
 use Rattle.forces.specs.Calls.{gravityOfField}

@@ -10,14 +10,14 @@ use Rattle.fields.specs.Calls.{fieldAnd, refusalOf}
 use Rattle.laws.specs.Floats.{zero64}
 use Rattle.laws.specs.Checks.{all, isTime}
 use Rattle.slices.specs.Calls.{Left, settled}
-use Rattle.series.specs.Field.{size}
+use Rattle.legendre.specs.Field.{size}
 use Rattle.slices.specs.declared.Outcome.the-variants.{Accepted, Refused}
 use Rattle.vectors.specs.declared.Vector.{Vector}
-use Rattle.sky.specs.Sky.{sunMoon}
-use Rattle.tide.specs.Tide.{solidTide}
+use Rattle.sun_moon.specs.SunMoon.{sunMoon}
+use Rattle.solid_tide.specs.Tide.{solidTide}
 use Rattle.forces.specs.Forces.{gravityBy, thirdBody, tidesOf, fictitiousOf, empiricalOf, j2Of}
-use Rattle.sky.specs.declared.SunMoon.{SunMoon}
-use Rattle.tide.specs.declared.SolidTide.{SolidTide}
+use Rattle.sun_moon.specs.declared.SunMoon.{SunMoon}
+use Rattle.solid_tide.specs.declared.SolidTide.{SolidTide}
 use Rattle.forces.specs.declared.TideAnswer.{TideAnswer}
 use Rattle.forces.specs.declared.Answer.{Answer}
 use Rattle.forces.specs.declared.Answer.the-variants as of-force

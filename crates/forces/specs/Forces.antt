@@ -11,14 +11,14 @@ use Rattle.numbers.specs.declared.SineCosine.{SineCosine}
 use Rattle.vectors.specs.Vector.{plus, minus, times, inner, norm, cross}
 use Rattle.vectors.specs.declared.Vector.{Vector}
 use Rattle.numbers.specs.Constants.{decimal, earthGM, earthRadius, sunGM, moonGM, rotation, j2}
-use Rattle.sky.specs.Sky.{sunMoon}
-use Rattle.series.specs.Field.{partialsWith, partialsBy}
-use Rattle.tide.specs.Tide.{placeOf, solidTide}
-use Rattle.tide.specs.Gravity.{gradient, tideGravity}
+use Rattle.sun_moon.specs.SunMoon.{sunMoon}
+use Rattle.legendre.specs.Field.{partialsWith, partialsBy}
+use Rattle.solid_tide.specs.Tide.{placeOf, solidTide}
+use Rattle.solid_tide.specs.Gravity.{gradient, tideGravity}
 use Rattle.forces.specs.declared.kernel.Moment.{Moment}
 use Rattle.forces.specs.declared.kernel.Axes.{Axes}
 
--- the gravity at x from lent Legendre tables a and b: with those that `Legendre::new` fills, `gravityOf` of crate `tide`, the published series (proofs/Published)
+-- the gravity at x from lent Legendre tables a and b: with those that `Legendre::new` fills, `gravityOf` of crate `solid_tide`, the published series (proofs/Published)
 unfoldable pub gravityBy : ℕ → Float → Float → List Float → List Float → List Float → List Float → Vector → Vector
 gravityBy N gm radius a b c s x = let at = placeOf x in gradient at (partialsBy N gm radius a b c s (at .r) (at .lat) (at .lon))
 

@@ -18,8 +18,8 @@ use Rattle.slices.specs.Calls.{left}
 use Rattle.slices.specs.declared.Outcome.the-variants.{Accepted, Refused}
 use Rattle.slices.proofs.Calls.{call-refused, call-handed}
 use Rattle.slices.proofs.Laws.{copied-all}
-use Rattle.lent.specs.Lent.{fitRoom, fieldsFine, lengthsFit, modelFine, frontSize, Front}
-use Rattle.lent.proofs.Passed.{all-pass, degree-passes, lengths-room}
+use Rattle.inputs.specs.Inputs.{fitRoom, fieldsFine, lengthsFit, modelFine, frontSize, Front}
+use Rattle.inputs.proofs.Passed.{all-pass, degree-passes, lengths-room}
 use Rattle.integrate.specs.declared.kernel.Arc.{Arc}
 use Rattle.integrate.specs.declared.kernel.Force.{Force}
 use Rattle.integrate.specs.Room.{runSize, Run, Orbit, six, flat}

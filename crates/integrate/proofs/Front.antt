@@ -11,7 +11,7 @@ use lib.ListN.{length, take, drop, getD, replicate, length-append, length-drop, 
 use lib.Seq.{take-at, drop-at, getD-append-add, getD-drop, getD-take, ext-getD, length-take-le}
 use borrow.Author.Tests.{leb-true}
 use borrow.Rule.Slice.PartMut.{putMid}
-use Rattle.lent.specs.Lent.{fieldSize, frontSize}
+use Rattle.inputs.specs.Inputs.{fieldSize, frontSize}
 use Rattle.laws.specs.Floats.{zero64}
 use Rattle.laws.specs.Tables.{tri}
 use Rattle.laws.specs.Bools.{by, left-true, right-true}
@@ -19,8 +19,8 @@ use Rattle.model.specs.Field.{cosines, sines}
 use Rattle.model.specs.Model.{fieldAt, kindAt}
 use Rattle.model.specs.Calls.{atFits, atLeft}
 use Rattle.model.proofs.Checks.{kind-long}
-use Rattle.series.specs.Prepared.{prepared}
-use Rattle.series.proofs.Published.{prepared-length as long}
+use Rattle.legendre.specs.Prepared.{prepared}
+use Rattle.legendre.proofs.Published.{prepared-length as long}
 use Rattle.integrate.specs.Force.{Model, frontAt}
 use Rattle.integrate.specs.Room.{Only}
 

@@ -1,5 +1,5 @@
 pub mod Places
 pub mod Front
-pub mod Laws
+pub mod ForceAndStep
 pub mod Calls
 pub mod Published

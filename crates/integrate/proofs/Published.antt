@@ -17,18 +17,18 @@ use Rattle.laws.specs.Checks.{all, rising, degreeFine}
 use Rattle.laws.specs.Tables.{tri, rows}
 use Rattle.vectors.specs.Vector.{plus}
 use Rattle.vectors.specs.declared.Vector.{Vector}
-use Rattle.series.specs.Legendre.{aOf, bOf}
-use Rattle.series.specs.Prepared.{prepared}
-use Rattle.series.proofs.Published.{prepared-prepared}
-use Rattle.tide.specs.Gravity.{gravityOf}
+use Rattle.legendre.specs.Legendre.{aOf, bOf}
+use Rattle.legendre.specs.Prepared.{prepared}
+use Rattle.legendre.proofs.Published.{prepared-prepared}
+use Rattle.solid_tide.specs.Gravity.{gravityOf}
 use Rattle.forces.specs.Forces.{gravityWith, tidesOf}
 use Rattle.forces.proofs.Published.{front-published}
 use Rattle.model.specs.Field.{gm, radius, cosines, sines}
 use Rattle.model.specs.Model.{kindAt}
 use Rattle.model.specs.Calls.{atFits}
 use Rattle.model.proofs.Checks.{kind-long}
-use Rattle.lent.specs.Lent.{fieldSize, frontSize, fieldsFine, lengthsFit, modelFine}
-use Rattle.lent.proofs.Passed.{all-pass, degree-passes, lengths-pass}
+use Rattle.inputs.specs.Inputs.{fieldSize, frontSize, fieldsFine, lengthsFit, modelFine}
+use Rattle.inputs.proofs.Passed.{all-pass, degree-passes, lengths-pass}
 use Rattle.integrate.specs.declared.kernel.Arc.{Arc}
 use Rattle.integrate.specs.declared.kernel.Force.the-variants.{Full}
 use Rattle.integrate.specs.Force.{Model, model, frontAt, gravityAt, fullForce, attractionOf, runOf}

@@ -9,7 +9,7 @@ use lib.Ieee.Scale.{finite}
 use lib.ListN.{length}
 use Rattle.laws.specs.Checks.{all, isTime, rising, latest, degreeFine}
 use Rattle.slices.specs.Calls.{Left, settled}
-use Rattle.lent.specs.Lent.{firstOf, fieldsFine, lengthsFit, modelFine}
+use Rattle.inputs.specs.Inputs.{firstOf, fieldsFine, lengthsFit, modelFine}
 use Rattle.slices.specs.declared.Outcome.{Outcome}
 use Rattle.slices.specs.declared.Outcome.the-variants.{Accepted, Refused}
 use Rattle.integrate.specs.declared.kernel.Arc.{Arc}

@@ -6,7 +6,7 @@ use mathlib.Core.List.{List}
 use lib.Dec.{leb}
 use lib.Ieee.{Float, nan}
 use lib.ListN.{getD, replicate}
-use Rattle.lent.specs.Lent.{frontSize}
+use Rattle.inputs.specs.Inputs.{frontSize}
 use Rattle.laws.specs.Floats.{zero64}
 use Rattle.laws.specs.Tables.{row}
 use Rattle.numbers.specs.Constants.{angleFrom}
@@ -15,7 +15,7 @@ use Rattle.vectors.specs.declared.Vector.{Vector}
 use Rattle.forces.specs.Forces.{j2Of, fictitiousOf, empiricalOf, tidesOf}
 use Rattle.model.specs.Field.{gm, radius}
 use Rattle.model.specs.Calls.{atLeft}
-use Rattle.series.specs.Prepared.{prepared}
+use Rattle.legendre.specs.Prepared.{prepared}
 use Rattle.forces.specs.Forces.{gravityWith}
 use Rattle.integrate.specs.Steps.{Acceleration, stateAt}
 use Rattle.integrate.specs.Room.{runSize, Run, stateIn}

@@ -5,7 +5,7 @@ use mathlib.Core.List.{List}
 use Prim.Native.Nat.{ℕ, _+_, _*_, _≤_, _<_}
 use lib.Ieee.{Float, nan}
 use lib.ListN.{length, take, getD}
-use Rattle.lent.specs.Lent.{frontSize}
+use Rattle.inputs.specs.Inputs.{frontSize}
 use Rattle.vectors.specs.declared.Vector.{Vector}
 use Rattle.forces.specs.Forces.{momentOf}
 use Rattle.integrate.specs.declared.kernel.State.{State}

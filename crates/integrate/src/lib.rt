@@ -7,7 +7,7 @@ ghost use Prim.Native.Nat.{_+_, _*_, _≤_};
 ghost use lib.ListN.{length};
 ghost use Rattle.slices.specs.Calls.{left};
 ghost use Rattle.integrate.specs.Work.{Listed};
-ghost use Rattle.lent.specs.Lent.{frontSize};
+ghost use Rattle.inputs.specs.Inputs.{frontSize};
 ghost use Rattle.integrate.specs.Force.{model, attractionOf, runOf};
 ghost use Rattle.integrate.specs.Room.{runSize};
 ghost use Rattle.integrate.specs.Calls.{isStart, outFits, arcFits, refusal as refusalOf, integrateCall};
@@ -56,8 +56,8 @@ fn refusal(
     ensures { λ r. ⌜ r ≡ refusalOf degree (now (field .entry)) (now (a .entry)) (now (b .entry)) (now (times .entry)) (now (added .entry)) arc p out scratch ⌝ }
 {
     let fields = times.len();
-    let counts = slices::both(lent::fields_fine(fields), arc.steps <= 5302);
-    let lists = lent::lengths_fit(
+    let counts = slices::both(inputs::fields_fine(fields), arc.steps <= 5302);
+    let lists = inputs::lengths_fit(
         degree,
         fields,
         field.len(),
@@ -68,9 +68,9 @@ fn refusal(
     );
     let lengths = slices::both(lists, out_fits(arc.steps, out));
     let numbers = slices::both(arc_fine(arc), slices::all_finite(&p));
-    let values = slices::both(lent::model_fine(field, a, b, times, added), numbers);
-    lent::first_of(
-        lent::degree_fine(degree),
+    let values = slices::both(inputs::model_fine(field, a, b, times, added), numbers);
+    inputs::first_of(
+        inputs::degree_fine(degree),
         counts,
         lengths,
         values,
@@ -96,7 +96,7 @@ fn states_of(
     ensures { λ _. ⌜ Listed (runOf (attractionOf force (model degree (now (field .entry)) (now (times .entry)) (now (added .entry))) (now (a .entry)) (now (b .entry))) arc p) (arc .steps + 1) (now (out .exit)) (now (scratch .entry)) (now (scratch .exit)) ⌝ }
 {
     kernel::run(force, degree, field, a, b, times, added, arc, p, scratch);
-    let base = lent::front_size(degree);
+    let base = inputs::front_size(degree);
     let end = base + 6 * (arc.steps + 1);
     slices::copy(&scratch[base..end], out);
 }

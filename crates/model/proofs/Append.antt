@@ -9,7 +9,7 @@ use lib.Dec.{T}
 use lib.ListN.{length, take, drop, getD, length-drop, List·getD-append}
 use lib.Seq.{drop-append-le, take-append-le}
 use lib.Ieee.{Float, nan, lt, le}
-use Rattle.lent.specs.Lent.{fieldSize}
+use Rattle.inputs.specs.Inputs.{fieldSize}
 use Rattle.laws.specs.Floats.{_⊖_, _⊘_}
 use Rattle.laws.specs.Times.{end, precedes}
 use Rattle.laws.specs.Tables.{rows}

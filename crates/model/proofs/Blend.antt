@@ -11,7 +11,7 @@ use lib.ListN.{length, take, drop, getD, set}
 use lib.Seq.{take-at, drop-at, drop-drop}
 use borrow.Rule.Slice.PartMut.{putMid, postOf}
 use lib.Ieee.{Float, nan}
-use Rattle.lent.specs.Lent.{fieldSize}
+use Rattle.inputs.specs.Inputs.{fieldSize}
 use Rattle.laws.specs.Floats.{_⊕_, _⊖_, _⊗_, one64}
 use Rattle.laws.specs.Tables.{tri, row, rows, row-turn, row-same, rows-length, rows-at}
 use Rattle.laws.specs.Bools.{no}

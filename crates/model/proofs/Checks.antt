@@ -18,8 +18,8 @@ use Rattle.slices.specs.Calls.{Left, left, handed, settled}
 use Rattle.slices.specs.declared.Outcome.{Outcome}
 use Rattle.slices.specs.declared.Outcome.the-variants.{Accepted, Refused}
 use Rattle.slices.proofs.Calls.{call-refused, call-handed}
-use Rattle.lent.specs.Lent.{fieldsFine, lengthsFit}
-use Rattle.lent.proofs.Passed.{all-pass, degree-passes, Sizes, lengths-pass}
+use Rattle.inputs.specs.Inputs.{fieldsFine, lengthsFit}
+use Rattle.inputs.proofs.Passed.{all-pass, degree-passes, Sizes, lengths-pass}
 use Rattle.model.specs.Field.{cosines, sines}
 use Rattle.model.specs.Model.{bracket, weight, addedField, blended, blendOf, kindAt}
 use Rattle.model.specs.Calls.{timesFine, coverRefusal, valuesFine, atRefusal, uncovered, atWork, atCall, told, coverAnswer, coverCall}

@@ -9,7 +9,7 @@ use native.Mathlib.Omega.{arith}
 use lib.ListN.{length, take, drop, getD, length-drop}
 use lib.Seq.{drop-drop, drop-append-le, take-append-le}
 use lib.Ieee.{Float, nan, le}
-use Rattle.lent.specs.Lent.{fieldSize}
+use Rattle.inputs.specs.Inputs.{fieldSize}
 use Rattle.laws.specs.Tables.{row, rows, row-length, rows-length}
 use Rattle.finality.specs.Stages.{timeOf}
 use Rattle.finality.specs.Brackets.{bracketed}

@@ -15,7 +15,7 @@ use Rattle.finality.specs.Brackets.{covers}
 use Rattle.slices.specs.Calls.{firstFailed, Left, settled}
 use Rattle.slices.specs.declared.Outcome.{Outcome}
 use Rattle.slices.specs.declared.Outcome.the-variants.{Accepted, Refused}
-use Rattle.lent.specs.Lent.{firstOf, fieldsFine, lengthsFit, fieldSize}
+use Rattle.inputs.specs.Inputs.{firstOf, fieldsFine, lengthsFit, fieldSize}
 use Rattle.model.specs.Field.{cosines, sines}
 use Rattle.model.specs.Model.{bracket, weight, kindAt, fieldAt}
 use Rattle.model.specs.declared.Cover.{Cover}

@@ -12,7 +12,7 @@ gm field = getD field 0 nan
 abbrev pub radius : List Float → Float
 radius field = getD field 1 nan
 
--- where each kind of coefficient begins; how many numbers a field has is `fieldSize` of crate `lent`
+-- where each kind of coefficient begins; how many numbers a field has is `fieldSize` of crate `inputs`
 abbrev pub cosines : ℕ
 cosines = 2
 

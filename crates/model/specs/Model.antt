@@ -5,7 +5,7 @@ use mathlib.Core.List.{List, [], _∷_, _++_}
 use lib.Dec.{ltb}
 use lib.ListN.{take, drop, getD}
 use lib.Ieee.{Float, nan, le}
-use Rattle.lent.specs.Lent.{fieldSize}
+use Rattle.inputs.specs.Inputs.{fieldSize}
 use Rattle.laws.specs.Floats.{_⊕_, _⊖_, _⊗_, _⊘_, one64}
 use Rattle.laws.specs.Tables.{rows}
 use Rattle.fields.specs.Rescaled.{rescaledAt}

@@ -3,7 +3,7 @@ use Prim.Native.Nat.{ℕ, _+_}
 use mathlib.Core.List.{List, [], _∷_, _++_}
 use lib.ListN.{take, drop}
 use lib.Ieee.{Float}
-use Rattle.lent.specs.Lent.{fieldSize}
+use Rattle.inputs.specs.Inputs.{fieldSize}
 use Rattle.laws.specs.Tables.{rows}
 use Rattle.model.specs.Field.{cosines, sines}
 use Rattle.model.specs.Model.{share, mix, combined}

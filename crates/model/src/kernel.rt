@@ -6,7 +6,7 @@ ghost use lib.ListN.{length, take, drop, getD};
 ghost use lib.Ieee.{nan};
 ghost use Rattle.laws.specs.Tables.{tri, row, rows};
 ghost use Rattle.finality.specs.Brackets.{covers as coversOf};
-ghost use Rattle.lent.specs.Lent.{fieldSize};
+ghost use Rattle.inputs.specs.Inputs.{fieldSize};
 ghost use Rattle.model.specs.Field.{cosines, sines};
 ghost use Rattle.model.specs.Model.{bracket as bracketOf, blended, blendOf, fieldAt};
 ghost use Rattle.model.specs.Calls.{Weighed, AtRoom, atLeft};

@@ -7,7 +7,7 @@ ghost use Prim.Native.Nat.{ℕ, _+_, _*_, _-_, _≤_, _<_};
 ghost use lib.ListN.{length};
 ghost use Rattle.laws.specs.Tables.{tri};
 ghost use Rattle.slices.specs.Calls.{left};
-ghost use Rattle.lent.specs.Lent.{fieldSize};
+ghost use Rattle.inputs.specs.Inputs.{fieldSize};
 ghost use Rattle.model.specs.Field.{sines as sinesFrom};
 ghost use Rattle.model.specs.Model.{kindAt};
 ghost use Rattle.model.specs.Calls.{timesFine, coverRefusal, coverCall, valuesFine, atRefusal, atWork, atCall};
@@ -46,7 +46,7 @@ fn values_fine(field: &[f64], added: &[f64]) -> bool
 fn cover_refusal(times: &[f64], t: f64) -> u8
     ensures { λ r. ⌜ r ≡ coverRefusal (now (times .entry)) t ⌝ }
 {
-    if !lent::fields_fine(times.len()) {
+    if !inputs::fields_fine(times.len()) {
         return 2;
     }
     if !times_fine(times, t) {
@@ -71,7 +71,7 @@ fn at_refusal(
     ensures { λ r. ⌜ r ≡ atRefusal degree (now (field .entry)) (now (times .entry)) (now (added .entry)) t cosines sines scratch ⌝ }
 {
     let fields = times.len();
-    let lengths = lent::lengths_fit(
+    let lengths = inputs::lengths_fit(
         degree,
         fields,
         field.len(),
@@ -81,9 +81,9 @@ fn at_refusal(
         scratch,
     );
     let values = slices::both(values_fine(field, added), times_fine(times, t));
-    lent::first_of(
-        lent::degree_fine(degree),
-        lent::fields_fine(fields),
+    inputs::first_of(
+        inputs::degree_fine(degree),
+        inputs::fields_fine(fields),
         lengths,
         values,
         slices::rising(times),

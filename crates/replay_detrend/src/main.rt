@@ -132,7 +132,7 @@ fn ascending_nodes() {
     let states = replay::list(&mut x);
     let o = replay::count(60);
     let out = &mut y[0..o];
-    let answer = nodes::ascending_nodes(keys, states, out);
+    let answer = ascending_nodes::ascending_nodes(keys, states, out);
     say_counted(answer);
     replay::say_all(&out[..]);
 }

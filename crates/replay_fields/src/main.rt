@@ -28,7 +28,7 @@ fn acceleration() {
     let dlon = replay::float();
     let r = replay::float();
     let lat = replay::float();
-    let p = series::Partials {
+    let p = legendre::Partials {
         v: v,
         dr: dr,
         dlat: dlat,

@@ -218,21 +218,21 @@ fn say_keys(keys: &[i64], between: u64) {
     say_some_keys(keys, between);
 }
 
-fn say_counts(answer: orbits::FittedOrbits) {
+fn say_counts(answer: fitted_orbits::FittedOrbits) {
     match answer {
-        orbits::FittedOrbits::Counted(states, windows) => {
+        fitted_orbits::FittedOrbits::Counted(states, windows) => {
             replay::say(0);
             replay::say(states as u64);
             replay::say(windows as u64);
         }
-        orbits::FittedOrbits::Refused(n) => {
+        fitted_orbits::FittedOrbits::Refused(n) => {
             replay::say(n as u64);
         }
     }
 }
 
 fn say_windows(
-    answer: orbits::FittedOrbits,
+    answer: fitted_orbits::FittedOrbits,
     keys: &[i64],
     states: &[f64],
     rms: &[f64],
@@ -274,7 +274,7 @@ fn fitted_orbits(
     let outstates = &mut x[0..p];
     let rms = &mut r[0..q];
     let scratch = &mut w[0..s];
-    let answer = orbits::fitted_orbits(
+    let answer = fitted_orbits::fitted_orbits(
         degree,
         field,
         a,

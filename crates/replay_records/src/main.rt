@@ -4,8 +4,8 @@
 ghost use mathlib.Core.Path.{_≡_};
 ghost use Prim.Native.Nat.{_≤_};
 ghost use lib.ListN.{take};
-ghost use Rattle.records.specs.Calls.{leftRecords, removeCall};
-use epochs::Epoch;
+ghost use Rattle.record_detrending.specs.Calls.{leftRecords, removeCall};
+use epoch_record::Epoch;
 use replay::Item;
 
 // What the call answered, and the records after it.
@@ -79,7 +79,7 @@ fn removed(mut epochs: [Epoch; 128], n: usize, nodes: &[f64], scratch: &mut [f64
     requires { ⌜ n ≤ 128 ⌝ }
     ensures { λ r. ⌜ leftRecords (r .answer) (take n (r .epochs)) (now (scratch .exit)) ≡ removeCall (take n epochs) (now (nodes .entry)) (now (scratch .entry)) ⌝ }
 {
-    let answer = records::remove_per_revolution(&mut epochs[..n], nodes, scratch);
+    let answer = record_detrending::remove_per_revolution(&mut epochs[..n], nodes, scratch);
     Left { answer, epochs }
 }
 

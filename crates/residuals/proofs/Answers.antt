@@ -12,13 +12,13 @@ use Rattle.laws.specs.Floats.{zero64}
 use Rattle.laws.specs.Checks.{isTime, degreeFine}
 use Rattle.laws.specs.Bools.{both-true}
 use Rattle.slices.specs.Calls.{left}
-use Rattle.lent.specs.Lent.{scratchFits}
-use Rattle.lent.proofs.Passed.{AllPass, all-pass, degree-passes, counts-pass, rise-passes, scratch-passes}
+use Rattle.inputs.specs.Inputs.{scratchFits}
+use Rattle.inputs.proofs.Passed.{AllPass, all-pass, degree-passes, counts-pass, rise-passes, scratch-passes}
 use Rattle.finality.specs.Sheet.{Observation}
-use Rattle.epochs.specs.declared.Epoch.{Epoch}
+use Rattle.epoch_record.specs.declared.Epoch.{Epoch}
 use Rattle.residuals.specs.declared.EpochAnswer.{EpochAnswer}
-use Rattle.sighting.specs.declared.Made.{Made}
-use Rattle.sighting.specs.Work.{madeOf}
+use Rattle.epoch.specs.declared.Made.{Made}
+use Rattle.epoch.specs.Work.{madeOf}
 use Rattle.residuals.specs.Inputs.{Inputs, epochOf}
 use Rattle.residuals.specs.Work.{Ready}
 use Rattle.residuals.specs.Calls.{inputsCounted, inputsFit, inputsFine, inputsRise, epochRefusal, refused, answered, told, epochLeft, epochCall}

@@ -11,8 +11,8 @@ use borrow.Author.Tests.{eqb-true}
 use Rattle.laws.specs.Floats.{zero64}
 use Rattle.laws.specs.Checks.{all, isTime, rising, degreeFine}
 use Rattle.laws.specs.Bools.{both-true}
-use Rattle.lent.specs.Lent.{scratchFits}
-use Rattle.lent.proofs.Passed.{AllPass, all-pass}
+use Rattle.inputs.specs.Inputs.{scratchFits}
+use Rattle.inputs.proofs.Passed.{AllPass, all-pass}
 use Rattle.slices.specs.declared.Counted.the-variants.{Counted as Filled, Refused as NotFilled}
 use Rattle.residuals.specs.declared.filling.Filled.{Filled as Count}
 use Rattle.residuals.specs.Inputs.{Inputs}

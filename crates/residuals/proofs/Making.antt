@@ -6,10 +6,10 @@ use lib.Ieee.{Float}
 use lib.ListN.{length, take}
 use Rattle.numbers.specs.Seconds.{wholeSecond}
 use Rattle.finality.specs.Tables.{find}
-use Rattle.sighting.specs.declared.Sighting.{Sighting}
-use Rattle.sighting.specs.declared.Made.{Made}
-use Rattle.sighting.specs.Kept.{states, numbers, epochBy, observation}
-use Rattle.sighting.specs.Work.{sightingOf, Usable, Tried as Seen}
+use Rattle.epoch.specs.declared.Sighting.{Sighting}
+use Rattle.epoch.specs.declared.Made.{Made}
+use Rattle.epoch.specs.Kept.{states, numbers, epochBy, observation}
+use Rattle.epoch.specs.Work.{sightingOf, Usable, Tried as Seen}
 use Rattle.residuals.specs.Inputs.{Inputs}
 use Rattle.residuals.specs.Work.{Tried}
 

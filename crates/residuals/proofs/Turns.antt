@@ -12,11 +12,11 @@ use Rattle.laws.specs.Checks.{all}
 use Rattle.laws.specs.Bools.{clash}
 use Rattle.laws.specs.Loops.{filled-none}
 use Rattle.finality.specs.Sheet.{Observation, keep, keptOf}
-use Rattle.epochs.specs.declared.Epoch.{Epoch}
-use Rattle.sighting.specs.declared.Made.{Made}
-use Rattle.sighting.specs.Kept.{observation}
-use Rattle.sighting.specs.Work.{madeOf}
-use Rattle.sighting.proofs.Kept.{seen as seenAt, kept-more as more-kept, kept-few as few-kept, kept-all as all-kept, set-more, filled-records}
+use Rattle.epoch_record.specs.declared.Epoch.{Epoch}
+use Rattle.epoch.specs.declared.Made.{Made}
+use Rattle.epoch.specs.Kept.{observation}
+use Rattle.epoch.specs.Work.{madeOf}
+use Rattle.epoch.proofs.Kept.{seen as seenAt, kept-more as more-kept, kept-few as few-kept, kept-all as all-kept, set-more, filled-records}
 use Rattle.residuals.specs.declared.filling.Filled.{Filled}
 use Rattle.residuals.specs.Inputs.{Inputs, epochOf}
 use Rattle.residuals.specs.Work.{Tried}

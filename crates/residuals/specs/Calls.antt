@@ -14,15 +14,15 @@ use Rattle.slices.specs.Calls.{Left, left}
 use Rattle.slices.specs.declared.Counted.{Counted}
 use Rattle.slices.specs.declared.Counted.the-variants.{Counted as Filled, Refused as NotFilled}
 use Rattle.finality.specs.Sheet.{Observation, keptOf}
-use Rattle.lent.specs.Lent.{firstOf, countsFine, modelFits, tablesFit, scratchFits, modelFine, keyedFine, rise}
-use Rattle.epochs.specs.declared.Epoch.{Epoch}
+use Rattle.inputs.specs.Inputs.{firstOf, countsFine, modelFits, tablesFit, scratchFits, modelFine, keyedFine, rise}
+use Rattle.epoch_record.specs.declared.Epoch.{Epoch}
 use Rattle.residuals.specs.declared.Verdict.{Verdict}
 use Rattle.residuals.specs.declared.Verdict.the-variants.{Kept, NotKept, Refused}
 use Rattle.residuals.specs.declared.EpochAnswer.{EpochAnswer}
 use Rattle.residuals.specs.Inputs.{Inputs, epochOf}
-use Rattle.sighting.specs.declared.Made.{Made}
-use Rattle.sighting.specs.Kept.{Keyed, observations}
-use Rattle.sighting.specs.Work.{noEpoch}
+use Rattle.epoch.specs.declared.Made.{Made}
+use Rattle.epoch.specs.Kept.{Keyed, observations}
+use Rattle.epoch.specs.Work.{noEpoch}
 
 -- ---- a verdict: document 01's number, 0 where nothing is refused, and whether the epoch is kept; its record stands beside it
 

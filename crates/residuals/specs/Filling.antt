@@ -9,10 +9,10 @@ use Rattle.finality.specs.Sheet.{keptOf}
 use Rattle.laws.specs.Checks.{all}
 use Rattle.laws.specs.Floats.{zero64}
 use Rattle.laws.specs.Loops.{cleared}
-use Rattle.epochs.specs.declared.Epoch.{Epoch}
-use Rattle.sighting.specs.declared.Made.{Made}
-use Rattle.sighting.specs.Kept.{observations}
-use Rattle.sighting.specs.Work.{Usable}
+use Rattle.epoch_record.specs.declared.Epoch.{Epoch}
+use Rattle.epoch.specs.declared.Made.{Made}
+use Rattle.epoch.specs.Kept.{observations}
+use Rattle.epoch.specs.Work.{Usable}
 use Rattle.residuals.specs.declared.filling.Filled.{Filled}
 use Rattle.residuals.specs.Inputs.{Inputs, epochOf}
 use Rattle.residuals.specs.Calls.{Lists, Sightings, lists, listsOf, epochFinite, keptIn}

@@ -3,9 +3,9 @@ use mathlib.Core.Option.{Option}
 use mathlib.Core.List.{List}
 use lib.Ieee.{Float}
 use Rattle.finality.specs.Sheet.{Observation}
-use Rattle.epochs.specs.declared.Epoch.{Epoch}
+use Rattle.epoch_record.specs.declared.Epoch.{Epoch}
 use Rattle.integrate.specs.Force.{Model}
-use Rattle.sighting.specs.Kept.{Keyed, states, numbers, epochBy}
+use Rattle.epoch.specs.Kept.{Keyed, states, numbers, epochBy}
 
 -- the time-variable model, the Legendre tables a and b, and for the satellites C and D their states, six numbers each, and their accelerometer values
 pub record Inputs : Type 0 where

@@ -6,11 +6,11 @@ use mathlib.Core.List.{List}
 use lib.Ieee.{Float}
 use lib.IntN.{ℤ}
 use lib.ListN.{length, take}
-use Rattle.lent.specs.Lent.{frontSize}
+use Rattle.inputs.specs.Inputs.{frontSize}
 use Rattle.laws.specs.Checks.{risingSeconds}
 use Rattle.finality.specs.Sheet.{Observation}
-use Rattle.sighting.specs.declared.Made.{Made}
-use Rattle.sighting.specs.Work.{madeOf, Usable}
+use Rattle.epoch.specs.declared.Made.{Made}
+use Rattle.epoch.specs.Work.{madeOf, Usable}
 use Rattle.residuals.specs.Inputs.{Inputs, epochOf}
 
 -- a list can be searched, and its rows' places fit

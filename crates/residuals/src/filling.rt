@@ -2,9 +2,9 @@
 ghost use mathlib.Core.Path.{_≡_};
 ghost use Prim.Native.Nat.{_+_, _<_};
 ghost use lib.ListN.{length};
-ghost use Rattle.lent.specs.Lent.{frontSize};
+ghost use Rattle.inputs.specs.Inputs.{frontSize};
 ghost use Rattle.integrate.specs.Force.{model};
-ghost use Rattle.sighting.specs.Kept.{keyed};
+ghost use Rattle.epoch.specs.Kept.{keyed};
 ghost use Rattle.residuals.specs.Inputs.{inputs};
 ghost use Rattle.residuals.specs.Work.{Searchable, Ready};
 ghost use Rattle.residuals.specs.Calls.{lists, sightings};
@@ -40,7 +40,7 @@ fn clear_vectors(list: &mut [[f64; 3]])
 
 // Stores a record at the next place, where it is kept.
 fn add(
-    made: sighting::Made,
+    made: epoch::Made,
     filled: Filled,
     outtimes: &mut [f64],
     outresiduals: &mut [f64],
@@ -247,9 +247,9 @@ pub(crate) fn fill(
     requires { ⌜ Ready degree (now ckeys) (now dkeys) (now cacckeys) (now dacckeys) (length (now w)) × (length (now obsvalues) ≡ length (now obstimes)) × (length (now good) ≡ length (now obstimes)) × Long (length (now obstimes)) (lists (now outtimes) (now outresiduals) (now outterms) (now outmids) (now outvels)) ⌝ }
     ensures { λ r. ⌜ Done (inputs (model degree (now (field .entry)) (now (times .entry)) (now (added .entry))) (now (a .entry)) (now (b .entry)) (keyed (now (ckeys .entry)) (now (cstates .entry))) (keyed (now (dkeys .entry)) (now (dstates .entry))) (keyed (now (cacckeys .entry)) (now (caccs .entry))) (keyed (now (dacckeys .entry)) (now (daccs .entry)))) (sightings (now (obstimes .entry)) (now (obsvalues .entry)) (now (good .entry))) r (lists (now (outtimes .exit)) (now (outresiduals .exit)) (now (outterms .exit)) (now (outmids .exit)) (now (outvels .exit))) ⌝ }
 {
-    let base = lent::front_size(degree);
+    let base = inputs::front_size(degree);
     clear_lists(outtimes, outresiduals, outterms, outmids, outvels);
-    sighting::open(degree, base, w);
+    epoch::open(degree, base, w);
     fill_from(
         degree,
         field,

@@ -8,7 +8,7 @@ ghost use mathlib.Core.List.{[]};
 ghost use lib.ListN.{length};
 ghost use Rattle.slices.specs.Calls.{left};
 ghost use Rattle.integrate.specs.Force.{model};
-ghost use Rattle.sighting.specs.Kept.{keyed, observation};
+ghost use Rattle.epoch.specs.Kept.{keyed, observation};
 ghost use Rattle.residuals.specs.Inputs.{inputs, epochOf};
 ghost use Rattle.residuals.specs.Work.{Ready};
 ghost use Rattle.residuals.specs.Calls.{epochRefusal, epochFinite, refused as refusedOf, answered, told, epochCall, samplesFit, residualsRefusal, lists, sightings, listsLeft, residualsCall};
@@ -22,7 +22,7 @@ pub enum Verdict {
 // The record is +0.0 in each place unless kept.
 pub struct EpochAnswer {
     pub verdict: Verdict,
-    pub epoch: epochs::Epoch,
+    pub epoch: epoch_record::Epoch,
 }
 
 // ---- what is refused
@@ -49,14 +49,14 @@ fn epoch_refusal(
     ensures { λ r. ⌜ r ≡ epochRefusal (inputs (model degree (now (field .entry)) (now (times .entry)) (now (added .entry))) (now (a .entry)) (now (b .entry)) (keyed (now (ckeys .entry)) (now (cstates .entry))) (keyed (now (dkeys .entry)) (now (dstates .entry))) (keyed (now (cacckeys .entry)) (now (caccs .entry))) (keyed (now (dacckeys .entry)) (now (daccs .entry)))) t observed scratch ⌝ }
 {
     let fields = times.len();
-    let counts = lent::counts_fine(
+    let counts = inputs::counts_fine(
         fields,
         ckeys.len(),
         dkeys.len(),
         cacckeys.len(),
         dacckeys.len(),
     );
-    let lists = lent::lists_fit(
+    let lists = inputs::lists_fit(
         degree,
         field,
         a,
@@ -72,8 +72,8 @@ fn epoch_refusal(
         dacckeys,
         daccs,
     );
-    let lengths = slices::both(lists, lent::scratch_fits(degree, fields, 0, scratch));
-    let rows = lent::rows_fine(
+    let lengths = slices::both(lists, inputs::scratch_fits(degree, fields, 0, scratch));
+    let rows = inputs::rows_fine(
         ckeys,
         cstates,
         dkeys,
@@ -83,14 +83,14 @@ fn epoch_refusal(
         dacckeys,
         daccs,
     );
-    let values = slices::both(lent::model_fine(field, a, b, times, added), rows);
+    let values = slices::both(inputs::model_fine(field, a, b, times, added), rows);
     let own = slices::both(slices::is_time(t), numbers::is_finite(observed));
-    lent::first_of(
-        lent::degree_fine(degree),
+    inputs::first_of(
+        inputs::degree_fine(degree),
         counts,
         lengths,
         slices::both(values, own),
-        lent::rise(times, ckeys, dkeys, cacckeys, dacckeys),
+        inputs::rise(times, ckeys, dkeys, cacckeys, dacckeys),
     )
 }
 
@@ -139,14 +139,14 @@ fn residuals_refusal(
 {
     let fields = times.len();
     let count = obstimes.len();
-    let counts = lent::counts_fine(
+    let counts = inputs::counts_fine(
         fields,
         ckeys.len(),
         dkeys.len(),
         cacckeys.len(),
         dacckeys.len(),
     );
-    let lists = lent::lists_fit(
+    let lists = inputs::lists_fit(
         degree,
         field,
         a,
@@ -162,8 +162,8 @@ fn residuals_refusal(
         dacckeys,
         daccs,
     );
-    let lengths = slices::both(lists, lent::scratch_fits(degree, fields, count, scratch));
-    let rows = lent::rows_fine(
+    let lengths = slices::both(lists, inputs::scratch_fits(degree, fields, count, scratch));
+    let rows = inputs::rows_fine(
         ckeys,
         cstates,
         dkeys,
@@ -173,11 +173,11 @@ fn residuals_refusal(
         dacckeys,
         daccs,
     );
-    let values = slices::both(lent::model_fine(field, a, b, times, added), rows);
+    let values = slices::both(inputs::model_fine(field, a, b, times, added), rows);
     let own = slices::both(slices::all_times(obstimes), slices::all_finite(obsvalues));
-    let rise = lent::rise(times, ckeys, dkeys, cacckeys, dacckeys);
-    lent::first_of(
-        lent::degree_fine(degree),
+    let rise = inputs::rise(times, ckeys, dkeys, cacckeys, dacckeys);
+    inputs::first_of(
+        inputs::degree_fine(degree),
         slices::both(counts, count <= 100000),
         slices::both(lengths, samples),
         slices::both(values, own),
@@ -187,7 +187,7 @@ fn residuals_refusal(
 
 // ---- what is handed out
 
-fn epoch_finite(e: epochs::Epoch) -> bool
+fn epoch_finite(e: epoch_record::Epoch) -> bool
     ensures { λ r. ⌜ r ≡ epochFinite e ⌝ }
 {
     let terms = e.terms;
@@ -206,13 +206,13 @@ fn epoch_finite(e: epochs::Epoch) -> bool
 fn refused(number: u8) -> EpochAnswer
     ensures { λ r. ⌜ r ≡ refusedOf number ⌝ }
 {
-    let nothing = sighting::no_epoch();
+    let nothing = epoch::no_epoch();
     let epoch = nothing.epoch;
     let verdict = Verdict::Refused(number);
     EpochAnswer { verdict, epoch }
 }
 
-fn judged(made: sighting::Made) -> EpochAnswer
+fn judged(made: epoch::Made) -> EpochAnswer
     ensures { λ r. ⌜ r ≡ told made ⌝ }
 {
     let epoch = made.epoch;
@@ -223,7 +223,7 @@ fn judged(made: sighting::Made) -> EpochAnswer
         }
         return refused(10);
     }
-    let nothing = sighting::no_epoch();
+    let nothing = epoch::no_epoch();
     let zeros = nothing.epoch;
     let verdict = Verdict::NotKept;
     EpochAnswer {
@@ -257,8 +257,8 @@ fn epoch_work(
     requires { ⌜ Ready degree (now ckeys) (now dkeys) (now cacckeys) (now dacckeys) (length (now scratch)) ⌝ }
     ensures { λ r. ⌜ (r ≡ answered (epochOf (inputs (model degree (now (field .entry)) (now (times .entry)) (now (added .entry))) (now (a .entry)) (now (b .entry)) (keyed (now (ckeys .entry)) (now (cstates .entry))) (keyed (now (dkeys .entry)) (now (dstates .entry))) (keyed (now (cacckeys .entry)) (now (caccs .entry))) (keyed (now (dacckeys .entry)) (now (daccs .entry)))) (observation t observed good))) × (length (now (scratch .exit)) ≡ length (now (scratch .entry))) ⌝ }
 {
-    let base = lent::front_size(degree);
-    sighting::open(degree, base, scratch);
+    let base = inputs::front_size(degree);
+    epoch::open(degree, base, scratch);
     let made = work::try_epoch(
         degree,
         field,

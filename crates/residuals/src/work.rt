@@ -5,12 +5,12 @@ ghost use lib.ListN.{length, take};
 ghost use Rattle.numbers.specs.Seconds.{wholeSecond};
 ghost use Rattle.finality.specs.Tables.{find as findIn};
 ghost use Rattle.integrate.specs.Force.{model};
-ghost use Rattle.sighting.specs.Kept.{states as statesOf, numbers as numbersOf, keyed, observation};
-ghost use Rattle.sighting.specs.Work.{givenState, sightingOf, Usable};
+ghost use Rattle.epoch.specs.Kept.{states as statesOf, numbers as numbersOf, keyed, observation};
+ghost use Rattle.epoch.specs.Work.{givenState, sightingOf, Usable};
 ghost use Rattle.residuals.specs.Inputs.{inputs};
 ghost use Rattle.residuals.specs.Work.{Searchable, Tried};
 
-fn find_state(keys: &[i64], states: &[f64], second: numbers::GpsSecond) -> sighting::StateFound
+fn find_state(keys: &[i64], states: &[f64], second: numbers::GpsSecond) -> epoch::StateFound
     requires { ⌜ Searchable (now keys) ⌝ }
     ensures { λ r. ⌜ r ≡ givenState (findIn (second .0) (statesOf (keyed (now (keys .entry)) (now (states .entry))))) ⌝ }
 {
@@ -19,9 +19,9 @@ fn find_state(keys: &[i64], states: &[f64], second: numbers::GpsSecond) -> sight
     match place {
         slices::Found::At(i) => {
             let state = integrate::kernel::state_in(states, 6 * i);
-            sighting::StateFound { there: true, state }
+            epoch::StateFound { there: true, state }
         }
-        slices::Found::Nothing => sighting::no_state(),
+        slices::Found::Nothing => epoch::no_state(),
     }
 }
 
@@ -36,16 +36,16 @@ fn look(
     dacckeys: &[i64],
     daccs: &[f64],
     t: f64,
-) -> sighting::Sighting
+) -> epoch::Sighting
     requires { ⌜ Searchable (now ckeys) × Searchable (now dkeys) × Searchable (now cacckeys) × Searchable (now dacckeys) ⌝ }
     ensures { λ r. ⌜ r ≡ sightingOf (findIn (wholeSecond t) (statesOf (keyed (now (ckeys .entry)) (now (cstates .entry))))) (findIn (wholeSecond t) (statesOf (keyed (now (dkeys .entry)) (now (dstates .entry))))) (findIn (wholeSecond t) (numbersOf (keyed (now (cacckeys .entry)) (now (caccs .entry))))) (findIn (wholeSecond t) (numbersOf (keyed (now (dacckeys .entry)) (now (daccs .entry))))) ⌝ }
 {
     let second = numbers::whole_second(numbers::GpsTime(t));
     let c = find_state(ckeys, cstates, second);
     let d = find_state(dkeys, dstates, second);
-    let axc = sighting::number_at(cacckeys, caccs, second);
-    let axd = sighting::number_at(dacckeys, daccs, second);
-    sighting::sighted(c, d, axc, axd)
+    let axc = epoch::number_at(cacckeys, caccs, second);
+    let axd = epoch::number_at(dacckeys, daccs, second);
+    epoch::sighted(c, d, axc, axd)
 }
 
 // An observation's record, if it is kept.
@@ -69,7 +69,7 @@ pub(crate) fn try_epoch(
     good: u8,
     base: usize,
     w: &mut [f64],
-) -> sighting::Made
+) -> epoch::Made
     requires { ⌜ Searchable (now ckeys) × Searchable (now dkeys) × Searchable (now cacckeys) × Searchable (now dacckeys) × (base ≤ length (now w)) × Usable (model degree (now field) (now times) (now added)) (take base (now w)) ⌝ }
     ensures { λ r. ⌜ Tried (inputs (model degree (now (field .entry)) (now (times .entry)) (now (added .entry))) (now (a .entry)) (now (b .entry)) (keyed (now (ckeys .entry)) (now (cstates .entry))) (keyed (now (dkeys .entry)) (now (dstates .entry))) (keyed (now (cacckeys .entry)) (now (caccs .entry))) (keyed (now (dacckeys .entry)) (now (daccs .entry)))) (observation t observed good) base (now (w .entry)) (now (w .exit)) r ⌝ }
 {
@@ -84,7 +84,7 @@ pub(crate) fn try_epoch(
         daccs,
         t,
     );
-    sighting::try_seen(
+    epoch::try_seen(
         degree,
         field,
         a,

@@ -12,8 +12,8 @@ use lib.ListN.{length}
 use borrow.Author.Tests.{leb-true, le-leb, eqb-true, eq-eqb}
 use Rattle.laws.specs.Checks.{all, isTime, rising, risingSeconds, degreeFine}
 use Rattle.laws.specs.Bools.{both-true, holds}
-use Rattle.lent.specs.Lent.{windowRoom, fitRoom, fieldSize, countsFine, modelFits, statesFit, tablesFit, leastScratch, wholeScratchFits, modelFine, keyedFine, rise, frontSize}
-use Rattle.lent.proofs.Passed.{all-pass, Few, counts-pass, Rise, rise-passes, states-pass, model-passes}
+use Rattle.inputs.specs.Inputs.{windowRoom, fitRoom, fieldSize, countsFine, modelFits, statesFit, tablesFit, leastScratch, wholeScratchFits, modelFine, keyedFine, rise, frontSize}
+use Rattle.inputs.proofs.Passed.{all-pass, Few, counts-pass, Rise, rise-passes, states-pass, model-passes}
 use Rattle.integrate.specs.Force.{model}
 use Rattle.integrate.proofs.Published.{sized-fits}
 use Rattle.windows.specs.Stage.{Setting}

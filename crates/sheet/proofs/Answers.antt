@@ -16,7 +16,7 @@ use Rattle.slices.proofs.Calls.{call-refused, call-handed}
 use Rattle.finality.specs.Kernels.{stagesOf}
 use Rattle.finality.specs.Sheet.{horizonOf, countTo, kept, times}
 use Rattle.horizon.specs.Horizon.{endsOf}
-use Rattle.epochs.specs.Epochs.{time}
+use Rattle.epoch_record.specs.EpochRecord.{time}
 use Rattle.windows.specs.Stage.{Setting}
 use Rattle.sheet.specs.Stages.{kernels}
 use Rattle.sheet.specs.Submission.{Lists, submissionOf}

@@ -11,8 +11,8 @@ use Rattle.finality.specs.Stages.{timeOf}
 use Rattle.finality.specs.Kernels.{stagesOf}
 use Rattle.finality.specs.Sheet.{obsTime, kept, times, detrended, passedValues, countTo, endsOf as submissionEnds}
 use Rattle.finality.specs.Detrending.{Sample, detrend}
-use Rattle.epochs.specs.declared.Epoch.{Epoch}
-use Rattle.epochs.specs.Epochs.{time, residual}
+use Rattle.epoch_record.specs.declared.Epoch.{Epoch}
+use Rattle.epoch_record.specs.EpochRecord.{time, residual}
 use Rattle.detrend.specs.Revolutions.{revolvedOf, removedOf}
 use Rattle.detrend.proofs.Split.{samplesOf, removed-split}
 use Rattle.filter.specs.Filter.{bandPass}

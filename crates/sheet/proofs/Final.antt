@@ -13,7 +13,7 @@ use lib.Dec.{T}
 use lib.IntN.{ℤ}
 use lib.ListN.{length, drop}
 use lib.Ieee.{Float}
-use Rattle.lent.specs.Lent.{fieldSize}
+use Rattle.inputs.specs.Inputs.{fieldSize}
 use Rattle.laws.specs.Checks.{all, isTime, rising, risingSeconds}
 use Rattle.laws.specs.Runs.{runsOf}
 use Rattle.finality.specs.Kernels.{stagesOf}

@@ -23,11 +23,11 @@ use Rattle.finality.specs.Sheet.{Observation, Submission, Valid, fieldIn, fitte
 use Rattle.finality.proofs.Keeping.{kept-same}
 use Rattle.integrate.specs.Force.{model}
 use Rattle.integrate.specs.declared.kernel.State.{State}
-use Rattle.epochs.specs.declared.Epoch.{Epoch}
+use Rattle.epoch_record.specs.declared.Epoch.{Epoch}
 use Rattle.windows.specs.Stage.{Setting, fieldGravity}
 use Rattle.windows.proofs.Meaning.{front-is}
-use Rattle.sighting.specs.Epoch.{epochWith}
-use Rattle.sighting.specs.Kept.{keyed, rowsFrom, numbers, recordAt, seenBy, epochBy, observations}
+use Rattle.epoch.specs.Epoch.{epochWith}
+use Rattle.epoch.specs.Kept.{keyed, rowsFrom, numbers, recordAt, seenBy, epochBy, observations}
 use Rattle.sheet.specs.Stages.{epochStage, kernels}
 use Rattle.sheet.specs.Submission.{Lists, submissionOf, valuesIn, observationsIn}
 use Rattle.sheet.proofs.Orbits.{ModelFits, field-is, covered-is}

@@ -6,7 +6,7 @@ use Rattle.finality.proofs.Assembled.{LawfulKernels}
 use Rattle.integrate.specs.declared.kernel.State.{State}
 use Rattle.windows.specs.Stage.{Setting, fieldGravity}
 use Rattle.windows.proofs.Lawful.{lawful-fit}
-use Rattle.sighting.proofs.Records.{epoch-time}
+use Rattle.epoch.proofs.Records.{epoch-time}
 use Rattle.detrend.proofs.Parts.{length-revolved}
 use Rattle.filter.proofs.Seam.{pass-length}
 use Rattle.sheet.specs.Stages.{epochStage, kernels}

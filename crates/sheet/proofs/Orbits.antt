@@ -14,7 +14,7 @@ use mathlib.Core.List.{append-assoc, append-nil}
 use lib.Ieee.{Float, nan, le, lt, ofInt}
 use lib.Ieee.Fits.{and-i}
 use lib.ListN.{replicate}
-use Rattle.lent.specs.Lent.{frontSize}
+use Rattle.inputs.specs.Inputs.{frontSize}
 use Rattle.laws.specs.Floats.{zero64, zero⁺}
 use Rattle.laws.specs.Lists.{All}
 use Rattle.laws.specs.Order.{lt-le-tr}
@@ -26,7 +26,7 @@ use Rattle.finality.specs.Arcs.{windowOf}
 use Rattle.finality.specs.Kernels.{stagesOf}
 use Rattle.finality.specs.Sheet.{orbits, coveredIn, fieldIn}
 use Rattle.finality.proofs.Fits.{starts, ends, rises, leaves}
-use Rattle.series.specs.Prepared.{prepared}
+use Rattle.legendre.specs.Prepared.{prepared}
 use Rattle.model.specs.Model.{fieldAt}
 use Rattle.model.specs.Calls.{atFits}
 use Rattle.model.proofs.Stages.{timed-times, field-bracketed}
@@ -36,8 +36,8 @@ use Rattle.fit.specs.Fit.{stateFor}
 use Rattle.windows.specs.Stage.{Setting, fitStage, statesIn}
 use Rattle.windows.specs.Windows.{windowBy, Ends}
 use Rattle.windows.proofs.Lawful.{lawful-fit}
-use Rattle.windows.proofs.Whole.{window-is}
-use Rattle.shelf.specs.Shelf.{joined, Orderly}
+use Rattle.windows.proofs.StageWindows.{window-is}
+use Rattle.slots.specs.LookUp.{joined, Orderly}
 use Rattle.sheet.specs.Stages.{kernels}
 use Rattle.sheet.specs.Submission.{Lists, submissionOf}
 

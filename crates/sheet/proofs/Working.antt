@@ -9,7 +9,7 @@ use lib.IntN.{ℤ}
 use lib.ListN.{length, take, getD, length-map}
 use lib.Ieee.{Float, nan, lt}
 use borrow.Author.Tests.{le-leb, eqb-true, eq-eqb}
-use Rattle.lent.specs.Lent.{windowRoom, frontSize}
+use Rattle.inputs.specs.Inputs.{windowRoom, frontSize}
 use Rattle.laws.specs.Floats.{zero64}
 use Rattle.laws.specs.Bools.{both-true}
 use Rattle.laws.specs.Loops.{filled-length, filled-front}
@@ -18,20 +18,20 @@ use Rattle.finality.specs.Brackets.{covers}
 use Rattle.finality.specs.Kernels.{stagesOf}
 use Rattle.finality.specs.Sheet.{Submission, published, coveredIn, fieldIn, fitted, epochOf, obsTime, kept, keptOf}
 use Rattle.finality.proofs.Keeping.{kept-length}
-use Rattle.epochs.specs.Epochs.{time, residual}
-use Rattle.epochs.specs.declared.Epoch.{Epoch}
+use Rattle.epoch_record.specs.EpochRecord.{time, residual}
+use Rattle.epoch_record.specs.declared.Epoch.{Epoch}
 use Rattle.detrend.specs.Revolutions.{removedOf}
 use Rattle.filter.specs.Filter.{bandPass}
 use Rattle.integrate.specs.Force.{model, fullForce}
 use Rattle.integrate.specs.declared.kernel.State.{State}
 use Rattle.fit.specs.Fit.{stateFor}
-use Rattle.sighting.specs.Kept.{keyed, numbers, epochBy, observations}
+use Rattle.epoch.specs.Kept.{keyed, numbers, epochBy, observations}
 use Rattle.windows.specs.Stage.{Setting, statesIn}
 use Rattle.windows.specs.Slots.{Slot}
 use Rattle.windows.specs.Windows.{slotAt, windowBy, windowsServe, Ends}
 use Rattle.windows.proofs.Filling.{served}
-use Rattle.shelf.specs.Shelf.{joined, Shelved, BothFit}
-use Rattle.gather.specs.Gather.{Given, given, keptIn, gatherServes, Listed, Gathered}
+use Rattle.slots.specs.LookUp.{joined, Shelved, BothFit}
+use Rattle.kept_epochs.specs.KeptEpochs.{Given, given, keptIn, gatherServes, Listed, Gathered}
 use Rattle.columns.specs.Columns.{columnsServe, ColumnsFilled}
 use Rattle.sheet.specs.Stages.{kernels}
 use Rattle.sheet.specs.Submission.{Lists, submissionOf}

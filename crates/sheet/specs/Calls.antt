@@ -13,7 +13,7 @@ use Rattle.laws.specs.Checks.{all, isTime, rising, degreeFine}
 use Rattle.slices.specs.Calls.{Left, settled}
 use Rattle.finality.specs.Kernels.{stagesOf}
 use Rattle.finality.specs.Sheet.{sheet, kept, final}
-use Rattle.lent.specs.Lent.{firstOf, countsFine, modelFits, tablesFit, wholeScratchFits, modelFine, keyedFine, rise}
+use Rattle.inputs.specs.Inputs.{firstOf, countsFine, modelFits, tablesFit, wholeScratchFits, modelFine, keyedFine, rise}
 use Rattle.windows.specs.Stage.{Setting}
 use Rattle.sheet.specs.Stages.{kernels}
 use Rattle.sheet.specs.Submission.{Lists, submissionOf}

@@ -5,9 +5,9 @@ use Rattle.finality.specs.Kernels.{Kernels}
 use Rattle.model.specs.Stages.{combinedField, blendFields}
 use Rattle.integrate.specs.declared.kernel.State.{State}
 use Rattle.windows.specs.Stage.{Setting, fieldGravity, fitStage}
-use Rattle.epochs.specs.declared.Epoch.{Epoch}
-use Rattle.epochs.specs.Epochs.{time, residual}
-use Rattle.sighting.specs.Epoch.{epochWith}
+use Rattle.epoch_record.specs.declared.Epoch.{Epoch}
+use Rattle.epoch_record.specs.EpochRecord.{time, residual}
+use Rattle.epoch.specs.Epoch.{epochWith}
 use Rattle.detrend.specs.Revolutions.{revolvedOf}
 use Rattle.filter.specs.Filter.{pass}
 

@@ -8,7 +8,7 @@ use lib.Dec.{T, eqb}
 use lib.IntN.{ℤ}
 use lib.ListN.{length, drop, getD}
 use lib.Ieee.{Float, nan}
-use Rattle.lent.specs.Lent.{fieldSize}
+use Rattle.inputs.specs.Inputs.{fieldSize}
 use Rattle.finality.specs.Tables.{Table}
 use Rattle.finality.specs.Kernels.{stagesOf}
 use Rattle.finality.specs.Sheet.{Observation, Submission, Begins}

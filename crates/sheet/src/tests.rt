@@ -19,7 +19,7 @@ fn counts_allowed(
     ensures { λ r. ⌜ r ≡ countsAllowed fields c d cacc dacc nodes observations ⌝ }
 {
     slices::both(
-        lent::counts_fine(fields, c, d, cacc, dacc),
+        inputs::counts_fine(fields, c, d, cacc, dacc),
         slices::both(nodes <= 64, observations <= 100000),
     )
 }
@@ -62,7 +62,7 @@ fn lengths_agree(
 ) -> bool
     ensures { λ r. ⌜ r ≡ lengthsAgree (setting degree (now (field .entry)) (now (a .entry)) (now (b .entry))) (lists (now (times .entry)) (now (added .entry)) (now (ckeys .entry)) (now (cstates .entry)) (now (dkeys .entry)) (now (dstates .entry)) (now (cacckeys .entry)) (now (caccs .entry)) (now (dacckeys .entry)) (now (daccs .entry)) (now (nodes .entry)) (now (obstimes .entry)) (now (obsvalues .entry)) (now (good .entry))) outputs room ⌝ }
 {
-    let lists = lent::lists_fit(
+    let lists = inputs::lists_fit(
         degree,
         field,
         a,
@@ -80,7 +80,7 @@ fn lengths_agree(
     );
     let m = obstimes.len();
     let observed = slices::both(obsvalues.len() == m, good.len() == m);
-    let scratch = lent::whole_scratch_fits(degree, times.len(), nodes.len(), m, room);
+    let scratch = inputs::whole_scratch_fits(degree, times.len(), nodes.len(), m, room);
     slices::both(
         lists,
         slices::both(slices::both(observed, outputs), scratch),
@@ -109,7 +109,7 @@ fn numbers_fine(
 ) -> bool
     ensures { λ r. ⌜ r ≡ numbersFine (setting degree (now (field .entry)) (now (a .entry)) (now (b .entry))) (lists (now (times .entry)) (now (added .entry)) (now (ckeys .entry)) (now (cstates .entry)) (now (dkeys .entry)) (now (dstates .entry)) (now (cacckeys .entry)) (now (caccs .entry)) (now (dacckeys .entry)) (now (daccs .entry)) (now (nodes .entry)) (now (obstimes .entry)) (now (obsvalues .entry)) (now (good .entry))) ⌝ }
 {
-    let rows = lent::rows_fine(
+    let rows = inputs::rows_fine(
         ckeys,
         cstates,
         dkeys,
@@ -119,7 +119,7 @@ fn numbers_fine(
         dacckeys,
         daccs,
     );
-    let lists = slices::both(lent::model_fine(field, a, b, times, added), rows);
+    let lists = slices::both(inputs::model_fine(field, a, b, times, added), rows);
     let observed = slices::both(slices::all_times(obstimes), slices::all_finite(obsvalues));
     slices::both(lists, slices::both(slices::all_times(nodes), observed))
 }
@@ -136,7 +136,7 @@ fn lists_rise(
     ensures { λ r. ⌜ r ≡ listsRise (now (times .entry)) (now (ckeys .entry)) (now (dkeys .entry)) (now (cacckeys .entry)) (now (dacckeys .entry)) (now (nodes .entry)) (now (obstimes .entry)) ⌝ }
 {
     slices::both(
-        lent::rise(times, ckeys, dkeys, cacckeys, dacckeys),
+        inputs::rise(times, ckeys, dkeys, cacckeys, dacckeys),
         slices::both(slices::rising(nodes), slices::rising(obstimes)),
     )
 }
@@ -218,5 +218,5 @@ pub(crate) fn refusal(
         good,
     );
     let order = lists_rise(times, ckeys, dkeys, cacckeys, dacckeys, nodes, obstimes);
-    lent::first_of(lent::degree_fine(degree), counts, lengths, values, order)
+    inputs::first_of(inputs::degree_fine(degree), counts, lengths, values, order)
 }

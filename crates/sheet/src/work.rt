@@ -44,7 +44,7 @@ pub(crate) fn work(
     requires { ⌜ sheetRefusal (setting degree (now field) (now a) (now b)) (lists (now times) (now added) (now ckeys) (now cstates) (now dkeys) (now dstates) (now cacckeys) (now caccs) (now dacckeys) (now daccs) (now nodes) (now obstimes) (now obsvalues) (now good)) (now outtimes ∷ now outraws ∷ now outdetrended ∷ now outpassed ∷ []) (length (now s)) ≡ 0 ⌝ }
     ensures { λ r. ⌜ Worked (setting degree (now (field .entry)) (now (a .entry)) (now (b .entry))) (lists (now (times .entry)) (now (added .entry)) (now (ckeys .entry)) (now (cstates .entry)) (now (dkeys .entry)) (now (dstates .entry)) (now (cacckeys .entry)) (now (caccs .entry)) (now (dacckeys .entry)) (now (daccs .entry)) (now (nodes .entry)) (now (obstimes .entry)) (now (obsvalues .entry)) (now (good .entry))) r (now (outtimes .exit) ∷ now (outraws .exit) ∷ now (outdetrended .exit) ∷ now (outpassed .exit) ∷ []) (now (s .entry)) (now (s .exit)) ⌝ }
 {
-    shelf::fill(
+    slots::fill(
         degree,
         field,
         a,
@@ -59,7 +59,7 @@ pub(crate) fn work(
         s,
     );
     let windows = windows_of(nodes.len());
-    let kept = gather::gather(
+    let kept = kept_epochs::gather(
         degree,
         field,
         a,

@@ -1,4 +1,4 @@
-// The sheet of one submission: its text on standard input, line by line (crate `reading`), and the sheet on standard output. `answer` decides what is printed.
+// The sheet of one submission: its text on standard input, line by line (crate `submission_text`), and the sheet on standard output. `answer` decides what is printed.
 ghost use mathlib.Core.Path.{_≡_};
 ghost use mathlib.Core.List.{_++_, _∷_, []};
 ghost use Prim.Native.Nat.{_+_, _*_, _/_, _%_, _≤_, _<_, min};
@@ -7,15 +7,15 @@ ghost use lib.IntN.{pos};
 ghost use lib.Ieee.{nan};
 ghost use Rattle.io.specs.Counts.{Counts};
 ghost use Rattle.hex.specs.Digits.{decimalOf};
-ghost use Rattle.reading.specs.Text.{coefficients};
+ghost use Rattle.submission_text.specs.Text.{coefficients};
 ghost use Rattle.hex.specs.Printing.{refusedText, Printed};
 ghost use Rattle.sheet_program.specs.Text.{numberAt, wholeAt, countAt, nextAt, keyAt, byteAt, floatsFrom, keysFrom, bytesFrom, placesOf, Near, headText, termText, rowText, rowsText};
 use hex;
 use io;
-use reading;
-use series;
+use legendre;
 use sheet;
 use slices;
+use submission_text;
 
 // ---- what the numbers of a text say
 
@@ -543,11 +543,11 @@ fn with_states(
 }
 
 // A Legendre table of n terms, or as many as out has.
-fn table_in<'a>(f: series::Factor, degree: usize, n: usize, out: &'a mut [f64]) -> &'a [f64]
+fn table_in<'a>(f: legendre::Factor, degree: usize, n: usize, out: &'a mut [f64]) -> &'a [f64]
     ensures { λ r. ⌜ length (now r) ≡ min n (length (now (out .entry))) ⌝ }
 {
     let m = least(n, out.len());
-    series::tabulate(f, degree, &mut out[0..m]);
+    legendre::tabulate(f, degree, &mut out[0..m]);
     let terms = &out[..];
     &terms[0..m]
 }
@@ -565,8 +565,8 @@ fn with_tables(
 {
     let mut x = [0.0; 91];
     let mut y = [0.0; 91];
-    let a = table_in(series::Factor::RecursionA, degree, c / 2, &mut x);
-    let b = table_in(series::Factor::RecursionB, degree, c / 2, &mut y);
+    let a = table_in(legendre::Factor::RecursionA, degree, c / 2, &mut x);
+    let b = table_in(legendre::Factor::RecursionB, degree, c / 2, &mut y);
     with_states(p, degree, field, a, b, times, added, scratch);
 }
 
@@ -585,7 +585,7 @@ fn with_fields(p: Places, degree: usize, c: usize, scratch: &mut [f64])
 }
 
 // Answers a text that was read.
-fn answer(at: reading::Reading, scratch: &mut [f64]) {
+fn answer(at: submission_text::Reading, scratch: &mut [f64]) {
     let fault = at.fault;
     let section = at.section;
     let degree = at.degree;
@@ -597,7 +597,7 @@ fn answer(at: reading::Reading, scratch: &mut [f64]) {
         say_refusal(11);
         return;
     }
-    let c = reading::coefficients(degree);
+    let c = submission_text::coefficients(degree);
     let p = places_in(&scratch[..], c);
     with_fields(p, degree, c, scratch);
 }
@@ -638,13 +638,13 @@ fn read_line(length: usize, line: &mut [u8]) -> usize
 }
 
 // Reads the input to its end, or to its first fault. The turns are more than a submission has lines.
-fn read_all(numbers: &mut [f64]) -> reading::Reading {
+fn read_all(numbers: &mut [f64]) -> submission_text::Reading {
     let mut line = [0u8; 3145];
     let mut turns: usize = 100000;
-    let mut at = reading::start();
+    let mut at = submission_text::start();
     while 0 < turns {
-        let n = read_line(reading::line_length(at), &mut line);
-        at = reading::feed(&line[..n], at, numbers);
+        let n = read_line(submission_text::line_length(at), &mut line);
+        at = submission_text::feed(&line[..n], at, numbers);
         if at.fault != 0 {
             return at;
         }

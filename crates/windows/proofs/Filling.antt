@@ -12,7 +12,7 @@ use lib.Seq.{getD-set-same, getD-set-other}
 use lib.Ieee.Fits.{and-l, and-r}
 use lib.Ieee.Bits.{is-true}
 use borrow.Author.Tests.{le-leb, lt-leb, eq-eqb, eqb-true, eqb-false}
-use Rattle.lent.specs.Lent.{windowRoom, slotRoom, fitRoom, frontSize}
+use Rattle.inputs.specs.Inputs.{windowRoom, slotRoom, fitRoom, frontSize}
 use Rattle.laws.specs.Floats.{_⊖_}
 use Rattle.laws.specs.Checks.{all, isTime, rising, risingSeconds, time-says}
 use Rattle.laws.specs.Order.{lt→le}

@@ -1,8 +1,8 @@
 pub mod Lawful
-pub mod Wholes
+pub mod CutNumbers
 pub mod Times
 pub mod Arcs
-pub mod Shelves
+pub mod SlotStates
 pub mod Filling
 pub mod Meaning
-pub mod Whole
+pub mod StageWindows

@@ -9,7 +9,7 @@ use lib.IntN.{ℤ}
 use lib.Signed.{ltZ}
 use lib.Ieee.{Float, nan}
 use lib.ListN.{length, getD, drop, replicate, length-replicate}
-use Rattle.lent.specs.Lent.{frontSize}
+use Rattle.inputs.specs.Inputs.{frontSize}
 use Rattle.laws.specs.Floats.{zero64}
 use Rattle.laws.specs.Tables.{tri, rows}
 use Rattle.laws.specs.Times.{second}
@@ -17,10 +17,10 @@ use Rattle.laws.specs.Bools.{by}
 use Rattle.numbers.specs.Seconds.{isHeld, wholeSecond}
 use Rattle.vectors.specs.Vector.{plus}
 use Rattle.vectors.specs.declared.Vector.{Vector}
-use Rattle.series.specs.Legendre.{aOf, bOf}
-use Rattle.series.specs.Prepared.{prepared}
-use Rattle.series.proofs.Published.{prepared-prepared}
-use Rattle.tide.specs.Gravity.{gravityOf}
+use Rattle.legendre.specs.Legendre.{aOf, bOf}
+use Rattle.legendre.specs.Prepared.{prepared}
+use Rattle.legendre.proofs.Published.{prepared-prepared}
+use Rattle.solid_tide.specs.Gravity.{gravityOf}
 use Rattle.forces.specs.Forces.{gravityWith, tidesOf}
 use Rattle.forces.proofs.Published.{front-published}
 use Rattle.model.specs.Field.{gm, radius}

@@ -8,7 +8,7 @@ use lib.Dec.{leb}
 use lib.IntN.{ℤ}
 use lib.ListN.{drop, replicate}
 use lib.Ieee.{Float}
-use Rattle.lent.specs.Lent.{frontSize}
+use Rattle.inputs.specs.Inputs.{frontSize}
 use Rattle.laws.specs.Floats.{zero64}
 use Rattle.laws.specs.Tables.{tri, row}
 use Rattle.laws.specs.Times.{second}
@@ -16,7 +16,7 @@ use Rattle.finality.specs.Tables.{Table}
 use Rattle.finality.specs.Arcs.{Arc, Fit}
 use Rattle.vectors.specs.Vector.{plus}
 use Rattle.vectors.specs.declared.Vector.{Vector}
-use Rattle.series.specs.Prepared.{prepared}
+use Rattle.legendre.specs.Prepared.{prepared}
 use Rattle.forces.specs.Forces.{gravityWith, tidesOf}
 use Rattle.model.specs.Field.{gm, radius}
 use Rattle.integrate.specs.Room.{Run, stateIn}

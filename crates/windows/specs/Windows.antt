@@ -8,7 +8,7 @@ use lib.Dec.{T, leb, eqb}
 use lib.IntN.{ℤ}
 use lib.Ieee.{Float, nan, lt}
 use lib.ListN.{length, getD}
-use Rattle.lent.specs.Lent.{windowRoom, slotRoom, fitRoom, frontSize}
+use Rattle.inputs.specs.Inputs.{windowRoom, slotRoom, fitRoom, frontSize}
 use Rattle.laws.specs.Floats.{zero64, _⊖_}
 use Rattle.laws.specs.Checks.{all, isTime, rising, risingSeconds}
 use Rattle.laws.specs.Times.{Time}

@@ -13,7 +13,7 @@ ghost use Rattle.numbers.specs.Seconds.{wholeSecond};
 ghost use Rattle.finality.specs.Arcs.{start, steps, longest, inside};
 ghost use Rattle.laws.specs.Tables.{row};
 ghost use Rattle.finality.specs.Brackets.{covers};
-ghost use Rattle.lent.specs.Lent.{windowRoom, slotRoom, fitRoom, frontSize};
+ghost use Rattle.inputs.specs.Inputs.{windowRoom, slotRoom, fitRoom, frontSize};
 ghost use Rattle.integrate.specs.Force.{model, fullForce};
 ghost use Rattle.integrate.specs.Room.{runSize, Run, stateIn};
 ghost use Rattle.fit.specs.Fit.{stateFor};
@@ -294,7 +294,7 @@ fn fit_each(
             nodes[w + 1],
             s,
             base,
-            first + lent::WINDOW_ROOM * w,
+            first + inputs::WINDOW_ROOM * w,
         );
         w += 1;
     }
@@ -307,11 +307,11 @@ fn room_for(degree: usize, nodes: usize, room: usize) -> bool
     if degree > 180 {
         return false;
     }
-    let base = lent::front_size(degree) + lent::FIT_ROOM;
+    let base = inputs::front_size(degree) + inputs::FIT_ROOM;
     if base > room {
         return false;
     }
-    nodes <= (room - base) / lent::WINDOW_ROOM + 1
+    nodes <= (room - base) / inputs::WINDOW_ROOM + 1
 }
 
 fn windows_serve(
@@ -352,7 +352,7 @@ pub fn fit_windows(
     ensures { λ r. ⌜ WindowsFit (windowsServe degree (now (keys .entry)) (length (now (states .entry))) (now (nodes .entry)) satellite (length (now (s .entry)))) (windowBy (covers (now (times .entry))) (fullForce (model degree (now (field .entry)) (now (times .entry)) (now (added .entry))) (now (a .entry)) (now (b .entry))) (stateFor (now (keys .entry)) (now (states .entry)))) (now (nodes .entry)) (now (s .entry)) (now (s .exit)) (frontSize degree) satellite r ⌝ }
 {
     if windows_serve(degree, keys, states.len(), nodes, satellite, s.len()) {
-        let base = lent::front_size(degree);
+        let base = inputs::front_size(degree);
         fit_each(
             degree,
             field,
@@ -365,7 +365,7 @@ pub fn fit_windows(
             nodes,
             s,
             base,
-            base + lent::FIT_ROOM + lent::SLOT_ROOM * satellite,
+            base + inputs::FIT_ROOM + inputs::SLOT_ROOM * satellite,
         );
         return true;
     }

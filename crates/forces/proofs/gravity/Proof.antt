@@ -1,7 +1,7 @@
 -- `forces::gravity` meets its contract. Assumes nothing.
 use mathlib.Core.Path.{_≡_}
 use Prim.Native.Nat.{_+_, _*_}
-use Rattle.series.specs.Field.{size, Fits}
+use Rattle.legendre.specs.Field.{size, Fits}
 use lib.ListN.{length}
 use Rattle.forces.proofs.FieldGravity.{gravity-fits, gravity-refused, gravity-answered}
 use borrow.Author.Needs.{needs}

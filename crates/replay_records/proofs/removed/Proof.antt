@@ -47,23 +47,23 @@ use denote.Triple.Clauses.{ensured, lasts}
 use denote.Triple.Table.{entered, cited}
 use denote.Triple.Walked.{says, needs, Stays, stay-slice, stay-none-slice, stay-dropped, walkOf, AllGo, goes-slice, goes-none-slice, goes-dropped, Walks, ends-at, walked, walk-meets}
 use denote.Exit.{yes}
-use Rattle.epochs.specs.declared.Epoch.{Epoch}
+use Rattle.epoch_record.specs.declared.Epoch.{Epoch}
 use Rattle.slices.specs.declared.Outcome.{Outcome}
-use Rattle.records.specs.Calls.{LeftRecords, leftRecords, removeCall}
-use Rattle.records.proofs.Again.{LentAgain}
-use Rattle.records.proofs.Lent.{lends-mut, mut-back}
-use Rattle.epochs.proofs.Epoch as T
-use Rattle.epochs.proofs.Epoch.Laws as T′
+use Rattle.record_detrending.specs.Calls.{LeftRecords, leftRecords, removeCall}
+use Rattle.record_detrending.proofs.Again.{LentAgain}
+use Rattle.record_detrending.proofs.Lent.{lends-mut, mut-back}
+use Rattle.epoch_record.proofs.Epoch as T
+use Rattle.epoch_record.proofs.Epoch.Laws as T′
 use Rattle.slices.proofs.Outcome as U
 use Rattle.slices.proofs.Outcome.Laws as U′
 use Rattle.replay_records.specs.declared.Left.{Left}
 use Rattle.replay_records.proofs.Left as L
 use Rattle.replay_records.proofs.Left.Laws as L′
 use Rattle.replay_records.proofs.Owned.{Kept, lends-head, head-back}
-use Rattle.records.proofs.remove_per_revolution as call
-use Rattle.records.proofs.remove_per_revolution.Symbol as call-def
-use Rattle.records.proofs.remove_per_revolution.Symbol.{name as #call}
-use Rattle.records.proofs.remove_per_revolution.Met as call-thm
+use Rattle.record_detrending.proofs.remove_per_revolution as call
+use Rattle.record_detrending.proofs.remove_per_revolution.Symbol as call-def
+use Rattle.record_detrending.proofs.remove_per_revolution.Symbol.{name as #call}
+use Rattle.record_detrending.proofs.remove_per_revolution.Met as call-thm
 use Rattle.replay_records.proofs.removed.Key.{name as #removed}
 use Rattle.replay_records.proofs.removed as f
 use Rattle.replay_records.proofs.removed.Statement as stated
@@ -287,4 +287,4 @@ removed-spec 𝓤 H 𝓜 𝓖 𝓡 =
     entered 𝓤 H (tripleOf 𝓤 H (𝓖 .A) f.signature (f.spec 𝓤 H (𝓖 .A) (𝓜 .mem) (𝓡 .run)))
     (tables 𝓤 H 𝓜 𝓡 code.env .C) (tables 𝓤 H 𝓜 𝓡 code.env .Λ) #removed code.function (code.unfolded 𝓤 H 𝓜 𝓡)
     (removed-meets 𝓤 H (𝓖 .A) (givenOf 𝓤 H 𝓜 𝓖) (𝓜 .mem) (𝓡 .run) (tablesOf 𝓤 H 𝓜 (tables 𝓤 H 𝓜 𝓡 code.env))
-    (cited 𝓤 H (Removal 𝓤 H (𝓖 .A) (𝓜 .mem) (𝓡 .run)) 𝓜 𝓡 code.env #call call-def.routine code.calls-records·remove-per-revolution (call-thm.met 𝓤 H 𝓜 𝓖 𝓡)))
+    (cited 𝓤 H (Removal 𝓤 H (𝓖 .A) (𝓜 .mem) (𝓡 .run)) 𝓜 𝓡 code.env #call call-def.routine code.calls-record-detrending·remove-per-revolution (call-thm.met 𝓤 H 𝓜 𝓖 𝓡)))

@@ -1,5 +1,5 @@
 use Rattle.integrate.specs.Force.{model}
-use Rattle.sighting.specs.Kept.{keyed, observation}
+use Rattle.epoch.specs.Kept.{keyed, observation}
 use Rattle.residuals.specs.Inputs.{inputs}
 use Rattle.residuals.proofs.Answers.{epoch-refused, epoch-ready, epoch-answered}
 use borrow.Author.Needs.{needs}

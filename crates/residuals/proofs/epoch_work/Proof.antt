@@ -1,8 +1,8 @@
 use mathlib.Core.Path.{_≡_, _∙_}
 use native.Mathlib.Omega.{arith}
-use Rattle.lent.specs.Lent.{frontSize}
+use Rattle.inputs.specs.Inputs.{frontSize}
 use Rattle.integrate.specs.Force.{model}
-use Rattle.sighting.specs.Kept.{keyed, observation}
+use Rattle.epoch.specs.Kept.{keyed, observation}
 use Rattle.residuals.specs.Inputs.{inputs}
 use Rattle.residuals.proofs.Answers.{work-answers}
 use borrow.Author.Needs.{needs}

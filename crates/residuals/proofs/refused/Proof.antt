@@ -1,5 +1,5 @@
 use mathlib.Core.Path.{ap}
-use Rattle.sighting.specs.declared.Made.{Made}
+use Rattle.epoch.specs.declared.Made.{Made}
 use Rattle.residuals.specs.declared.Verdict.the-variants.{Refused}
 use borrow.Author.Needs.{needs}
 use Rattle.residuals.proofs.refused.Statement.{statement}

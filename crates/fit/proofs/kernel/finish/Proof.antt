@@ -1,4 +1,4 @@
-use Rattle.fit.proofs.Whole.{finished}
+use Rattle.fit.proofs.WholeFit.{finished}
 use Rattle.integrate.specs.Force.{model}
 use native.Mathlib.Omega.{arith}
 use Prim.Native.Nat.{_+_, _*_, _-_}

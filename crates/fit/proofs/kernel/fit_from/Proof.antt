@@ -1,4 +1,4 @@
-use Rattle.fit.proofs.Whole.{first-bad, second-bad, both-good}
+use Rattle.fit.proofs.WholeFit.{first-bad, second-bad, both-good}
 use Rattle.integrate.specs.Force.{model, fullForce}
 use native.Mathlib.Omega.{arith}
 use borrow.Author.Tests.{not-true, not-false}

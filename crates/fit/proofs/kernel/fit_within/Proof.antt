@@ -1,4 +1,4 @@
-use Rattle.fit.proofs.Whole.{first-uncovered, last-uncovered, few, no-start, started}
+use Rattle.fit.proofs.WholeFit.{first-uncovered, last-uncovered, few, no-start, started}
 use Rattle.fit.specs.Fit.{stateFor}
 use Rattle.finality.specs.Brackets.{covers}
 use Rattle.integrate.specs.Force.{model, fullForce}

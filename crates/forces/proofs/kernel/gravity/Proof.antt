@@ -1,5 +1,5 @@
 use Rattle.numbers.specs.Numbers.{sineCosine}
-use Rattle.tide.specs.Gravity.{gradient}
+use Rattle.solid_tide.specs.Gravity.{gradient}
 use Rattle.forces.specs.Forces.{gravityWith}
 use borrow.Author.Needs.{needs}
 use Rattle.forces.proofs.kernel.gravity.Statement.{statement}

@@ -1,4 +1,4 @@
-use Rattle.integrate.proofs.Laws.{accelerated}
+use Rattle.integrate.proofs.ForceAndStep.{accelerated}
 use Rattle.integrate.specs.Force.{model}
 use borrow.Author.Needs.{needs}
 use Rattle.integrate.proofs.kernel.acceleration.Statement.{statement}

@@ -1,4 +1,4 @@
-use Rattle.integrate.proofs.Laws.{advanced}
+use Rattle.integrate.proofs.ForceAndStep.{advanced}
 use Rattle.integrate.specs.Force.{model, accelerationOf, attractionOf}
 use borrow.Author.Needs.{needs}
 use Rattle.integrate.proofs.kernel.advance.Statement.{statement}

@@ -1,4 +1,4 @@
-use Rattle.integrate.proofs.Laws.{full-chosen, j2-chosen}
+use Rattle.integrate.proofs.ForceAndStep.{full-chosen, j2-chosen}
 use borrow.Author.Needs.{needs}
 use Rattle.integrate.proofs.kernel.attraction.Statement.{statement}
 use Rattle.integrate.proofs.kernel.attraction.Tie as tie

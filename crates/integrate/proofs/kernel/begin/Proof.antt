@@ -1,4 +1,4 @@
-use Rattle.integrate.proofs.Laws.{begun-j2}
+use Rattle.integrate.proofs.ForceAndStep.{begun-j2}
 use borrow.Author.Needs.{needs}
 use Rattle.integrate.proofs.kernel.begin.Statement.{statement}
 use Rattle.integrate.proofs.kernel.begin.Tie as tie

@@ -2,7 +2,7 @@ use mathlib.Core.Path.{ap, _∙_}
 use mathlib.Core.List.{List}
 use lib.Ieee.{Float}
 use Rattle.model.specs.Calls.{atLeft}
-use Rattle.series.specs.Prepared.{prepared}
+use Rattle.legendre.specs.Prepared.{prepared}
 use borrow.Author.Needs.{needs}
 use Rattle.integrate.proofs.kernel.fill.Statement.{statement}
 use Rattle.integrate.proofs.kernel.fill.Tie as tie

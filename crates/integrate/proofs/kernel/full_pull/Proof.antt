@@ -1,4 +1,4 @@
-use Rattle.integrate.proofs.Laws.{pulled}
+use Rattle.integrate.proofs.ForceAndStep.{pulled}
 use native.Mathlib.Omega.{arith}
 use borrow.Author.Needs.{needs}
 use Rattle.integrate.proofs.kernel.full_pull.Statement.{statement}

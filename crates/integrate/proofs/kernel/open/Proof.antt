@@ -1,4 +1,4 @@
-use Rattle.integrate.proofs.Laws.{opened}
+use Rattle.integrate.proofs.ForceAndStep.{opened}
 use borrow.Author.Needs.{needs}
 use Rattle.integrate.proofs.kernel.open.Statement.{statement}
 use Rattle.integrate.proofs.kernel.open.Tie as tie

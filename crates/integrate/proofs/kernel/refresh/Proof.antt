@@ -1,4 +1,4 @@
-use Rattle.integrate.proofs.Laws.{kept-instant, new-instant}
+use Rattle.integrate.proofs.ForceAndStep.{kept-instant, new-instant}
 use borrow.Author.Needs.{needs}
 use Rattle.integrate.proofs.kernel.refresh.Statement.{statement}
 use Rattle.integrate.proofs.kernel.refresh.Tie as tie

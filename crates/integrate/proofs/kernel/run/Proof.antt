@@ -1,4 +1,4 @@
-use Rattle.integrate.proofs.Laws.{ran, not-ran}
+use Rattle.integrate.proofs.ForceAndStep.{ran, not-ran}
 use native.Mathlib.Omega.{arith}
 use borrow.Author.Needs.{needs}
 use Rattle.integrate.proofs.kernel.run.Statement.{statement}

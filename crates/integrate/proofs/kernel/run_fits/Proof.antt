@@ -1,4 +1,4 @@
-use Rattle.integrate.proofs.Laws.{fits-degree, fits-steps, fits-room}
+use Rattle.integrate.proofs.ForceAndStep.{fits-degree, fits-steps, fits-room}
 use borrow.Author.Needs.{needs}
 use Rattle.integrate.proofs.kernel.run_fits.Statement.{statement}
 use Rattle.integrate.proofs.kernel.run_fits.Tie as tie

@@ -1,4 +1,4 @@
-use Rattle.integrate.proofs.Laws.{flown-first, flown-more}
+use Rattle.integrate.proofs.ForceAndStep.{flown-first, flown-more}
 use Rattle.integrate.proofs.Places.{only-same, only-then}
 use Rattle.integrate.specs.Force.{model, accelerationOf, attractionOf}
 use Rattle.integrate.specs.Steps.{stateAt}

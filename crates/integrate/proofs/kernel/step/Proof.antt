@@ -1,6 +1,6 @@
 use lib.Ieee.{ofInt, ofBits}
 use Rattle.laws.specs.WholeNumbers.{number}
-use Rattle.integrate.proofs.Laws.{stepped}
+use Rattle.integrate.proofs.ForceAndStep.{stepped}
 use Rattle.integrate.specs.Force.{model, accelerationOf, attractionOf}
 use native.Mathlib.Omega.{arith}
 use mathlib.Core.Path.{_∙_}

@@ -1,7 +1,7 @@
 use mathlib.Core.Path.{_≡_, _∙_}
 use native.Mathlib.Omega.{arith}
 use lib.ListN.{length}
-use Rattle.lent.specs.Lent.{frontSize}
+use Rattle.inputs.specs.Inputs.{frontSize}
 use Rattle.residuals.specs.Calls.{lists}
 use Rattle.residuals.proofs.Turns.{blank-is}
 use borrow.Author.Needs.{needs}

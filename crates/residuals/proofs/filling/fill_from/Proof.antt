@@ -3,7 +3,7 @@ use Prim.Native.Nat.{_≤_, _-_}
 use native.Mathlib.Omega.{arith}
 use lib.ListN.{length}
 use Rattle.integrate.specs.Force.{model}
-use Rattle.sighting.specs.Kept.{keyed}
+use Rattle.epoch.specs.Kept.{keyed}
 use Rattle.residuals.specs.Inputs.{inputs}
 use Rattle.residuals.specs.Calls.{lists, sightings}
 use Rattle.residuals.specs.Filling.{SoFar}

@@ -1,7 +1,7 @@
 use mathlib.Core.Path.{refl}
 use lib.ListN.{getD}
 use Rattle.integrate.specs.Force.{model}
-use Rattle.sighting.specs.Kept.{keyed}
+use Rattle.epoch.specs.Kept.{keyed}
 use Rattle.residuals.specs.Inputs.{inputs}
 use Rattle.residuals.specs.Calls.{lists, sightings}
 use Rattle.residuals.proofs.Turns.{room-left, turned-at}

@@ -6,7 +6,7 @@ use lib.Dec.{T}
 use lib.IntN.{pos}
 use lib.Ieee.{Float, binary64, ofInt, toUnsigned, lt}
 use Rattle.laws.specs.WholeNumbers.{number}
-use Rattle.windows.proofs.Wholes.{above-cut, below-cut, cut-bound, ceil-next, ceil-same}
+use Rattle.windows.proofs.CutNumbers.{above-cut, below-cut, cut-bound, ceil-next, ceil-same}
 use borrow.Author.Needs.{needs}
 use Rattle.windows.proofs.kernel.ceil.Statement.{statement}
 use Rattle.windows.proofs.kernel.ceil.Tie as tie

@@ -1,4 +1,4 @@
-use Rattle.windows.proofs.Shelves.{entered}
+use Rattle.windows.proofs.SlotStates.{entered}
 use Rattle.numbers.specs.Seconds.{wholeSecond}
 use Rattle.integrate.specs.Work.{Stored}
 use lib.Ieee.{Float}

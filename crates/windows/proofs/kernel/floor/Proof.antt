@@ -5,7 +5,7 @@ use lib.Dec.{T}
 use lib.IntN.{pos}
 use lib.Ieee.{binary64, ofInt, neg}
 use Rattle.laws.specs.WholeNumbers.{number, ceil}
-use Rattle.windows.proofs.Wholes.{above-cut, below-cut, not-below, under-highest, over-zero, floor-zero, floor-below, floor-above}
+use Rattle.windows.proofs.CutNumbers.{above-cut, below-cut, not-below, under-highest, over-zero, floor-zero, floor-below, floor-above}
 use borrow.Author.Needs.{needs}
 use Rattle.windows.proofs.kernel.floor.Statement.{statement}
 use Rattle.windows.proofs.kernel.floor.Tie as tie

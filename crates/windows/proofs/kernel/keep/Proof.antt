@@ -1,6 +1,6 @@
 use Prim.Native.Nat.{_+_, _-_, _≤_}
 use native.Mathlib.Omega.{arith}
-use Rattle.windows.proofs.Shelves.{Shelf, shelf-none, shelf-more, kept-all, few}
+use Rattle.windows.proofs.SlotStates.{Shelf, shelf-none, shelf-more, kept-all, few}
 use borrow.Author.Needs.{needs}
 use Rattle.windows.proofs.kernel.keep.Statement.{statement}
 use Rattle.windows.proofs.kernel.keep.Tie as tie

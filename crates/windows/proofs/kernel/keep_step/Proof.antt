@@ -1,4 +1,4 @@
-use Rattle.windows.proofs.Shelves.{keeping-at, keeping-out}
+use Rattle.windows.proofs.SlotStates.{keeping-at, keeping-out}
 use Rattle.windows.specs.Slots.{within}
 use mathlib.Core.Path.{sym, ap, _∙_}
 use borrow.Author.Needs.{needs}

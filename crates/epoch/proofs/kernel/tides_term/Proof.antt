@@ -1,0 +1,42 @@
+use Rattle.epoch.specs.Epoch.{tidesTerm}
+use Rattle.forces.specs.Forces.{tidesOf}
+use borrow.Author.Needs.{needs}
+use Rattle.epoch.proofs.kernel.tides_term.Statement.{statement}
+use Rattle.epoch.proofs.kernel.tides_term.Tie as tie
+
+sky-at-requires : tie.Need-sky-at-requires
+sky-at-requires c κs = search needs
+
+tides-at-requires : tie.Need-tides-at-requires
+tides-at-requires c κs = search needs
+
+tides-at-requires-2 : tie.Need-tides-at-requires-2
+tides-at-requires-2 c κs = search needs
+
+sight-requires : tie.Need-sight-requires
+sight-requires c κs = search needs
+
+along-requires : tie.Need-along-requires
+along-requires c κs = search needs
+
+returns : tie.Need-returns
+unfolding tidesTerm tidesOf
+returns c =
+    simp (
+      c .along .ensures,
+      c .before .sight .ensures,
+      c .before .before .tides-at2 .ensures,
+      c .before .before .before .tides-at .ensures,
+      c .before .before .before .before .sky-at .ensures,
+    )
+
+pub tides-term-spec : {M : Type 1} → statement M
+tides-term-spec =
+    tie.close
+    (tie.spec
+    sky-at-requires
+    tides-at-requires
+    tides-at-requires-2
+    sight-requires
+    along-requires
+    returns)

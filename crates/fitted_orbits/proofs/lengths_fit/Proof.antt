@@ -1,0 +1,11 @@
+use borrow.Author.Needs.{needs}
+use Rattle.fitted_orbits.proofs.lengths_fit.Statement.{statement}
+use Rattle.fitted_orbits.proofs.lengths_fit.Tie as tie
+
+returns : tie.Need-returns
+returns c = simp (c .both3 .ensures, c .before .both2 .ensures, c .before .before .both .ensures, c .before .before .before .whole-scratch-fits .ensures, c .before .before .before .before .model-fits .ensures)
+
+pub lengths-fit-spec : {M : Type 1} → statement M
+lengths-fit-spec =
+    tie.close
+    (tie.spec (λ c κs. search needs) (λ c. search needs) (λ c κs. search needs) (λ c κs. search needs) (λ c κs. search needs) (λ c κs. search needs) returns)

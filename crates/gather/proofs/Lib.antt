@@ -1,3 +1,0 @@
-mod Looks
-mod Turns
-pub mod Serving

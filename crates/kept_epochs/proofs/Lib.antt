@@ -1,0 +1,3 @@
+mod LookUps
+mod Turns
+pub mod GatherGuard

@@ -1,0 +1,20 @@
+use borrow.Author.Needs.{needs}
+use lib.ListN.{length}
+use Rattle.legendre.proofs.RowsOfTables.{compute-fits, computed-not}
+use Rattle.legendre.proofs.compute.Statement.{statement}
+use Rattle.legendre.proofs.compute.Tie as tie
+
+compute-in-requires : tie.Need-compute-in-requires
+compute-in-requires c κs =
+    let a = c .before .before .before .before .before .before .before .before .before .before .before .args in
+    compute-fits (a .degree) (length (a .a .now)) (length (a .b .now)) (length (a .p .now)) (length (a .dp .now)) (length (a .work .now)) _ _ _ (c .before .before .before .before .before .fits2 .ensures) (c .before .before .before .before .fits3 .ensures) (c .before .before .before .both .ensures) (c .before .before .if1 .taken)
+
+returns-2 : tie.Need-returns-2
+returns-2 c =
+    let a = c .before .before .before .before .before .before .before .before .before .args in
+    computed-not (a .degree) (a .a .now) (a .b .now) (a .work .now) (a .lat) (a .p .now) (a .dp .now) _ _ _ (c .before .before .before .fits2 .ensures) (c .before .before .fits3 .ensures) (c .before .both .ensures) (c .if1 .left)
+
+pub compute-spec : {M : Type 1} → statement M
+compute-spec =
+    tie.close
+    (tie.spec (λ c κs. search needs) (λ c κs. search needs) (λ c κs. search needs) compute-in-requires (λ c. search needs) (λ c. search needs) (λ c. search needs) returns-2)

@@ -1,0 +1,29 @@
+use borrow.Author.Needs.{needs}
+use Prim.Native.Nat.{_+_}
+use mathlib.Core.Path.{refl}
+use native.Mathlib.Omega.{arith}
+use Rattle.legendre.specs.Rows.{Tables, tablesOf}
+use Rattle.legendre.specs.Sums.{evaluation}
+use Rattle.legendre.proofs.Recur.{zero-row}
+use Rattle.legendre.proofs.Added.{total-of}
+use Rattle.legendre.proofs.streamed.Statement.{statement}
+use Rattle.legendre.proofs.streamed.Tie as tie
+
+all-rows-requires : tie.Need-all-rows-requires
+all-rows-requires c κs =
+    let o = c .before .before .before .before .before .before .before in
+    let s = o .before .before .before .before .before .before .before .before .before .before .before .before in
+    let a = s .args in
+    let T : Tables = tablesOf (a .a .now) (a .b .now) (a .lower .now) (a .upper .now) (a .heads .now) in
+    let g = o .order-rows .ensures in
+    (s .pre .0, s .pre .1, s .pre .2, o .before .before .before .unscale-row .ensures, zero-row T (a .t) 0 (omega arith), zero-row T (a .t) 1 (omega arith), refl, refl, g .0, g .1)
+
+returns : tie.Need-returns
+returns c =
+    let a = c .before .before .before .before .before .before .before .before .before .before .before .before .before .before .before .before .before .before .before .before .args in
+    let T : Tables = tablesOf (a .a .now) (a .b .now) (a .lower .now) (a .upper .now) (a .heads .now) in
+    total-of (evaluation T (a .t) (a .u) (a .lon) (a .c .now) (a .s .now)) (a .q) (a .degree + 1) (c .all-rows .ensures)
+
+pub streamed-spec : {M : Type 1} → statement M
+streamed-spec =
+    tie.close (tie.spec (λ c κs. search needs) (λ c κs. search needs) all-rows-requires returns)
