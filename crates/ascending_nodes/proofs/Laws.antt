@@ -85,5 +85,6 @@ upto-all ks st k count out h l u =
       held = u .held ∙ ap (λ (j : ℕ). filledUp zero64 (length ks) (nodesTo ks st j)) e;
     }
 
-pub upto-slot : (ks : List ℤ) (st : List Float) (k count : ℕ) (out out₀ : List Float) → k + 1 < length ks → Upto ks st k count out → length out ≡ length out₀ → length out₀ ≡ length ks → count < length out
+pub upto-slot : (ks : List ℤ) (st : List Float) (k count : ℕ) (out out₀ : List Float) → k + 1 < length ks → Upto ks st k count out → length out ≡ length out₀ → length out₀ ≡ length ks
+    → count < length out
 upto-slot ks st k count out out₀ h u l l₀ = omega (arith, u .few)

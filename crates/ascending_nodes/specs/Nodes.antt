@@ -1,4 +1,5 @@
--- Ascending nodes (the source's `ascending_nodes`): where an orbit crosses the equator northward. Its states lie end to end, six numbers a key, of which the third is z. Assumes nothing.
+-- Ascending nodes (the source's `ascending_nodes`): where an orbit crosses the equator northward. Its states lie end to end, six numbers a key, of which
+-- the third is z. Assumes nothing.
 use mathlib.Core.Path.{_≡_}
 use Prim.Native.Nat.{ℕ, zero, suc, _+_, _-_, _*_}
 use mathlib.Core.Bool.{Bool, false, cond}

@@ -7,17 +7,15 @@ use native.Mathlib.Omega.{arith}
 use borrow.Author.Tests.{not-true, not-false, lt-ltb, le-ltb, ltb-false, le-leb}
 use lib.Dec.{ltb, eqb}
 use lib.ListN.{length, take, drop, getD, set, length-append, drop-of-length-le, List·getD-eq-default}
-use lib.Seq.{length-take-le}
 use lib.Ieee.{Float, nan, binary64, ofBits, toBits}
 use Rattle.laws.specs.Loops.{head-at, fill-turn, fill-done, take-set}
 use Rattle.hex.specs.Digits.{wordAt, digitsOf, written, decimalOf, isWord, bitsOf, floatAt}
 use Rattle.hex.specs.declared.Parsed.{Parsed}
 use Rattle.hex.specs.declared.Parsed.the-variants.{Value, Malformed}
-use Rattle.hex.proofs.Printing.{then, written-prints, printed-fits}
+use Rattle.hex.proofs.Printing.{then, written-prints}
 use Rattle.hex.proofs.Laws.{digits-length}
 use Rattle.hex.specs.Printing.{lineFeed, refusedText, Printed}
 use lib.Ieee.Scale.{finite}
-use Rattle.io.specs.Counts.{Counts}
 use borrow.Author.Tests.{eq-eqb}
 use borrow.Rule.Slice.PartMut.{midOf, mid-len}
 use Rattle.laws.specs.Checks.{all, isTime, rising}
@@ -243,7 +241,8 @@ lines-print text n ts xs out out' r xs₀ et ex l p = mathlib.Core.Path.subst (�
 pub text-refused : (text out out' : List ℕ) (n r : ℕ) → n ≡ textRefusal text → (n ≡ 0 → ⊥) → Printed (refusedText n) out 0 out' r → Printed (answer text) out 0 out' r
 unfolding answer
 text-refused text out out' n r e h p =
-    mathlib.Core.Path.subst (λ (t : List ℕ). Printed t out 0 out' r) (some n h _ ∙ ap (λ (k : ℕ). unlessRefused k (numbersText (column text 0 (length text / 33)) (column text 16 (length text / 33)))) e) p
+    mathlib.Core.Path.subst (λ (t : List ℕ). Printed t out 0 out' r) (some n h _ ∙
+    ap (λ (k : ℕ). unlessRefused k (numbersText (column text 0 (length text / 33)) (column text 16 (length text / 33)))) e) p
   where
     some : (n : ℕ) → (n ≡ 0 → ⊥) → (t : List ℕ) → refusedText n ≡ unlessRefused n t
     some zero h t = absurd (h refl)
@@ -259,7 +258,5 @@ text-answered text times out out' n m r e h em few room p =
     let z : m - 0 ≡ m = omega arith in
     let ek : length (midOf 0 (m - 0) times) ≡ length text / 33 = mid-len 0 m times (omega arith) ∙ z ∙ em in
     mathlib.Core.Path.subst (λ (t : List ℕ). Printed t out 0 out' r)
-    ((λ i. numbersText (column text 0 (ek i)) (column text 16 (ek i))) ∙ ap (λ (j : ℕ). unlessRefused j (numbersText (column text 0 (length text / 33)) (column text 16 (length text / 33)))) (sym h ∙ e)) p
-
-pub printed-counts : (bytes before after : List ℕ) (r : ℕ) → Printed bytes before 0 after r → Counts r after
-printed-counts bytes before after r p = let h : r ≤ length after = printed-fits bytes before after r p in (h, sym (length-take-le r after h))
+    ((λ i. numbersText (column text 0 (ek i)) (column text 16 (ek i))) ∙ ap (λ (j : ℕ). unlessRefused j
+    (numbersText (column text 0 (length text / 33)) (column text 16 (length text / 33)))) (sym h ∙ e)) p

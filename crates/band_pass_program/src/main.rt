@@ -6,7 +6,8 @@ ghost use lib.ListN.{length, take};
 ghost use Rattle.io.specs.Counts.{Counts};
 ghost use Rattle.hex.specs.Digits.{wordAt, decimalOf, isWord, floatAt};
 ghost use Rattle.hex.specs.Printing.{refusedText, Printed};
-ghost use Rattle.band_pass_program.specs.Text.{isLine, textRefusal, column, lineText, linesText, summaryText, passedText, numbersText, answer as answerOf};
+ghost use Rattle.band_pass_program.specs.Text.{isLine, textRefusal, column, lineText, linesText, summaryText, passedText, numbersText};
+ghost use Rattle.band_pass_program.specs.Text.{answer as answerOf};
 use filter;
 use hex;
 use io;
@@ -117,7 +118,8 @@ fn put_line(time: f64, value: f64, out: &mut [u8], at: usize)
 
 fn put_lines(times: &[f64], values: &[f64], out: &mut [u8])
     requires { ⌜ (length (now values) ≡ length (now times)) × (33 * length (now times) ≤ length (now out)) ⌝ }
-    ensures { λ _. ⌜ Printed (linesText (now (times .entry)) (now (values .entry))) (now (out .entry)) 0 (now (out .exit)) (33 * length (now (times .entry))) ⌝ }
+    ensures { λ _. ⌜ Printed (linesText (now (times .entry)) (now (values .entry))) (now (out .entry)) 0 (now (out .exit))
+        (33 * length (now (times .entry))) ⌝ }
 {
     let mut i = 0;
     while i < times.len() {
@@ -153,7 +155,8 @@ fn answer_numbers(
     scratch: &mut [f64],
     out: &mut [u8],
 ) -> usize
-    requires { ⌜ (length (now values) ≡ length (now times)) × (length (now passed) ≡ length (now times)) × (length (now times) ≤ 4096) × (32768 ≤ length (now scratch)) × (135300 ≤ length (now out)) ⌝ }
+    requires { ⌜ (length (now values) ≡ length (now times)) × (length (now passed) ≡ length (now times)) × (length (now times) ≤ 4096) ×
+        (32768 ≤ length (now scratch)) × (135300 ≤ length (now out)) ⌝ }
     ensures { λ r. ⌜ Printed (numbersText (now (times .entry)) (now (values .entry))) (now (out .entry)) 0 (now (out .exit)) r ⌝ }
 {
     let outcome = filter::band_pass(times, values, passed, scratch);
@@ -172,8 +175,10 @@ fn answer_lines(
     scratch: &mut [f64],
     out: &mut [u8],
 ) -> usize
-    requires { ⌜ (length (now values) ≡ length (now times)) × (length (now passed) ≡ length (now times)) × (length (now times) ≤ 4096) × (32768 ≤ length (now scratch)) × (135300 ≤ length (now out)) ⌝ }
-    ensures { λ r. ⌜ Printed (numbersText (column (now (text .entry)) 0 (length (now (times .entry)))) (column (now (text .entry)) 16 (length (now (times .entry))))) (now (out .entry)) 0 (now (out .exit)) r ⌝ }
+    requires { ⌜ (length (now values) ≡ length (now times)) × (length (now passed) ≡ length (now times)) × (length (now times) ≤ 4096) ×
+        (32768 ≤ length (now scratch)) × (135300 ≤ length (now out)) ⌝ }
+    ensures { λ r. ⌜ Printed (numbersText (column (now (text .entry)) 0 (length (now (times .entry))))
+        (column (now (text .entry)) 16 (length (now (times .entry))))) (now (out .entry)) 0 (now (out .exit)) r ⌝ }
 {
     read_column(text, 0, times);
     read_column(text, 16, values);
@@ -197,7 +202,8 @@ fn answer(
     scratch: &mut [f64],
     out: &mut [u8],
 ) -> usize
-    requires { ⌜ (4096 ≤ length (now times)) × (4096 ≤ length (now values)) × (4096 ≤ length (now passed)) × (32768 ≤ length (now scratch)) × (135300 ≤ length (now out)) ⌝ }
+    requires { ⌜ (4096 ≤ length (now times)) × (4096 ≤ length (now values)) × (4096 ≤ length (now passed)) × (32768 ≤ length (now scratch)) ×
+        (135300 ≤ length (now out)) ⌝ }
     ensures { λ r. ⌜ (Printed (answerOf (now (text .entry))) (now (out .entry)) 0 (now (out .exit)) r) × Counts r (now (out .exit)) ⌝ }
 {
     let refused = refusal(text);

@@ -1,7 +1,7 @@
--- Laws of the two columns: what comes out of the scratch, the zeros behind the first n entries, the guard. Assumes nothing.
+-- The columns that follow from times and raw values: what comes out of the scratch, the zeros behind the first n entries, the guard. Assumes nothing.
 use mathlib.Core.Path.{_≡_, refl, sym, ap, _∙_, subst}
 use mathlib.Core.Bool.{Bool, true, false, cond, _&&_}
-use mathlib.Core.List.{List, [], _++_, append-nil}
+use mathlib.Core.List.{List, [], _∷_, _++_, append-nil}
 use Prim.Native.Nat.{ℕ, _+_, _-_, _*_, _/_, _≤_}
 use native.Mathlib.Omega.{arith}
 use lib.Dec.{T, leb, eqb, leb→le, eqb→eq}
@@ -12,15 +12,18 @@ use lib.Seq.{take-at, length-take-le}
 use borrow.Author.Tests.{eq-eqb, le-leb}
 use borrow.Rule.Slice.PartMut.{midOf, putMid, same-len-mid}
 use Rattle.laws.specs.Floats.{zero64}
+use Rattle.laws.specs.Lists.{All, all-map}
+use Rattle.laws.specs.Checks.{all, all-says}
+use Rattle.laws.specs.Bools.{holds, clash}
 use Rattle.laws.specs.Loops.{cleared, filled-front}
 use Rattle.finality.specs.Sheet.{published}
 use Rattle.slices.specs.Slices.{copied}
 use Rattle.slices.proofs.Laws.{copied-all}
 use Rattle.detrend.specs.Revolutions.{removedOf}
 use Rattle.detrend.specs.Work.{RemovedWithin}
-use Rattle.detrend.proofs.Lists.{length-mid}
-use Rattle.detrend.proofs.Split.{removed-length}
-use Rattle.detrend.proofs.Within.{removed-in}
+use Rattle.detrend.proofs.PartsInPlace.{length-mid}
+use Rattle.detrend.proofs.SplitAtNodes.{removed-length}
+use Rattle.detrend.proofs.WorkArea.{removed-in}
 use Rattle.filter.specs.Filter.{bandPass}
 use Rattle.filter.specs.Calls.{bandFits, bandPassed}
 use Rattle.filter.proofs.Seam.{bandPass-length}
@@ -93,57 +96,45 @@ passed-column n times d o y z room h ed eo r ey ez =
 
 -- ---- the guard
 
-pub record Served (n times raws detrended passed room : ℕ) : Type 0 where
+pub record Served (n times : ℕ) (others : List ℕ) (room : ℕ) : Type 0 where
   pub count : n ≤ times
-  pub of-raws : raws ≡ times
-  pub of-detrended : detrended ≡ times
-  pub of-passed : passed ≡ times
+  pub long : All (λ (k : ℕ). k ≡ times) others
   pub enough : 8 * n ≤ room
 
-pub served : (n times raws detrended passed room : ℕ) (b : Bool) → b ≡ columnsServe n times raws detrended passed room → b ≡ true → Served n times raws detrended passed room
+pub served : (n times : ℕ) (others : List ℕ) (room : ℕ) (b : Bool) → b ≡ columnsServe n times others room → b ≡ true → Served n times others room
 unfolding columnsServe
-served n times raws detrended passed room b e h =
-    let a1 = leb n times in
-    let a2 = eqb raws times in
-    let a3 = eqb detrended times in
-    let a4 = eqb passed times in
-    let a5 = leb n (room / 8) in
-    let t1 = subst T (sym (sym e ∙ h)) tt in
-    let t2 = and-r a1 (a2 && (a3 && (a4 && a5))) t1 in
-    let t3 = and-r a2 (a3 && (a4 && a5)) t2 in
-    let t4 = and-r a3 (a4 && a5) t3 in
-    let q : n ≤ room / 8 = leb→le n (room / 8) (and-r a4 a5 t4) in
+served n times others room b e h =
+    let count = leb n times in
+    let long = all (λ (k : ℕ). eqb k times) others in
+    let enough = leb n (room / 8) in
+    let t : T (count && (long && enough)) = holds (count && (long && enough)) (sym e ∙ h) in
+    let r : T (long && enough) = and-r count (long && enough) t in
     record {
-      count = leb→le n times (and-l a1 (a2 && (a3 && (a4 && a5))) t1);
-      of-raws = eqb→eq raws times (and-l a2 (a3 && (a4 && a5)) t2);
-      of-detrended = eqb→eq detrended times (and-l a3 (a4 && a5) t3);
-      of-passed = eqb→eq passed times (and-l a4 a5 t4);
-      enough = omega arith;
+      count = leb→le n times (and-l count (long && enough) t);
+      long = all-map (λ (k : ℕ). T (eqb k times)) (λ (k : ℕ). k ≡ times) others (λ k q. eqb→eq k times q) (all-says (λ (k : ℕ). eqb k times) others (and-l long enough r));
+      enough = let f : n ≤ room / 8 = leb→le n (room / 8) (and-r long enough r) in omega arith;
     }
 
 -- ---- the call
 
-not-false : (b : Bool) → b ≡ true → b ≡ false → ⊥
-not-false b t f = subst (λ (c : Bool). T (cond c true false)) (sym t ∙ f) tt
-
 module _ (serves : Bool) (nodes : List Float) (n : ℕ) (times raws d d' p p' s s' : List Float) (b : Bool) (e : b ≡ serves) where
   pub columns-filled : b ≡ true → n ≤ length times → length raws ≡ length times → length s' ≡ length s → d' ≡ published (length times) (firstDetrended nodes n times raws) →
-      p' ≡ published (length times) (bandPass (take n times) (take n d')) → ColumnsFilled serves nodes n times raws d d' p p' s s' true
+      p' ≡ published (length times) (bandPass (take n times) (take n d')) → ColumnsFilled serves nodes n times raws (d ∷ p ∷ []) (d' ∷ p' ∷ []) s s' true
   columns-filled h hn er l ed ep = record {
     says = sym h ∙ e;
     long = l;
-    detrended = λ _. ed;
-    passed = λ _.
-        ep ∙ ap (λ (x : List Float). published (length times) (bandPass (take n times) x))
-        (ap (take n) ed ∙ filled-front zero64 (length times) n (firstDetrended nodes n times raws) (detrended-length nodes n times raws hn er));
-    unfit = λ f. absurd (not-false serves (sym e ∙ h) f);
+    columns = λ _.
+        let first : take n d' ≡ firstDetrended nodes n times raws
+        = ap (take n) ed ∙ filled-front zero64 (length times) n (firstDetrended nodes n times raws) (detrended-length nodes n times raws hn er) in
+        λ i. ed i ∷ (ep ∙ ap (λ (x : List Float). published (length times) (bandPass (take n times) x)) first) i ∷ [];
+    unfit = λ f. clash serves (sym e ∙ h) f;
   }
 
-pub columns-unfit : (serves : Bool) (nodes : List Float) (n : ℕ) (times raws d p s : List Float) (b : Bool) → b ≡ serves → b ≡ false → ColumnsFilled serves nodes n times raws d d p p s s false
-columns-unfit serves nodes n times raws d p s b e h = record {
+pub columns-unfit : (serves : Bool) (nodes : List Float) (n : ℕ) (times raws : List Float) (outputs : List (List Float)) (s : List Float) (b : Bool) → b ≡ serves → b ≡ false →
+    ColumnsFilled serves nodes n times raws outputs outputs s s false
+columns-unfit serves nodes n times raws outputs s b e h = record {
   says = sym h ∙ e;
   long = refl;
-  detrended = λ t. absurd (not-false serves t (sym e ∙ h));
-  passed = λ t. absurd (not-false serves t (sym e ∙ h));
-  unfit = λ _. (refl, refl, refl);
+  columns = λ t. clash serves t (sym e ∙ h);
+  unfit = λ _. (refl, refl);
 }

@@ -1,5 +1,6 @@
 // The detrended and the passed column of a sheet, from the times and raw values of its first entries.
 ghost use mathlib.Core.Path.{_≡_};
+ghost use mathlib.Core.List.{[], _∷_, map};
 ghost use Prim.Native.Nat.{_*_, _≤_};
 ghost use lib.ListN.{length, take};
 ghost use Rattle.finality.specs.Sheet.{published};
@@ -11,7 +12,7 @@ use filter;
 use slices;
 
 fn serve(n: usize, times: usize, raws: usize, detrended: usize, passed: usize, room: usize) -> bool
-    ensures { λ r. ⌜ r ≡ columnsServe n times raws detrended passed room ⌝ }
+    ensures { λ r. ⌜ r ≡ columnsServe n times (raws ∷ detrended ∷ passed ∷ []) room ⌝ }
 {
     slices::both(
         n <= times,
@@ -46,8 +47,10 @@ fn detrend_column(
     detrended: &mut [f64],
     s: &mut [f64],
 )
-    requires { ⌜ (n ≤ length (now times)) × (length (now raws) ≡ length (now times)) × (length (now detrended) ≡ length (now times)) × (8 * n ≤ length (now s)) ⌝ }
-    ensures { λ _. ⌜ now (detrended .exit) ≡ published (length (now (times .entry))) (firstDetrended (now (nodes .entry)) n (now (times .entry)) (now (raws .entry))) ⌝ }
+    requires { ⌜ (n ≤ length (now times)) × (length (now raws) ≡ length (now times)) × (length (now detrended) ≡ length (now times))
+        × (8 * n ≤ length (now s)) ⌝ }
+    ensures { λ _. ⌜ now (detrended .exit) ≡ published (length (now (times .entry)))
+        (firstDetrended (now (nodes .entry)) n (now (times .entry)) (now (raws .entry))) ⌝ }
 {
     remove(nodes, &times[0..n], &raws[0..n], &mut detrended[0..n], s);
     let end = detrended.len();
@@ -55,7 +58,8 @@ fn detrend_column(
 }
 
 fn pass_column(n: usize, times: &[f64], detrended: &[f64], passed: &mut [f64], s: &mut [f64])
-    requires { ⌜ (n ≤ length (now times)) × (length (now detrended) ≡ length (now times)) × (length (now passed) ≡ length (now times)) × (8 * n ≤ length (now s)) ⌝ }
+    requires { ⌜ (n ≤ length (now times)) × (length (now detrended) ≡ length (now times)) × (length (now passed) ≡ length (now times))
+        × (8 * n ≤ length (now s)) ⌝ }
     ensures { λ _. ⌜ now (passed .exit) ≡ published (length (now (times .entry))) (bandPass (take n (now (times .entry))) (take n (now (detrended .entry)))) ⌝ }
 {
     filter::kernel::band_pass(&times[0..n], &detrended[0..n], &mut passed[0..n], s);
@@ -73,7 +77,10 @@ pub fn fill(
     passed: &mut [f64],
     s: &mut [f64],
 ) -> bool
-    ensures { λ r. ⌜ ColumnsFilled (columnsServe n (length (now (times .entry))) (length (now (raws .entry))) (length (now (detrended .entry))) (length (now (passed .entry))) (length (now (s .entry)))) (now (nodes .entry)) n (now (times .entry)) (now (raws .entry)) (now (detrended .entry)) (now (detrended .exit)) (now (passed .entry)) (now (passed .exit)) (now (s .entry)) (now (s .exit)) r ⌝ }
+    ensures { λ r. ⌜ ColumnsFilled (columnsServe n (length (now (times .entry)))
+        (map length (now (raws .entry) ∷ now (detrended .entry) ∷ now (passed .entry) ∷ [])) (length (now (s .entry)))) (now (nodes .entry)) n
+        (now (times .entry)) (now (raws .entry)) (now (detrended .entry) ∷ now (passed .entry) ∷ []) (now (detrended .exit) ∷ now (passed .exit) ∷ [])
+        (now (s .entry)) (now (s .exit)) r ⌝ }
 {
     if serve(
         n,

@@ -17,8 +17,8 @@ use Rattle.laws.specs.Checks.{rising}
 use Rattle.laws.specs.Bools.{by, left-true, right-true}
 use Rattle.detrend.specs.Fit.{revolutionOf}
 use Rattle.detrend.specs.Revolutions.{countBefore, revolvedOf, windowsOf, removedOf, revolutionsOf, detrendedIn, detrendedBy}
-use Rattle.detrend.proofs.Lists.{length-mid, drop-mid}
-use Rattle.detrend.proofs.Parts.{length-revolved}
+use Rattle.detrend.proofs.PartsInPlace.{length-mid, drop-mid}
+use Rattle.detrend.proofs.RevolutionFit.{length-revolved}
 
 pub count-le : (b : Float) (ts : List Float) → countBefore b ts ≤ length ts
 unfolding countBefore
@@ -54,7 +54,7 @@ step-is a b ns ts vs p c h ep ec =
     (λ e. simp (k, l, e) (λ i. detrendedBy (revolutionsOf ts (b ∷ ns)) ts (putMid (sym ep i) (k i) vs (revolutionOf a (b ⊖ a) (midOf (sym ep i) (k i) ts) (midOf (sym ep i) (k i) vs)))))
     (λ e. simp (k, l, e) (ap (detrendedBy (revolutionsOf ts (b ∷ ns)) ts) (sym (put-same p c vs))))
 
-windows-are : (a b : Float) (ns ts vs : List Float) (c : ℕ) → c ≡ countBefore b ts →
+pub windows-are : (a b : Float) (ns ts vs : List Float) (c : ℕ) → c ≡ countBefore b ts →
     windowsOf a (b ∷ ns) ts vs ≡ revolvedOf a b (take c ts) (take c vs) ++ windowsOf b ns (drop c ts) (drop c vs)
 unfolding windowsOf
 windows-are a b ns ts vs c e = ap (λ (j : ℕ). revolvedOf a b (take j ts) (take j vs) ++ windowsOf b ns (drop j ts) (drop j vs)) (sym e)

@@ -181,7 +181,8 @@ listing-long ts ns k count first end fs es ss ps h l ef ee q =
       firsts = filled-turn 0 first count _ _ fs (omega (arith, l .firsts-are)) (retold 0 count _ _ _ fs (ap (map (λ (r : Revolution). r .first)) e) (l .firsts));
       ends = filled-turn 0 end count _ _ es (omega (arith, l .ends-are)) (retold 0 count _ _ _ es (ap (map (λ (r : Revolution). r .end)) e) (l .ends));
       starts = filled-turn zero64 (getD ns k nan) count _ _ ss (omega (arith, l .starts-are)) (retold zero64 count _ _ _ ss (ap (map (λ (r : Revolution). r .start)) e) (l .starts));
-      periods = filled-turn zero64 (getD ns (k + 1) nan ⊖ getD ns k nan) count _ _ ps (omega (arith, l .periods-are)) (retold zero64 count _ _ _ ps (ap (map (λ (r : Revolution). r .period)) e) (l .periods));
+      periods = filled-turn zero64 (getD ns (k + 1) nan ⊖ getD ns k nan) count _ _ ps (omega (arith, l .periods-are))
+          (retold zero64 count _ _ _ ps (ap (map (λ (r : Revolution). r .period)) e) (l .periods));
       few = omega arith;
       firsts-are = length-set fs count first ∙ l .firsts-are;
       ends-are = length-set es count end ∙ l .ends-are;

@@ -23,7 +23,8 @@ periods-finite ts (a ∷ b ∷ ns) h o =
     let rest = and-r (isTime a) (all isTime (b ∷ ns)) h in
     let ta = time-says a (and-l (isTime a) (all isTime (b ∷ ns)) h) in
     let tb = time-says b (and-l (isTime b) (all isTime ns) rest) in
-    go (leb 50 (countBefore b ts - countBefore a ts)) (difference-finite a b ta tb (lt→le a b (and-l (lt a b) (rising (b ∷ ns)) o))) (periods-finite ts (b ∷ ns) rest (and-r (lt a b) (rising (b ∷ ns)) o))
+    go (leb 50 (countBefore b ts - countBefore a ts)) (difference-finite a b ta tb (lt→le a b (and-l (lt a b) (rising (b ∷ ns)) o)))
+    (periods-finite ts (b ∷ ns) rest (and-r (lt a b) (rising (b ∷ ns)) o))
   where
     go : (c : Bool) → T (finite (b ⊖ a)) → T (all finite (Periods (revolutionsOf ts (b ∷ ns)))) →
         T (all finite (Periods (cond c (record { first = countBefore a ts; end = countBefore b ts; start = a; period = b ⊖ a } ∷ revolutionsOf ts (b ∷ ns)) (revolutionsOf ts (b ∷ ns)))))

@@ -22,7 +22,7 @@ use Rattle.slices.proofs.Calls.{cond-passes}
 use Rattle.slices.proofs.Laws.{copied-all}
 use Rattle.detrend.specs.Ranges.{rangesFit, rangeFits}
 use Rattle.detrend.specs.Calls.{detrendNumbers, detrendRefusal}
-use Rattle.detrend.proofs.Lists.{take-mid, mid-same, length-mid}
+use Rattle.detrend.proofs.PartsInPlace.{take-mid, mid-same, length-mid}
 
 ranges-end : (fs : List ℕ) (n : ℕ) → rangesFit fs [] n ≡ true
 unfolding rangesFit
@@ -55,7 +55,8 @@ pub range-none : (fs es : List ℕ) (k n : ℕ) → length es ≤ k → true ≡
 unfolding rangeFits
 range-none fs es k n h = simp (le-ltb k (length es) h)
 
-pub ranges-go : (fs es : List ℕ) (k n : ℕ) (b g : Bool) → k < length fs → b ≡ rangeFits fs es k n → not b ≡ false → rangesFit (drop k fs) (drop k es) n ≡ g → rangesFit (drop (k + 1) fs) (drop (k + 1) es) n ≡ g
+pub ranges-go : (fs es : List ℕ) (k n : ℕ) (b g : Bool) → k < length fs → b ≡ rangeFits fs es k n → not b ≡ false → rangesFit (drop k fs) (drop k es) n ≡ g
+    → rangesFit (drop (k + 1) fs) (drop (k + 1) es) n ≡ g
 ranges-go fs es k n b g h e f inv = sym (ranges-at fs es k n h ∙ ap (λ (c : Bool). cond c (rangesFit (drop (k + 1) fs) (drop (k + 1) es) n) false) (sym e ∙ not-false b f)) ∙ inv
 
 pub ranges-stop : (fs es : List ℕ) (k n : ℕ) (b g : Bool) → k < length fs → b ≡ rangeFits fs es k n → not b ≡ true → rangesFit (drop k fs) (drop k es) n ≡ g → false ≡ g
@@ -75,7 +76,8 @@ module _ (fs es : List ℕ) (k n : ℕ) (h : k < length fs) (l : length es ≡ l
   range-here : (cond (leb (getD fs k 0) (getD es k 0)) (leb (getD es k 0) n) false ≡ true) × (rangesFit (drop (k + 1) fs) (drop (k + 1) es) n ≡ true)
   range-here =
       let he : k < length es = omega arith in
-      cond-true (cond (leb (getD fs k 0) (getD es k 0)) (leb (getD es k 0) n) false) (rangesFit (drop (k + 1) fs) (drop (k + 1) es) n) (sym (ranges-are (getD fs k 0) (drop (k + 1) fs) (getD es k 0) (drop (k + 1) es) n) ∙ sym (λ i. rangesFit (head-at fs k 0 h i) (head-at es k 0 he i) n) ∙ inv)
+      cond-true (cond (leb (getD fs k 0) (getD es k 0)) (leb (getD es k 0) n) false) (rangesFit (drop (k + 1) fs) (drop (k + 1) es) n)
+      (sym (ranges-are (getD fs k 0) (drop (k + 1) fs) (getD es k 0) (drop (k + 1) es) n) ∙ sym (λ i. rangesFit (head-at fs k 0 h i) (head-at es k 0 he i) n) ∙ inv)
 
   pub range-low : getD fs k 0 ≤ getD es k 0
   range-low = leb-true (getD fs k 0) (getD es k 0) (cond-true (leb (getD fs k 0) (getD es k 0)) (leb (getD es k 0) n) (range-here .0) .0)
@@ -125,7 +127,8 @@ pub ranges-all : (n k : ℕ) (fs es : List ℕ) (ss ps s s₀ : List Float) → 
 ranges-all n k fs es ss ps s s₀ h et inv = record {
   times = et;
   values =
-      sym (ap (λ (l : List ℕ). detrendedOf l (drop k es) (drop k ss) (drop k ps) (take n s₀) (midOf n n s)) (drop-of-length-le fs h) ∙ detrended-none (drop k es) (drop k ss) (drop k ps) (take n s₀) (midOf n n s))
+      sym (ap (λ (l : List ℕ). detrendedOf l (drop k es) (drop k ss) (drop k ps) (take n s₀) (midOf n n s)) (drop-of-length-le fs h)
+      ∙ detrended-none (drop k es) (drop k ss) (drop k ps) (take n s₀) (midOf n n s))
       ∙ inv;
 }
 

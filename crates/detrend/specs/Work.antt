@@ -25,7 +25,8 @@ pub record Window (n first : ℕ) (a b : Float) (s : List Float) (r : ℕ) (s' :
   pub later : first ≤ r
   pub inside : r ≤ n
   pub times : take n s' ≡ take n s
-  pub values : midOf n n s' ≡ putMid first (r - first) (midOf n n s) (revolvedOf a b (midOf first (r - first) (take n s)) (midOf first (r - first) (midOf n n s)))
+  pub values : midOf n n s' ≡ putMid first (r - first) (midOf n n s)
+      (revolvedOf a b (midOf first (r - first) (take n s)) (midOf first (r - first) (midOf n n s)))
 
 -- each revolution's fit is removed from the values
 pub record Removed (n : ℕ) (nodes s s' : List Float) : Type 0 where

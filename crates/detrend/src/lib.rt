@@ -49,8 +49,11 @@ fn detrend_in(
     periods: &[f64],
     scratch: &mut [f64],
 )
-    requires { ⌜ (length (now times) ≡ length (now values)) × (8 * length (now values) ≤ length (now scratch)) × (length (now ends) ≡ length (now firsts)) × (length (now starts) ≡ length (now firsts)) × (length (now periods) ≡ length (now firsts)) × (rangesFit (now firsts) (now ends) (length (now times)) ≡ true) ⌝ }
-    ensures { λ _. ⌜ now (values .exit) ≡ detrendedOf (now (firsts .entry)) (now (ends .entry)) (now (starts .entry)) (now (periods .entry)) (now (times .entry)) (now (values .entry)) ⌝ }
+    requires { ⌜ (length (now times) ≡ length (now values)) × (8 * length (now values) ≤ length (now scratch)) × (length (now ends) ≡ length (now firsts))
+        × (length (now starts) ≡ length (now firsts)) × (length (now periods) ≡ length (now firsts))
+        × (rangesFit (now firsts) (now ends) (length (now times)) ≡ true) ⌝ }
+    ensures { λ _. ⌜ now (values .exit) ≡ detrendedOf (now (firsts .entry)) (now (ends .entry)) (now (starts .entry)) (now (periods .entry))
+        (now (times .entry)) (now (values .entry)) ⌝ }
 {
     let n = times.len();
     let m = n + n;
@@ -89,7 +92,8 @@ fn detrend_refusal(
     periods: &[f64],
     room: usize,
 ) -> u8
-    ensures { λ r. ⌜ r ≡ detrendRefusal (now (times .entry)) (now (values .entry)) (now (firsts .entry)) (now (ends .entry)) (now (starts .entry)) (now (periods .entry)) room ⌝ }
+    ensures { λ r. ⌜ r ≡ detrendRefusal (now (times .entry)) (now (values .entry)) (now (firsts .entry)) (now (ends .entry)) (now (starts .entry))
+        (now (periods .entry)) room ⌝ }
 {
     let n = times.len();
     let k = firsts.len();
@@ -126,7 +130,8 @@ pub fn detrend(
     periods: &[f64],
     scratch: &mut [f64],
 ) -> slices::Outcome
-    ensures { λ r. ⌜ left r (now (values .exit) ∷ []) (now (scratch .exit)) ≡ detrendCall (now (times .entry)) (now (values .entry)) (now (firsts .entry)) (now (ends .entry)) (now (starts .entry)) (now (periods .entry)) (now (scratch .entry)) ⌝ }
+    ensures { λ r. ⌜ left r (now (values .exit) ∷ []) (now (scratch .exit)) ≡ detrendCall (now (times .entry)) (now (values .entry)) (now (firsts .entry))
+        (now (ends .entry)) (now (starts .entry)) (now (periods .entry)) (now (scratch .entry)) ⌝ }
 {
     let refused = detrend_refusal(
         times,
@@ -168,7 +173,8 @@ fn list_revolutions(
     starts: &mut [f64],
     periods: &mut [f64],
 ) -> usize
-    requires { ⌜ (rising (now times) ≡ true) × (length (now firsts) ≡ length (now nodes) - 1) × (length (now ends) ≡ length (now nodes) - 1) × (length (now starts) ≡ length (now nodes) - 1) × (length (now periods) ≡ length (now nodes) - 1) ⌝ }
+    requires { ⌜ (rising (now times) ≡ true) × (length (now firsts) ≡ length (now nodes) - 1) × (length (now ends) ≡ length (now nodes) - 1)
+        × (length (now starts) ≡ length (now nodes) - 1) × (length (now periods) ≡ length (now nodes) - 1) ⌝ }
     ensures { λ r. ⌜ Listed (now (times .entry)) (now (nodes .entry)) r (now (firsts .exit)) (now (ends .exit)) (now (starts .exit)) (now (periods .exit)) ⌝ }
 {
     clear_counts(firsts);
@@ -242,7 +248,8 @@ pub fn revolutions(
     starts: &mut [f64],
     periods: &mut [f64],
 ) -> slices::Counted
-    ensures { λ r. ⌜ listed r (now (firsts .exit)) (now (ends .exit)) (now (starts .exit)) (now (periods .exit)) ≡ revolutionsCall (now (times .entry)) (now (nodes .entry)) (now (firsts .entry)) (now (ends .entry)) (now (starts .entry)) (now (periods .entry)) ⌝ }
+    ensures { λ r. ⌜ listed r (now (firsts .exit)) (now (ends .exit)) (now (starts .exit)) (now (periods .exit)) ≡ revolutionsCall (now (times .entry))
+        (now (nodes .entry)) (now (firsts .entry)) (now (ends .entry)) (now (starts .entry)) (now (periods .entry)) ⌝ }
 {
     let refused = revolutions_refusal(
         times,

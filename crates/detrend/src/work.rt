@@ -74,7 +74,8 @@ fn fitted(row: &[f64], beta: &[f64]) -> f64
 // The count values from `from` on, each less what its row, from `rows` on, gives.
 fn subtract_fit(s: &mut [f64], from: usize, count: usize, rows: usize, beta: &[f64])
     requires { ⌜ (from + count ≤ rows) × (rows + 6 * count ≤ length (now s)) × (length (now beta) ≡ 6) ⌝ }
-    ensures { λ _. ⌜ now (s .exit) ≡ putMid from count (now (s .entry)) (lessRows (now (beta .entry)) (midOf rows (6 * count) (now (s .entry))) (midOf from count (now (s .entry)))) ⌝ }
+    ensures { λ _. ⌜ now (s .exit) ≡ putMid from count (now (s .entry))
+        (lessRows (now (beta .entry)) (midOf rows (6 * count) (now (s .entry))) (midOf from count (now (s .entry)))) ⌝ }
 {
     let mut i = 0;
     while i < count {
@@ -159,7 +160,8 @@ pub fn detrend_all(
     starts: &[f64],
     periods: &[f64],
 )
-    requires { ⌜ (8 * n ≤ length (now s)) × (length (now ends) ≡ length (now firsts)) × (length (now starts) ≡ length (now firsts)) × (length (now periods) ≡ length (now firsts)) × (rangesFit (now firsts) (now ends) n ≡ true) ⌝ }
+    requires { ⌜ (8 * n ≤ length (now s)) × (length (now ends) ≡ length (now firsts)) × (length (now starts) ≡ length (now firsts))
+        × (length (now periods) ≡ length (now firsts)) × (rangesFit (now firsts) (now ends) n ≡ true) ⌝ }
     ensures { λ _. ⌜ DetrendedAll n (now (firsts .entry)) (now (ends .entry)) (now (starts .entry)) (now (periods .entry)) (now (s .entry)) (now (s .exit)) ⌝ }
 {
     let mut k = 0;

@@ -9,13 +9,14 @@ use lib.IntN.{ℤ}
 use lib.ListN.{length, getD}
 use lib.Signed.{ltZ}
 use lib.Ieee.{Float, nan}
+use Rattle.inputs.specs.Inputs.{keyed}
 use Rattle.slices.specs.Slices.{lookup, lookupFrom}
 use Rattle.slices.specs.declared.Found.{Found}
 use Rattle.slices.specs.declared.Found.the-variants.{At, Nothing}
 use Rattle.finality.specs.Tables.{find}
 use Rattle.finality.proofs.Lookup.{same-order}
 use Rattle.integrate.specs.Room.{stateIn}
-use Rattle.epoch.specs.Kept.{keyed, rowsFrom, states, numbers}
+use Rattle.epoch.specs.Kept.{rowsFrom, states, numbers}
 use Rattle.epoch.specs.Work.{givenState, givenNumber}
 
 abbrev rowAt : {X : Type 0} → (ℕ → X) → Found → Option X

@@ -20,8 +20,9 @@ use Rattle.legendre.specs.Prepared.{prepared}
 use Rattle.forces.specs.Forces.{gravityWith}
 use Rattle.model.specs.Calls.{atLeft}
 use Rattle.epoch_record.specs.declared.Epoch.{Epoch}
-use Rattle.integrate.specs.Force.{Model, model, frontAt}
+use Rattle.inputs.specs.Inputs.{Model, frontSize}
 use Rattle.integrate.specs.Room.{Only}
+use Rattle.integrate.specs.Work.{frontAt}
 use Rattle.integrate.specs.declared.kernel.State.{State}
 use Rattle.epoch.specs.declared.Sighting.{Sighting}
 use Rattle.epoch.specs.declared.Made.{Made}
@@ -29,7 +30,7 @@ use Rattle.epoch.specs.Epoch.{epochWith}
 use Rattle.epoch.specs.Kept.{recordAt, seenBy, observation}
 use Rattle.epoch.specs.Work.{sightingFrom, sightingOf, madeOf, Usable, Recorded, Tried, Opened}
 use Rattle.integrate.proofs.Places.{only-same}
-use Rattle.integrate.proofs.Front.{at-length, at-again, prepared-length, front-length, put-front}
+use Rattle.integrate.proofs.Front.{at-length, at-again, prepared-length, front-length, front-gravity, put-front}
 
 -- ---- the front of a slice written anew
 
@@ -56,26 +57,24 @@ module _ (n : ℕ) (w y : List Float) (h : n ≤ length w) (l : length y ≡ n) 
     same = λ k f. by (leb n k) (λ t. put-same k (leb-true n k t)) (λ t. absurd (f (omega arith) (omega (arith, leb-false n k t))));
   }
 
-module _ (N base : ℕ) (field ts fs w y : List Float) (h : base ≤ length w) where
-  abbrev M : Model
-  M = model N field ts fs
-
+module _ (M : Model) (base : ℕ) (w y : List Float) (h : base ≤ length w) where
   abbrev whole : List Float
   whole = putMid 0 (base - 0) w y
 
-  pub recorded : (a b : List Float) (t observed gm radius : Float) (c d : State) (axc axd : Float) (r : Epoch) →
-      y ≡ atLeft N field ts fs t (midOf 0 (base - 0) w) → gm ≡ getD field 0 nan → radius ≡ getD field 1 nan →
-      r ≡ epochWith (gravityWith N gm radius a b (midOf 0 (base - 0) whole)) t observed (c .position) (c .velocity) (d .position) (d .velocity) axc axd →
-      Recorded M base w whole (recordAt M a b t observed c d axc axd) r
+  pub recorded : (t observed gm radius : Float) (c d : State) (axc axd : Float) (r : Epoch) →
+      y ≡ atLeft M t (midOf 0 (base - 0) w) → gm ≡ getD (M .fixed .static) 0 nan → radius ≡ getD (M .fixed .static) 1 nan →
+      r ≡ epochWith (gravityWith (M .fixed .degree) gm radius (M .fixed .a) (M .fixed .b) (midOf 0 (base - 0) whole)) t observed (c .position) (c .velocity) (d .position) (d .velocity) axc axd →
+      Recorded M base w whole (recordAt M t observed c d axc axd) r
   unfolding recordAt
-  recorded a b t observed gm radius c d axc axd r ey em er ev =
-      let old : y ≡ atLeft N field ts fs t (take base w) = ey ∙ ap (atLeft N field ts fs t) (front-part base w) in
-      let long : length y ≡ base = ap length old ∙ at-length N field ts fs t (take base w) ∙ length-take-le base w h in
+  recorded t observed gm radius c d axc axd r ey em er ev =
+      let old : y ≡ atLeft M t (take base w) = ey ∙ ap (atLeft M t) (front-part base w) in
+      let long : length y ≡ base = ap length old ∙ at-length M t (take base w) ∙ length-take-le base w h in
       let mid : (u : Usable M (take base w)) → midOf 0 (base - 0) whole ≡ frontAt M t = λ u. front-part base whole ∙ put-front base w y h long ∙ old ∙ u .any t in
       record {
-        is = λ u. ev ∙ (λ i. epochWith (gravityWith N (em i) (er i) a b (mid u i)) t observed (c .position) (c .velocity) (d .position) (d .velocity) axc axd);
+        is = λ u. ev ∙ (λ i. epochWith (gravityWith (M .fixed .degree) (em i) (er i) (M .fixed .a) (M .fixed .b) (mid u i)) t observed (c .position) (c .velocity) (d .position) (d .velocity) axc axd)
+            ∙ (λ i. epochWith (λ x. front-gravity M t x i) t observed (c .position) (c .velocity) (d .position) (d .velocity) axc axd);
         usable = λ u. subst (λ (l : List Float). Usable M l) (sym (put-front base w y h long))
-            (record { long = ap length (old ∙ u .any t) ∙ front-length M t; any = λ t'. ap (atLeft N field ts fs t') old ∙ at-again N field ts fs t' t (take base w) ∙ u .any t' });
+            (record { long = ap length (old ∙ u .any t) ∙ front-length M t; any = λ t'. ap (atLeft M t') old ∙ at-again M t' t (take base w) ∙ u .any t' });
         only = put-only base w y h long;
       }
 
@@ -87,8 +86,11 @@ opened N base w y h ey =
     let is : y ≡ prepared N (replicate base zero64) = ey ∙ ap (λ (k : ℕ). prepared N (replicate k zero64)) part in
     let long : length y ≡ base = ap length is ∙ prepared-length N (replicate base zero64) ∙ length-replicate base zero64 in
     record {
-      usable = λ e l field ts fs. subst (λ (l : List Float). Usable (model N field ts fs) l) (sym (put-front base w y h long))
-          (record { long = long ∙ e; any = λ t. ap (atLeft N field ts fs t) (is ∙ ap (λ (k : ℕ). prepared N (replicate k zero64)) e) });
+      usable = λ e l M m. subst (λ (l : List Float). Usable M l) (sym (put-front base w y h long))
+          (record {
+            long = long ∙ e ∙ ap (λ (n : ℕ). frontSize n) (sym m);
+            any = λ t. ap (atLeft M t) (is ∙ ap (λ (k : ℕ). prepared N (replicate k zero64)) e ∙ ap (λ (n : ℕ). prepared n (replicate (frontSize n) zero64)) (sym m));
+          });
       only = put-only base w y h long;
     }
 
@@ -102,7 +104,8 @@ module _ (f : State → State → Float → Float → Epoch) where
   kept-made : (g : Bool) (x y : Option State) (p q : Option Float) (s : Sighting) → s ≡ sightingOf x y p q → (g && s .all) ≡ true →
       record { kept = true; epoch = f (s .c) (s .d) (s .axc) (s .axd) } ≡ madeOf (cond g (whereFound f x y p q) none)
   unfolding sightingFrom
-  kept-made g x y p q s e h = subst (λ (s : Sighting). (g && s .all) ≡ true → record { kept = true; epoch = f (s .c) (s .d) (s .axc) (s .axd) } ≡ madeOf (cond g (whereFound f x y p q) none)) (sym e) (cases g x y p q) h
+  kept-made g x y p q s e h = subst (λ (s : Sighting). (g && s .all) ≡ true → record { kept = true; epoch = f (s .c) (s .d) (s .axc) (s .axd) } ≡ madeOf (cond g (whereFound f x y p q) none)) (sym e)
+      (cases g x y p q) h
     where
       cases : (g : Bool) (x y : Option State) (p q : Option Float) → (g && sightingOf x y p q .all) ≡ true →
           record { kept = true; epoch = f (sightingOf x y p q .c) (sightingOf x y p q .d) (sightingOf x y p q .axc) (sightingOf x y p q .axd) } ≡ madeOf (cond g (whereFound f x y p q) none)
@@ -129,27 +132,27 @@ module _ (f : State → State → Float → Float → Epoch) where
 pub first-true : (a b r : Bool) → r ≡ (a && b) → r ≡ true → a ≡ true
 first-true a b r e h = both-true a b (sym e ∙ h) .0
 
-module _ (M : Model) (a b : List Float) (t v : Float) (good base : ℕ) (w : List Float) (s : Sighting) (k r : Bool)
-    (ek : k ≡ ((ltb 0 good && covers (M .times) t) && s .all)) (er : r ≡ (leb base (length w) && k)) where
+module _ (M : Model) (t v : Float) (good base : ℕ) (w : List Float) (s : Sighting) (k r : Bool)
+    (ek : k ≡ ((ltb 0 good && covers (M .fields .fieldTimes) t) && s .all)) (er : r ≡ (leb base (length w) && k)) where
   -- there is room where a record is made
   pub has-room : r ≡ true → base ≤ length w
   has-room h = leb-true base (length w) (first-true (leb base (length w)) k r er h)
 
-  pub tried-kept : (w' : List Float) (e : Epoch) → r ≡ true → Recorded M base w w' (recordAt M a b t v (s .c) (s .d) (s .axc) (s .axd)) e →
-      Tried M a b (observation t v good) base s w w' (record { kept = true; epoch = e })
+  pub tried-kept : (w' : List Float) (e : Epoch) → r ≡ true → Recorded M base w w' (recordAt M t v (s .c) (s .d) (s .axc) (s .axd)) e →
+      Tried M (observation t v good) base s w w' (record { kept = true; epoch = e })
   unfolding seenBy
   tried-kept w' e h m = record {
     is = λ l u x y p q f. ap (λ (e : Epoch). record { kept = true; epoch = e }) (m .is u)
-        ∙ kept-made (recordAt M a b t v) (ltb 0 good && covers (M .times) t) x y p q s f (sym ek ∙ both-true (leb base (length w)) k (sym er ∙ h) .1);
+        ∙ kept-made (recordAt M t v) (ltb 0 good && covers (M .fields .fieldTimes) t) x y p q s f (sym ek ∙ both-true (leb base (length w)) k (sym er ∙ h) .1);
     usable = λ l u. m .usable u;
     only = m .only;
   }
 
-  pub tried-not : (m : Made) → r ≡ false → m ≡ madeOf none → Tried M a b (observation t v good) base s w w m
+  pub tried-not : (m : Made) → r ≡ false → m ≡ madeOf none → Tried M (observation t v good) base s w w m
   unfolding seenBy
   tried-not m h em = record {
     is = λ l u x y p q f. em
-        ∙ none-made (recordAt M a b t v) (ltb 0 good && covers (M .times) t) x y p q s f (sym ek ∙ sym (ap (λ (z : Bool). z && k) (le-leb base (length w) l)) ∙ sym er ∙ h);
+        ∙ none-made (recordAt M t v) (ltb 0 good && covers (M .fields .fieldTimes) t) x y p q s f (sym ek ∙ sym (ap (λ (z : Bool). z && k) (le-leb base (length w) l)) ∙ sym er ∙ h);
     usable = λ l u. u;
     only = only-same 0 base w;
   }

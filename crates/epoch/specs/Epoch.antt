@@ -38,7 +38,7 @@ accelerometerTerm axc axd = neg axd ⊖ axc
 -- the range's second derivative for two free satellites: (Δv·Δv − (e·Δv)²)/ρ
 unfoldable pub velocityTerm : Vector → Vector → Vector → Vector → Float
 velocityTerm rc vc rd vd =
-    (inner (minus vd vc) (minus vd vc) ⊖ power (inner (sightOf rc rd) (minus vd vc)) 2 one64) ⊘ norm (minus rd rc)
+    (inner (minus vd vc) (minus vd vc) ⊖ power (inner (sightOf rc rd) (minus vd vc)) 2) ⊘ norm (minus rd rc)
 
 -- ---- the record
 

@@ -11,21 +11,15 @@ use Rattle.numbers.specs.Seconds.{wholeSecond}
 use Rattle.finality.specs.Brackets.{covers}
 use Rattle.finality.specs.Tables.{Table, find}
 use Rattle.finality.specs.Sheet.{Observation, whereFound}
+use Rattle.vectors.specs.declared.Vector.{Vector}
 use Rattle.epoch_record.specs.declared.Epoch.{Epoch}
-use Rattle.integrate.specs.Force.{Model, gravityAt}
+use Rattle.inputs.specs.Inputs.{Model, Keyed}
+use Rattle.integrate.specs.Force.{gravityAt}
 use Rattle.integrate.specs.Room.{stateIn}
 use Rattle.integrate.specs.declared.kernel.State.{State}
 use Rattle.epoch.specs.Epoch.{epochWith}
 
 -- ---- rows by whole second
-
--- keys, and the numbers that belong to them, end to end
-pub record Keyed : Type 0 where
-  pub keys : List ℤ
-  pub values : List Float
-
-abbrev pub keyed : List ℤ → List Float → Keyed
-keyed keys values = record { keys = keys; values = values }
 
 -- the keys from place i on, each with its row
 unfoldable pub rowsFrom : {X : Type 0} → (ℕ → X) → ℕ → List ℤ → Table X
@@ -40,19 +34,33 @@ numbers l = rowsFrom (λ (i : ℕ). getD (l .values) i nan) 0 (l .keys)
 
 -- ---- one epoch
 
--- the record from both states and accelerometer values
-unfoldable pub recordAt : Model → List Float → List Float → Float → Float → State → State → Float → Float → Epoch
-recordAt m a b t observed c d axc axd = epochWith (gravityAt m a b t) t observed (c .position) (c .velocity) (d .position) (d .velocity) axc axd
+-- the record from both states and accelerometer values, the field's gravity being a function of the time and the place
+abbrev pub recordBy : (Float → Vector → Vector) → Float → Float → State → State → Float → Float → Epoch
+recordBy gravity t observed c d axc axd = epochWith (gravity t) t observed (c .position) (c .velocity) (d .position) (d .velocity) axc axd
 
--- of a good and covered observation, from what four look-ups found
-unfoldable pub seenBy : Model → List Float → List Float → Observation → Option State → Option State → Option Float → Option Float → Option Epoch
-seenBy m a b o x y p q = cond (o .good && covers (m .times) (o .at)) (whereFound (recordAt m a b (o .at) (o .observed)) x y p q) none
+unfoldable pub recordAt : Model → Float → Float → State → State → Float → Float → Epoch
+recordAt m t observed c d axc axd = recordBy (gravityAt m) t observed c d axc axd
 
--- kept (document 01's own term) is a good and covered epoch whose four values stand at the whole part of its time; over the tables of both satellites' states and accelerometer values
-unfoldable pub epochBy : Model → List Float → List Float → Table State → Table State → Table Float → Table Float → Observation → Option Epoch
-epochBy m a b statesC statesD accC accD o =
+-- an observation's record, or none, from what four look-ups found
+abbrev pub Seen : Type 0
+Seen = Observation → Option State → Option State → Option Float → Option Float → Option Epoch
+
+-- of a good and covered observation
+abbrev pub seenWith : (Float → Float → State → State → Float → Float → Epoch) → List Float → Seen
+seenWith make times o x y p q = cond (o .good && covers times (o .at)) (whereFound (make (o .at) (o .observed)) x y p q) none
+
+unfoldable pub seenBy : Model → Seen
+seenBy m o x y p q = seenWith (recordAt m) (m .fields .fieldTimes) o x y p q
+
+-- kept (document 01's own term) is a good and covered epoch whose four values stand at the whole part of its time; over the tables of both satellites' states
+-- and accelerometer values
+abbrev pub epochOver : Seen → Table State → Table State → Table Float → Table Float → Observation → Option Epoch
+epochOver seen statesC statesD accC accD o =
     let k = wholeSecond (o .at) in
-    seenBy m a b o (find k statesC) (find k statesD) (find k accC) (find k accD)
+    seen o (find k statesC) (find k statesD) (find k accC) (find k accD)
+
+unfoldable pub epochBy : Model → Table State → Table State → Table Float → Table Float → Observation → Option Epoch
+epochBy m statesC statesD accC accD o = epochOver (seenBy m) statesC statesD accC accD o
 
 -- ---- all epochs
 

@@ -6,14 +6,14 @@ use mathlib.Core.Option.{Option, none, some}
 use mathlib.Core.List.{List}
 use lib.Ieee.{Float}
 use lib.ListN.{length, take, replicate}
-use Rattle.inputs.specs.Inputs.{frontSize}
+use Rattle.inputs.specs.Inputs.{Model, frontSize}
 use Rattle.laws.specs.Floats.{zero64}
 use Rattle.vectors.specs.declared.Vector.{Vector}
 use Rattle.finality.specs.Sheet.{Observation}
 use Rattle.model.specs.Calls.{atLeft}
 use Rattle.epoch_record.specs.declared.Epoch.{Epoch}
-use Rattle.integrate.specs.Force.{Model, model, frontAt}
 use Rattle.integrate.specs.Room.{Only}
+use Rattle.integrate.specs.Work.{frontAt}
 use Rattle.integrate.specs.declared.kernel.State.{State}
 use Rattle.epoch.specs.declared.StateFound.{StateFound}
 use Rattle.epoch.specs.declared.NumberFound.{NumberFound}
@@ -52,8 +52,8 @@ madeOf (some e) = record { kept = true; epoch = e }
 
 -- the numbers of the degree are prepared: writing the field at any time makes them those of that time
 pub record Usable (M : Model) (front : List Float) : Type 0 where
-  pub long : length front ≡ frontSize (M .degree)
-  pub any : (t : Float) → atLeft (M .degree) (M .field) (M .times) (M .added) t front ≡ frontAt M t
+  pub long : length front ≡ frontSize (M .fixed .degree)
+  pub any : (t : Float) → atLeft M t front ≡ frontAt M t
 
 -- one record was made, in a work slice that stays usable; behind the prepared numbers nothing changed
 pub record Recorded (M : Model) (base : ℕ) (w w' : List Float) (value r : Epoch) : Type 0 where
@@ -62,11 +62,11 @@ pub record Recorded (M : Model) (base : ℕ) (w w' : List Float) (value r : Epoc
   pub only : Only 0 base w w'
 
 -- the same of an observation for which s was found, where there is room for the prepared numbers
-pub record Tried (M : Model) (a b : List Float) (o : Observation) (base : ℕ) (s : Sighting) (w w' : List Float) (r : Made) : Type 0 where
-  pub is : base ≤ length w → Usable M (take base w) → (x y : Option State) (p q : Option Float) → s ≡ sightingOf x y p q → r ≡ madeOf (seenBy M a b o x y p q)
+pub record Tried (M : Model) (o : Observation) (base : ℕ) (s : Sighting) (w w' : List Float) (r : Made) : Type 0 where
+  pub is : base ≤ length w → Usable M (take base w) → (x y : Option State) (p q : Option Float) → s ≡ sightingOf x y p q → r ≡ madeOf (seenBy M o x y p q)
   pub usable : base ≤ length w → Usable M (take base w) → Usable M (take base w')
   pub only : Only 0 base w w'
 
 pub record Opened (N base : ℕ) (w w' : List Float) : Type 0 where
-  pub usable : base ≡ frontSize N → base ≤ length w → (field times added : List Float) → Usable (model N field times added) (take base w')
+  pub usable : base ≡ frontSize N → base ≤ length w → (M : Model) → M .fixed .degree ≡ N → Usable M (take base w')
   pub only : Only 0 base w w'

@@ -51,7 +51,7 @@ fn velocity_term(
 {
     let dv = vectors::sub(vd, vc);
     let rate = vectors::dot(sight(rc, rd), dv);
-    (vectors::dot(dv, dv) - numbers::power(rate, 2, 1.0)) / vectors::norm(vectors::sub(rd, rc))
+    (vectors::dot(dv, dv) - numbers::power(rate, 2)) / vectors::norm(vectors::sub(rd, rc))
 }
 
 fn middle(a: vectors::Vector, b: vectors::Vector) -> vectors::Vector

@@ -12,8 +12,8 @@ ghost use Rattle.laws.specs.Loops.{cleared};
 ghost use Rattle.legendre.specs.Prepared.{prepared};
 ghost use Rattle.finality.specs.Brackets.{covers as coversOf};
 ghost use Rattle.finality.specs.Tables.{find as findIn};
-ghost use Rattle.integrate.specs.Force.{model};
-ghost use Rattle.epoch.specs.Kept.{numbers as numbersOf, keyed, observation, recordAt};
+ghost use Rattle.inputs.specs.Inputs.{modelOf, keyed};
+ghost use Rattle.epoch.specs.Kept.{numbers as numbersOf, observation, recordAt};
 ghost use Rattle.epoch.specs.Work.{givenState, givenNumber, sightingFrom, madeOf, Recorded, Tried, Opened};
 
 // What stands at a key, and +0.0 where nothing does.
@@ -62,7 +62,8 @@ pub fn no_state() -> StateFound
 
 // The number at a second, in a list whose keys rise.
 pub fn number_at(keys: &[i64], values: &[f64], second: numbers::GpsSecond) -> NumberFound
-    ensures { λ r. ⌜ (risingSeconds (now (keys .entry)) ≡ true → r ≡ givenNumber (findIn (second .0) (numbersOf (keyed (now (keys .entry)) (now (values .entry)))))) ⌝ }
+    ensures { λ r. ⌜ (risingSeconds (now (keys .entry)) ≡ true
+        → r ≡ givenNumber (findIn (second .0) (numbersOf (keyed (now (keys .entry)) (now (values .entry)))))) ⌝ }
 {
     let key = second.0;
     let place = slices::find(keys, key);
@@ -105,13 +106,9 @@ fn is_kept(good: u8, times: &[f64], t: f64, all: bool) -> bool
 }
 
 // The record, over the field at t in the first `base` numbers of the work slice.
-fn make(
+fn make<'a>(
     degree: usize,
-    field: &[f64],
-    a: &[f64],
-    b: &[f64],
-    times: &[f64],
-    added: &[f64],
+    model: inputs::Model<'a>,
     found: Sighting,
     t: f64,
     observed: f64,
@@ -119,17 +116,19 @@ fn make(
     w: &mut [f64],
 ) -> epoch_record::Epoch
     requires { ⌜ base ≤ length (now w) ⌝ }
-    ensures { λ r. ⌜ Recorded (model degree (now (field .entry)) (now (times .entry)) (now (added .entry))) base (now (w .entry)) (now (w .exit)) (recordAt (model degree (now (field .entry)) (now (times .entry)) (now (added .entry))) (now (a .entry)) (now (b .entry)) t observed (found .c) (found .d) (found .axc) (found .axd)) r ⌝ }
+    ensures { λ r. ⌜ Recorded (modelOf degree (model .entry)) base (now (w .entry)) (now (w .exit))
+        (recordAt (modelOf degree (model .entry)) t observed (found .c) (found .d) (found .axc) (found .axd)) r ⌝ }
 {
-    model::kernel::at(degree, field, times, added, t, &mut w[0..base]);
+    model::kernel::at(degree, model, t, &mut w[0..base]);
+    let field = model[inputs::STATIC];
     let c = found.c;
     let d = found.d;
     crate::kernel::epoch_at(
         degree,
         integrate::kernel::element(field, 0),
         integrate::kernel::element(field, 1),
-        a,
-        b,
+        model[inputs::TABLE_A],
+        model[inputs::TABLE_B],
         &w[0..base],
         t,
         observed,
@@ -159,13 +158,9 @@ pub fn no_epoch() -> Made
 }
 
 // The record of an observation for which this was found, if it is kept; the first `base` numbers of the work slice are prepared.
-pub fn try_seen(
+pub fn try_seen<'a>(
     degree: usize,
-    field: &[f64],
-    a: &[f64],
-    b: &[f64],
-    times: &[f64],
-    added: &[f64],
+    model: inputs::Model<'a>,
     found: Sighting,
     t: f64,
     observed: f64,
@@ -173,23 +168,11 @@ pub fn try_seen(
     base: usize,
     w: &mut [f64],
 ) -> Made
-    ensures { λ r. ⌜ Tried (model degree (now (field .entry)) (now (times .entry)) (now (added .entry))) (now (a .entry)) (now (b .entry)) (observation t observed good) base found (now (w .entry)) (now (w .exit)) r ⌝ }
+    ensures { λ r. ⌜ Tried (modelOf degree (model .entry)) (observation t observed good) base found (now (w .entry)) (now (w .exit)) r ⌝ }
 {
-    let kept = is_kept(good, times, t, found.all);
+    let kept = is_kept(good, model[inputs::FIELD_TIMES], t, found.all);
     if slices::both(base <= w.len(), kept) {
-        let epoch = make(
-            degree,
-            field,
-            a,
-            b,
-            times,
-            added,
-            found,
-            t,
-            observed,
-            base,
-            w,
-        );
+        let epoch = make(degree, model, found, t, observed, base, w);
         return Made { kept: true, epoch };
     }
     no_epoch()

@@ -1,4 +1,5 @@
--- Lists of epoch records (document 01, module 5): what is read from each, what a call tests of it, and the list with other residuals (module 6). Assumes nothing.
+-- Lists of epoch records (document 01, module 5): what is read from each, what a call tests of it, and the list with other residuals (module 6).
+-- Assumes nothing.
 use mathlib.Core.Bool.{Bool, _&&_}
 use mathlib.Core.List.{List, [], _∷_, map}
 use lib.Ieee.{Float}

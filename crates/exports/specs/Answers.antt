@@ -23,7 +23,7 @@ use Rattle.sheet.specs.declared.SheetAnswer.{SheetAnswer}
 use Rattle.sheet.specs.declared.SheetAnswer.the-variants as sheet
 use Rattle.horizon.specs.declared.kernel.HorizonNode.{HorizonNode}
 use Rattle.horizon.specs.declared.kernel.HorizonNode.the-variants as horizon
-use Rattle.exports.specs.Four.{fourOf}
+use Rattle.exports.specs.PartialsList.{partialsList}
 
 -- ---- an outcome
 
@@ -85,7 +85,7 @@ sheetLeft l cs = sheetTold (sheetNumber (l .answer)) (countsIn (l .answer) cs) (
 -- ---- the partials, in a list of four
 
 abbrev pub partialsIn : PartialsAnswer → List Float → List Float
-partialsIn (partials.Value p) out = fourOf p
+partialsIn (partials.Value p) out = partialsList p
 partialsIn (partials.Refused n) out = cond (leb n 5) out (cleared out)
 
 abbrev pub partialsLeft : Left PartialsAnswer → List Float → Left ℕ

@@ -7,7 +7,7 @@ ghost use Rattle.laws.specs.Loops.{cleared};
 ghost use Rattle.slices.specs.Answers.{outcomeNumber, countedNumber};
 ghost use Rattle.fields.specs.Calls.{refusalOf, partialsNumber};
 ghost use Rattle.sheet.specs.Calls.{sheetNumber};
-ghost use Rattle.exports.specs.Four.{fourIn};
+ghost use Rattle.exports.specs.PartialsList.{listedIn};
 ghost use Rattle.exports.specs.Told.{toldOf};
 ghost use Rattle.exports.specs.Answers.{countIn, partialsIn, horizonNumber, countsIn};
 
@@ -97,7 +97,7 @@ pub fn store_counts(answer: sheet::SheetAnswer, counts: &mut [usize]) -> u8
 
 // An out of another length stays as it was.
 pub fn put_four(p: legendre::Partials, out: &mut [f64])
-    ensures { λ _. ⌜ now (out .exit) ≡ fourIn p (now (out .entry)) ⌝ }
+    ensures { λ _. ⌜ now (out .exit) ≡ listedIn p (now (out .entry)) ⌝ }
 {
     if out.len() == 4 {
         out[0] = p.v;

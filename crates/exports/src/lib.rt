@@ -8,24 +8,23 @@ ghost use lib.Ieee.{binary64};
 ghost use lib.ListN.{length};
 ghost use Rattle.legendre.specs.Field.{partialsWith};
 ghost use Rattle.legendre.specs.Prepared.{prepared};
-ghost use Rattle.exports.specs.Four.{fourIn};
+ghost use Rattle.exports.specs.PartialsList.{listedIn};
 ghost use Rattle.slices.specs.Calls.{left};
 ghost use Rattle.fields.specs.Calls.{newCall, partialsCall};
 ghost use Rattle.filter.specs.Calls.{bandPassCall};
 ghost use Rattle.detrend.specs.Calls.{detrendCall, revolutionsCall};
-ghost use Rattle.integrate.specs.Force.{model};
-ghost use Rattle.epoch.specs.Kept.{keyed};
-ghost use Rattle.residuals.specs.Inputs.{inputs};
-ghost use Rattle.residuals.specs.Calls.{lists, sightings, residualsCall};
-ghost use Rattle.windows.specs.Stage.{setting};
-ghost use Rattle.sheet.specs.Calls.{lists as sheetLists, sheetCall};
+ghost use Rattle.inputs.specs.Inputs.{modelWith, pairWith, observedOf, inputs, lists as sheetLists};
+ghost use Rattle.residuals.specs.Calls.{lists, residualsCall};
+ghost use Rattle.sheet.specs.Calls.{sheetCall};
 ghost use Rattle.finality.specs.Sheet.{horizonOf, countTo};
 ghost use Rattle.horizon.specs.Horizon.{endsOf, finalEntries};
 ghost use Rattle.fit.specs.Calls.{fitCall};
 ghost use Rattle.exports.specs.Told.{toldLeft};
-ghost use Rattle.exports.specs.Answers.{outcomeLeft, partialsTold, horizonTold, revolutionsTold, revolutionsLeft, listsTold, residualsLeft, sheetTold, sheetLeft};
+ghost use Rattle.exports.specs.Answers.{outcomeLeft, partialsTold, horizonTold, revolutionsTold, revolutionsLeft, listsTold, residualsLeft};
+ghost use Rattle.exports.specs.Answers.{sheetTold, sheetLeft};
 ghost use Rattle.root.specs.Root.{sqrt};
-ghost use Rattle.numbers.specs.Numbers.{sine as Numbers·sine, cosine as Numbers·cosine, arctangent as Numbers·arctangent, arcsine as Numbers·arcsine, power as Numbers·power};
+ghost use Rattle.numbers.specs.Numbers.{sine as Numbers·sine, cosine as Numbers·cosine, arctangent as Numbers·arctangent, arcsine as Numbers·arcsine};
+ghost use Rattle.numbers.specs.Numbers.{carried as Numbers·carried};
 
 #[no_mangle]
 pub extern "C" fn pozsmeteg_root(x: f64) -> f64
@@ -64,9 +63,9 @@ pub extern "C" fn pozsmeteg_arcsine(v: f64) -> f64
 
 #[no_mangle]
 pub extern "C" fn pozsmeteg_power(a: f64, n: u32, c: f64) -> f64
-    ensures { λ r. ⌜ r ≡ Numbers·power a n c ⌝ }
+    ensures { λ r. ⌜ r ≡ Numbers·carried a n c ⌝ }
 {
-    numbers::power(a, n, c)
+    numbers::carried(a, n, c)
 }
 
 #[no_mangle]
@@ -90,20 +89,21 @@ pub extern "C" fn pozsmeteg_partials_prepared(
     lon: f64,
     out: &mut [f64],
 )
-    ensures { λ _. ⌜ now (out .exit) ≡ fourIn (partialsWith degree gm radius (now (a .entry)) (now (b .entry)) (now (work .entry)) r lat lon) (now (out .entry)) ⌝ }
+    ensures { λ _. ⌜ now (out .exit) ≡ listedIn (partialsWith degree gm radius (now (a .entry)) (now (b .entry)) (now (work .entry)) r lat lon)
+        (now (out .entry)) ⌝ }
 {
     let z = fields::kernel::partials(degree, gm, radius, a, b, work, r, lat, lon);
     answers::put_four(z, out);
 }
 
 #[no_mangle]
-pub extern "C" fn pozsmeteg_fit_orbit(
+pub extern "C" fn pozsmeteg_fit_orbit<'a>(
     degree: usize,
-    field: &[f64],
-    a: &[f64],
-    b: &[f64],
-    times: &[f64],
-    added: &[f64],
+    field: &'a [f64],
+    a: &'a [f64],
+    b: &'a [f64],
+    times: &'a [f64],
+    added: &'a [f64],
     keys: &[i64],
     states: &[f64],
     t0: f64,
@@ -113,7 +113,9 @@ pub extern "C" fn pozsmeteg_fit_orbit(
     out: &mut [f64],
     scratch: &mut [f64],
 ) -> f64
-    ensures { λ r. ⌜ left r (now (out .exit) ∷ []) (now (scratch .exit)) ≡ toldLeft (fitCall degree (now (field .entry)) (now (a .entry)) (now (b .entry)) (now (times .entry)) (now (added .entry)) (now (keys .entry)) (now (states .entry)) (record { t0 = t0; steps = steps; node = node; period = period }) (now (out .entry)) (now (scratch .entry))) ⌝ }
+    ensures { λ r. ⌜ left r (now (out .exit) ∷ []) (now (scratch .exit)) ≡ toldLeft
+        (fitCall (modelWith degree (now (field .entry)) (now (a .entry)) (now (b .entry)) (now (times .entry)) (now (added .entry))) (now (keys .entry))
+        (now (states .entry)) (record { t0 = t0; steps = steps; node = node; period = period }) (now (out .entry)) (now (scratch .entry))) ⌝ }
 {
     let arc = integrate::kernel::Arc {
         t0: t0,
@@ -123,11 +125,7 @@ pub extern "C" fn pozsmeteg_fit_orbit(
     };
     let answer = fit::fit_orbit(
         degree,
-        field,
-        a,
-        b,
-        times,
-        added,
+        [field, a, b, times, added],
         keys,
         states,
         arc,
@@ -144,7 +142,8 @@ pub extern "C" fn pozsmeteg_legendre_new(
     b: &mut [f64],
     scratch: &mut [f64],
 ) -> u8
-    ensures { λ r. ⌜ left r (now (a .exit) ∷ now (b .exit) ∷ []) (now (scratch .exit)) ≡ outcomeLeft (newCall degree (now (a .entry)) (now (b .entry)) (now (scratch .entry))) ⌝ }
+    ensures { λ r. ⌜ left r (now (a .exit) ∷ now (b .exit) ∷ []) (now (scratch .exit)) ≡ outcomeLeft
+        (newCall degree (now (a .entry)) (now (b .entry)) (now (scratch .entry))) ⌝ }
 {
     answers::number(fields::legendre_new(degree, a, b, scratch))
 }
@@ -162,7 +161,9 @@ pub extern "C" fn pozsmeteg_partials(
     out: &mut [f64],
     scratch: &mut [f64],
 ) -> u8
-    ensures { λ z. ⌜ left z (now (out .exit) ∷ []) (now (scratch .exit)) ≡ partialsTold degree (partialsCall degree (now (field .entry)) (now (a .entry)) (now (b .entry)) r lat lon (now (scratch .entry))) (now (out .entry)) (now (scratch .entry)) ⌝ }
+    ensures { λ z. ⌜ left z (now (out .exit) ∷ []) (now (scratch .exit)) ≡ partialsTold degree
+        (partialsCall degree (now (field .entry)) (now (a .entry)) (now (b .entry)) r lat lon (now (scratch .entry))) (now (out .entry))
+        (now (scratch .entry)) ⌝ }
 {
     if out.len() != 4 {
         return answers::length_refusal(degree);
@@ -178,7 +179,8 @@ pub extern "C" fn pozsmeteg_band_pass(
     out: &mut [f64],
     scratch: &mut [f64],
 ) -> u8
-    ensures { λ r. ⌜ left r (now (out .exit) ∷ []) (now (scratch .exit)) ≡ outcomeLeft (bandPassCall (now (times .entry)) (now (x .entry)) (now (out .entry)) (now (scratch .entry))) ⌝ }
+    ensures { λ r. ⌜ left r (now (out .exit) ∷ []) (now (scratch .exit)) ≡ outcomeLeft
+        (bandPassCall (now (times .entry)) (now (x .entry)) (now (out .entry)) (now (scratch .entry))) ⌝ }
 {
     answers::number(filter::band_pass(times, x, out, scratch))
 }
@@ -193,7 +195,9 @@ pub extern "C" fn pozsmeteg_detrend(
     periods: &[f64],
     scratch: &mut [f64],
 ) -> u8
-    ensures { λ r. ⌜ left r (now (values .exit) ∷ []) (now (scratch .exit)) ≡ outcomeLeft (detrendCall (now (times .entry)) (now (values .entry)) (now (firsts .entry)) (now (ends .entry)) (now (starts .entry)) (now (periods .entry)) (now (scratch .entry))) ⌝ }
+    ensures { λ r. ⌜ left r (now (values .exit) ∷ []) (now (scratch .exit)) ≡ outcomeLeft
+        (detrendCall (now (times .entry)) (now (values .entry)) (now (firsts .entry)) (now (ends .entry)) (now (starts .entry)) (now (periods .entry))
+        (now (scratch .entry))) ⌝ }
 {
     answers::number(detrend::detrend(times, values, firsts, ends, starts, periods, scratch))
 }
@@ -209,7 +213,9 @@ pub extern "C" fn pozsmeteg_revolutions(
     periods: &mut [f64],
     counts: &mut [usize],
 ) -> u8
-    ensures { λ r. ⌜ revolutionsTold r (now (counts .exit)) (now (firsts .exit)) (now (ends .exit)) (now (starts .exit)) (now (periods .exit)) ≡ revolutionsLeft (revolutionsCall (now (times .entry)) (now (nodes .entry)) (now (firsts .entry)) (now (ends .entry)) (now (starts .entry)) (now (periods .entry))) (now (counts .entry)) ⌝ }
+    ensures { λ r. ⌜ revolutionsTold r (now (counts .exit)) (now (firsts .exit)) (now (ends .exit)) (now (starts .exit)) (now (periods .exit)) ≡
+        revolutionsLeft (revolutionsCall (now (times .entry)) (now (nodes .entry)) (now (firsts .entry)) (now (ends .entry)) (now (starts .entry))
+        (now (periods .entry))) (now (counts .entry)) ⌝ }
 {
     let answer = detrend::revolutions(times, nodes, firsts, ends, starts, periods);
     answers::store_count(answer, counts)
@@ -217,21 +223,21 @@ pub extern "C" fn pozsmeteg_revolutions(
 
 // The count of kept epochs goes into the first place of counts.
 #[no_mangle]
-pub extern "C" fn pozsmeteg_residuals(
+pub extern "C" fn pozsmeteg_residuals<'a>(
     degree: usize,
-    field: &[f64],
-    a: &[f64],
-    b: &[f64],
-    times: &[f64],
-    added: &[f64],
-    ckeys: &[i64],
-    cstates: &[f64],
-    dkeys: &[i64],
-    dstates: &[f64],
-    cacckeys: &[i64],
-    caccs: &[f64],
-    dacckeys: &[i64],
-    daccs: &[f64],
+    field: &'a [f64],
+    a: &'a [f64],
+    b: &'a [f64],
+    times: &'a [f64],
+    added: &'a [f64],
+    ckeys: &'a [i64],
+    cstates: &'a [f64],
+    dkeys: &'a [i64],
+    dstates: &'a [f64],
+    cacckeys: &'a [i64],
+    caccs: &'a [f64],
+    dacckeys: &'a [i64],
+    daccs: &'a [f64],
     obstimes: &[f64],
     obsvalues: &[f64],
     good: &[u8],
@@ -243,23 +249,22 @@ pub extern "C" fn pozsmeteg_residuals(
     counts: &mut [usize],
     scratch: &mut [f64],
 ) -> u8
-    ensures { λ r. ⌜ listsTold r (now (counts .exit)) (lists (now (outtimes .exit)) (now (outresiduals .exit)) (now (outterms .exit)) (now (outmids .exit)) (now (outvels .exit))) (now (scratch .exit)) ≡ residualsLeft (residualsCall (inputs (model degree (now (field .entry)) (now (times .entry)) (now (added .entry))) (now (a .entry)) (now (b .entry)) (keyed (now (ckeys .entry)) (now (cstates .entry))) (keyed (now (dkeys .entry)) (now (dstates .entry))) (keyed (now (cacckeys .entry)) (now (caccs .entry))) (keyed (now (dacckeys .entry)) (now (daccs .entry)))) (sightings (now (obstimes .entry)) (now (obsvalues .entry)) (now (good .entry))) (lists (now (outtimes .entry)) (now (outresiduals .entry)) (now (outterms .entry)) (now (outmids .entry)) (now (outvels .entry))) (now (scratch .entry))) (now (counts .entry)) ⌝ }
+    ensures { λ r. ⌜ listsTold r (now (counts .exit))
+        (lists (now (outtimes .exit)) (now (outresiduals .exit)) (now (outterms .exit)) (now (outmids .exit)) (now (outvels .exit))) (now (scratch .exit)) ≡
+        residualsLeft (residualsCall (inputs (modelWith degree (now (field .entry)) (now (a .entry)) (now (b .entry)) (now (times .entry))
+        (now (added .entry))) (pairWith (now (ckeys .entry)) (now (cstates .entry)) (now (dkeys .entry)) (now (dstates .entry)))
+        (pairWith (now (cacckeys .entry)) (now (caccs .entry)) (now (dacckeys .entry)) (now (daccs .entry))))
+        (observedOf (now (obstimes .entry)) (now (obsvalues .entry)) (now (good .entry)))
+        (lists (now (outtimes .entry)) (now (outresiduals .entry)) (now (outterms .entry)) (now (outmids .entry)) (now (outvels .entry)))
+        (now (scratch .entry))) (now (counts .entry)) ⌝ }
 {
     let answer = residuals::residuals(
         degree,
-        field,
-        a,
-        b,
-        times,
-        added,
-        ckeys,
-        cstates,
-        dkeys,
-        dstates,
-        cacckeys,
-        caccs,
-        dacckeys,
-        daccs,
+        [field, a, b, times, added],
+        [ckeys, dkeys],
+        [cstates, dstates],
+        [cacckeys, dacckeys],
+        [caccs, daccs],
         obstimes,
         obsvalues,
         good,
@@ -275,21 +280,21 @@ pub extern "C" fn pozsmeteg_residuals(
 
 // The whole path; the counts of kept and of final epochs go into the first two places of counts.
 #[no_mangle]
-pub extern "C" fn pozsmeteg_sheet(
+pub extern "C" fn pozsmeteg_sheet<'a>(
     degree: usize,
-    field: &[f64],
-    a: &[f64],
-    b: &[f64],
-    times: &[f64],
-    added: &[f64],
-    ckeys: &[i64],
-    cstates: &[f64],
-    dkeys: &[i64],
-    dstates: &[f64],
-    cacckeys: &[i64],
-    caccs: &[f64],
-    dacckeys: &[i64],
-    daccs: &[f64],
+    field: &'a [f64],
+    a: &'a [f64],
+    b: &'a [f64],
+    times: &'a [f64],
+    added: &'a [f64],
+    ckeys: &'a [i64],
+    cstates: &'a [f64],
+    dkeys: &'a [i64],
+    dstates: &'a [f64],
+    cacckeys: &'a [i64],
+    caccs: &'a [f64],
+    dacckeys: &'a [i64],
+    daccs: &'a [f64],
     nodes: &[f64],
     obstimes: &[f64],
     obsvalues: &[f64],
@@ -301,23 +306,23 @@ pub extern "C" fn pozsmeteg_sheet(
     counts: &mut [usize],
     scratch: &mut [f64],
 ) -> u8
-    ensures { λ r. ⌜ sheetTold r (now (counts .exit)) (now (outtimes .exit) ∷ now (outraws .exit) ∷ now (outdetrended .exit) ∷ now (outpassed .exit) ∷ []) (now (scratch .exit)) ≡ sheetLeft (sheetCall (setting degree (now (field .entry)) (now (a .entry)) (now (b .entry))) (sheetLists (now (times .entry)) (now (added .entry)) (now (ckeys .entry)) (now (cstates .entry)) (now (dkeys .entry)) (now (dstates .entry)) (now (cacckeys .entry)) (now (caccs .entry)) (now (dacckeys .entry)) (now (daccs .entry)) (now (nodes .entry)) (now (obstimes .entry)) (now (obsvalues .entry)) (now (good .entry))) (now (outtimes .entry) ∷ now (outraws .entry) ∷ now (outdetrended .entry) ∷ now (outpassed .entry) ∷ []) (now (scratch .entry))) (now (counts .entry)) ⌝ }
+    ensures { λ r. ⌜ sheetTold r (now (counts .exit)) (now (outtimes .exit) ∷ now (outraws .exit) ∷ now (outdetrended .exit) ∷ now (outpassed .exit) ∷ [])
+        (now (scratch .exit)) ≡ sheetLeft (sheetCall
+        (modelWith degree (now (field .entry)) (now (a .entry)) (now (b .entry)) (now (times .entry)) (now (added .entry)) .fixed)
+        (sheetLists (modelWith degree (now (field .entry)) (now (a .entry)) (now (b .entry)) (now (times .entry)) (now (added .entry)))
+        (pairWith (now (ckeys .entry)) (now (cstates .entry)) (now (dkeys .entry)) (now (dstates .entry)))
+        (pairWith (now (cacckeys .entry)) (now (caccs .entry)) (now (dacckeys .entry)) (now (daccs .entry))) (now (nodes .entry))
+        (observedOf (now (obstimes .entry)) (now (obsvalues .entry)) (now (good .entry))))
+        (now (outtimes .entry) ∷ now (outraws .entry) ∷ now (outdetrended .entry) ∷ now (outpassed .entry) ∷ []) (now (scratch .entry))) (now (counts .entry))
+        ⌝ }
 {
     let answer = sheet::sheet(
         degree,
-        field,
-        a,
-        b,
-        times,
-        added,
-        ckeys,
-        cstates,
-        dkeys,
-        dstates,
-        cacckeys,
-        caccs,
-        dacckeys,
-        daccs,
+        [field, a, b, times, added],
+        [ckeys, dkeys],
+        [cstates, dstates],
+        [cacckeys, dacckeys],
+        [caccs, daccs],
         nodes,
         obstimes,
         obsvalues,
@@ -342,7 +347,9 @@ pub extern "C" fn pozsmeteg_horizon(
     fields: &[f64],
     observed: &[f64],
 ) -> f64
-    ensures { λ r. ⌜ r ≡ horizonTold (horizonOf (endsOf (now (cstates .entry)) (now (dstates .entry)) (now (caccs .entry)) (now (daccs .entry)) (now (fields .entry)) (now (observed .entry))) (now (nodes .entry))) ⌝ }
+    ensures { λ r. ⌜ r ≡ horizonTold (horizonOf
+        (endsOf (now (cstates .entry)) (now (dstates .entry)) (now (caccs .entry)) (now (daccs .entry)) (now (fields .entry)) (now (observed .entry)))
+        (now (nodes .entry))) ⌝ }
 {
     answers::horizon_time(horizon::kernel::horizon(
         nodes,
@@ -367,7 +374,8 @@ pub extern "C" fn pozsmeteg_final_count(
     observed: &[f64],
     kept: &[f64],
 ) -> usize
-    ensures { λ r. ⌜ r ≡ countTo (horizonOf (endsOf (now (cstates .entry)) (now (dstates .entry)) (now (caccs .entry)) (now (daccs .entry)) (now (fields .entry)) (now (observed .entry))) (now (nodes .entry))) (now (kept .entry)) ⌝ }
+    ensures { λ r. ⌜ r ≡ countTo (horizonOf (endsOf (now (cstates .entry)) (now (dstates .entry)) (now (caccs .entry)) (now (daccs .entry))
+        (now (fields .entry)) (now (observed .entry))) (now (nodes .entry))) (now (kept .entry)) ⌝ }
 {
     let z = horizon::kernel::horizon(nodes, cstates, dstates, caccs, daccs, fields, observed);
     horizon::kernel::final_count(z, kept)

@@ -117,9 +117,11 @@ module _ (p : Partials) (r lat : Float) (fp fr fl q x : Bool) (ep : fp ≡ finit
   pub acceleration-refused : not x ≡ true → acceleration.Refused 4 ≡ accelerationCall p r lat
   unfolding accelerationCall
   acceleration-refused h =
-      ap (λ (i : Bool). cond i (cond (finiteNeu (accelerationOf p r lat)) (acceleration.Value (accelerationOf p r lat)) (acceleration.Refused 10)) (acceleration.Refused 4)) (sym (not-true x h) ∙ given)
+      ap (λ (i : Bool). cond i (cond (finiteNeu (accelerationOf p r lat)) (acceleration.Value (accelerationOf p r lat)) (acceleration.Refused 10)) (acceleration.Refused 4))
+      (sym (not-true x h) ∙ given)
 
-  module _ (c : Float) (fn fe fu g y : Bool) (ec : c ≡ cosine lat) (en : fn ≡ finite (p .dlat ⊘ r)) (ee : fe ≡ finite (p .dlon ⊘ (r ⊗ c))) (eu : fu ≡ finite (p .dr)) (eg : g ≡ fe && fu) (ey : y ≡ fn && g) (h : not x ≡ false) where
+  module _ (c : Float) (fn fe fu g y : Bool) (ec : c ≡ cosine lat) (en : fn ≡ finite (p .dlat ⊘ r)) (ee : fe ≡ finite (p .dlon ⊘ (r ⊗ c))) (eu : fu ≡ finite (p .dr)) (eg : g ≡ fe && fu)
+      (ey : y ≡ fn && g) (h : not x ≡ false) where
     made : y ≡ finiteNeu (accelerationOf p r lat)
     made = ey ∙ (λ i. en i && (eg ∙ (λ j. (ee ∙ ap (λ (k : Float). finite (p .dlon ⊘ (r ⊗ k))) ec) j && eu j)) i)
 
@@ -128,10 +130,12 @@ module _ (p : Partials) (r lat : Float) (fp fr fl q x : Bool) (ep : fp ≡ finit
     acceleration-fine k =
         ap (λ (i : Float). acceleration.Value (record { north = p .dlat ⊘ r; east = p .dlon ⊘ (r ⊗ i); up = p .dr })) ec
         ∙ ap (λ (i : Bool). cond i (acceleration.Value (accelerationOf p r lat)) (acceleration.Refused 10)) (sym k ∙ made)
-        ∙ ap (λ (i : Bool). cond i (cond (finiteNeu (accelerationOf p r lat)) (acceleration.Value (accelerationOf p r lat)) (acceleration.Refused 10)) (acceleration.Refused 4)) (sym (not-false x h) ∙ given)
+        ∙ ap (λ (i : Bool). cond i (cond (finiteNeu (accelerationOf p r lat)) (acceleration.Value (accelerationOf p r lat)) (acceleration.Refused 10)) (acceleration.Refused 4))
+        (sym (not-false x h) ∙ given)
 
     pub acceleration-not : y ≡ false → acceleration.Refused 10 ≡ accelerationCall p r lat
     unfolding accelerationCall
     acceleration-not k =
         ap (λ (i : Bool). cond i (acceleration.Value (accelerationOf p r lat)) (acceleration.Refused 10)) (sym k ∙ made)
-        ∙ ap (λ (i : Bool). cond i (cond (finiteNeu (accelerationOf p r lat)) (acceleration.Value (accelerationOf p r lat)) (acceleration.Refused 10)) (acceleration.Refused 4)) (sym (not-false x h) ∙ given)
+        ∙ ap (λ (i : Bool). cond i (cond (finiteNeu (accelerationOf p r lat)) (acceleration.Value (accelerationOf p r lat)) (acceleration.Refused 10)) (acceleration.Refused 4))
+        (sym (not-false x h) ∙ given)

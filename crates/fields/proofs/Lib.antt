@@ -1,4 +1,10 @@
+-- The public calls on fields.
+--
+--   Refusals      the refusals of module 1, and what holds where none applies
+--   Answers       what the calls hand out and leave behind
+--   ScratchCalls  the calls that work in a prepared scratch slice, and `rescaled`
+--   Instances     document 01's checked instances of the index
 mod Refusals
 mod Answers
-mod Tables
+mod ScratchCalls
 pub mod Instances

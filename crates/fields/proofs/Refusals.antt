@@ -79,7 +79,8 @@ two-is l x y scratch p q ep eq = eq ∙ ap (λ (b : Bool). eqb x l && b) ep
 pub tables-refused : (N l x y scratch r : ℕ) (b v : Bool) → (N ≤ 180 → l ≡ size N) → b ≡ twoTables l x y scratch → r ≡ refusalOf N b v → r ≡ refusalOf N (twoTables (size N) x y scratch) v
 tables-refused N l x y scratch r b v e eb er = sized (λ k. twoTables k x y scratch) N l r b v e eb er
 
-pub field-refused : (N l f x y scratch r : ℕ) (a b v : Bool) → (N ≤ 180 → l ≡ size N) → a ≡ twoTables l x y scratch → b ≡ eqb f (2 + 2 * l) && a → r ≡ refusalOf N b v → r ≡ refusalOf N (fieldAnd (size N) f x y scratch) v
+pub field-refused : (N l f x y scratch r : ℕ) (a b v : Bool) → (N ≤ 180 → l ≡ size N) → a ≡ twoTables l x y scratch → b ≡ eqb f (2 + 2 * l) && a → r ≡ refusalOf N b v
+    → r ≡ refusalOf N (fieldAnd (size N) f x y scratch) v
 field-refused N l f x y scratch r a b v e ea eb er = sized (λ k. fieldAnd k f x y scratch) N l r b v e (eb ∙ ap (λ (c : Bool). eqb f (2 + 2 * l) && c) ea) er
 
 pub compute-refused : (N l x y p q scratch r : ℕ) (a c b v : Bool) → (N ≤ 180 → l ≡ size N) → a ≡ twoTables l x y scratch → c ≡ twoTables l p q scratch → b ≡ a && c → r ≡ refusalOf N b v →

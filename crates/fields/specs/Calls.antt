@@ -109,24 +109,29 @@ handedOne x = handed Accepted Refused (all (all finite) (x ∷ [])) (x ∷ []) (
 -- `legendre_new`
 abbrev pub newCall : ℕ → List Float → List Float → List Float → Left Outcome
 newCall N a b scratch =
-    settled Accepted Refused (refusalOf N (twoTables (size N) (length a) (length b) (length scratch)) true) 0 (rows aOf (N + 1) ∷ rows bOf (N + 1) ∷ []) (a ∷ b ∷ []) scratch
+    settled Accepted Refused (refusalOf N (twoTables (size N) (length a) (length b) (length scratch)) true) 0 (rows aOf (N + 1) ∷ rows bOf (N + 1) ∷ [])
+    (a ∷ b ∷ []) scratch
 
 -- `rescaled`: the cosine coefficients begin at 2, the sine coefficients at 2 + L
 abbrev pub rescaledCall : ℕ → List Float → Float → Float → List Float → List Float → List Float → Left Outcome
 rescaledCall N field gm radius c s scratch =
-    settled Accepted Refused (refusalOf N (fieldAnd (size N) (length field) (length c) (length s) (length scratch)) (all finite field && (finite gm && finite radius))) 0
+    settled Accepted Refused (refusalOf N (fieldAnd (size N) (length field) (length c) (length s) (length scratch))
+    (all finite field && (finite gm && finite radius))) 0
     (rows (rescaledAt 2 gm radius field) (N + 1) ∷ rows (rescaledAt (2 + size N) gm radius field) (N + 1) ∷ []) (c ∷ s ∷ []) scratch
 
 -- `compute_with_derivative`
 abbrev pub computeCall : ℕ → List Float → List Float → Float → List Float → List Float → List Float → Left Outcome
 computeCall N a b lat p dp scratch =
-    settled Accepted Refused (refusalOf N (fourTables (size N) (length a) (length b) (length p) (length dp) (length scratch)) (all finite a && (all finite b && finite lat))) 0
-    (rows (legendreBy (lentTables N a b) (sine lat) (cosine lat)) (N + 1) ∷ rows (derivedBy (lentTables N a b) (sine lat) (cosine lat)) (N + 1) ∷ []) (p ∷ dp ∷ []) scratch
+    settled Accepted Refused (refusalOf N (fourTables (size N) (length a) (length b) (length p) (length dp) (length scratch))
+    (all finite a && (all finite b && finite lat))) 0
+    (rows (legendreBy (lentTables N a b) (sine lat) (cosine lat)) (N + 1) ∷ rows (derivedBy (lentTables N a b) (sine lat) (cosine lat)) (N + 1) ∷ [])
+    (p ∷ dp ∷ []) scratch
 
 -- `derive`
 abbrev pub deriveCall : ℕ → List Float → List Float → List Float → Left Outcome
 deriveCall N p dp scratch =
-    settled Accepted Refused (refusalOf N (twoTables (size N) (length p) (length dp) (length scratch)) (all finite p)) 0 (rows (derived (λ n. from p (tri n))) (N + 1) ∷ []) (dp ∷ []) scratch
+    settled Accepted Refused (refusalOf N (twoTables (size N) (length p) (length dp) (length scratch)) (all finite p)) 0
+    (rows (derived (λ n. from p (tri n))) (N + 1) ∷ []) (dp ∷ []) scratch
 
 -- ---- `partials`
 

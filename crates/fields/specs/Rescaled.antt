@@ -6,13 +6,13 @@ use mathlib.Core.List.{List}
 use lib.Dec.{leb}
 use lib.ListN.{length, getD}
 use lib.Ieee.{Float, nan}
-use Rattle.laws.specs.Floats.{_⊗_, _⊘_, zero64, one64}
+use Rattle.laws.specs.Floats.{_⊗_, _⊘_, zero64}
 use Rattle.laws.specs.Tables.{tri}
 use Rattle.numbers.specs.Numbers.{power}
 
 -- (GM/GM′)·(R/R′)ⁿ for a field's own GM and R
 unfoldable pub factorOf : Float → Float → List Float → ℕ → Float
-factorOf gm radius field n = getD field 0 nan ⊘ gm ⊗ power (getD field 1 nan ⊘ radius) n one64
+factorOf gm radius field n = getD field 0 nan ⊘ gm ⊗ power (getD field 1 nan ⊘ radius) n
 
 -- the kernel's value: +0.0 for a field without GM and radius, or a degree above 180
 unfoldable pub factorWith : Float → Float → List Float → ℕ → Float

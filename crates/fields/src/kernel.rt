@@ -39,5 +39,5 @@ pub fn factor(gm: f64, radius: f64, field: &[f64], n: usize) -> f64
     if n > 180 {
         return 0.0;
     }
-    field[0] / gm * numbers::power(field[1] / radius, n as u32, 1.0)
+    field[0] / gm * numbers::power(field[1] / radius, n as u32)
 }

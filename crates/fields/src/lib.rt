@@ -9,7 +9,8 @@ ghost use Rattle.laws.specs.Tables.{tri, row, rows};
 ghost use Rattle.slices.specs.Calls.{left};
 ghost use Rattle.legendre.specs.Field.{size, Fits};
 ghost use Rattle.fields.specs.Rescaled.{rescaledAt};
-ghost use Rattle.fields.specs.Calls.{indexOf, finitePartials, accelerationCall, twoTables, fieldAnd, fourTables, refusalOf, handedTwo, handedOne, newCall, rescaledCall, computeCall, deriveCall, judgedPartials, placeFine, partialsOfField, partialsCall};
+ghost use Rattle.fields.specs.Calls.{indexOf, finitePartials, accelerationCall, twoTables, fieldAnd, fourTables, refusalOf, handedTwo, handedOne};
+ghost use Rattle.fields.specs.Calls.{newCall, rescaledCall, computeCall, deriveCall, judgedPartials, placeFine, partialsOfField, partialsCall};
 use legendre;
 use numbers;
 use slices;
@@ -171,7 +172,8 @@ pub fn legendre_new(
     b: &mut [f64],
     scratch: &mut [f64],
 ) -> slices::Outcome
-    ensures { λ r. ⌜ left r (now (a .exit) ∷ now (b .exit) ∷ []) (now (scratch .exit)) ≡ newCall degree (now (a .entry)) (now (b .entry)) (now (scratch .entry)) ⌝ }
+    ensures { λ r. ⌜ left r (now (a .exit) ∷ now (b .exit) ∷ []) (now (scratch .exit)) ≡ newCall degree (now (a .entry)) (now (b .entry))
+        (now (scratch .entry)) ⌝ }
 {
     let n = tables_refusal(degree, a.len(), b.len(), scratch.len(), true);
     if n != 0 {
@@ -227,7 +229,8 @@ fn rescaled_both(
     sines: &mut [f64],
 ) -> slices::Outcome
     requires { ⌜ (degree ≤ 180) × (length (now field) ≡ 2 + 2 * size degree) × (length (now cosines) ≡ size degree) × (length (now sines) ≡ size degree) ⌝ }
-    ensures { λ r. ⌜ left r (now (cosines .exit) ∷ now (sines .exit) ∷ []) [] ≡ handedTwo (rows (rescaledAt 2 gm radius (now (field .entry))) (degree + 1)) (rows (rescaledAt (2 + size degree) gm radius (now (field .entry))) (degree + 1)) ⌝ }
+    ensures { λ r. ⌜ left r (now (cosines .exit) ∷ now (sines .exit) ∷ []) [] ≡ handedTwo (rows (rescaledAt 2 gm radius (now (field .entry))) (degree + 1))
+        (rows (rescaledAt (2 + size degree) gm radius (now (field .entry))) (degree + 1)) ⌝ }
 {
     let start = 2 + size_of(degree);
     rescaled_rows(degree, 2, gm, radius, field, cosines);
@@ -245,7 +248,8 @@ pub fn rescaled(
     sines: &mut [f64],
     scratch: &mut [f64],
 ) -> slices::Outcome
-    ensures { λ r. ⌜ left r (now (cosines .exit) ∷ now (sines .exit) ∷ []) (now (scratch .exit)) ≡ rescaledCall degree (now (field .entry)) gm radius (now (cosines .entry)) (now (sines .entry)) (now (scratch .entry)) ⌝ }
+    ensures { λ r. ⌜ left r (now (cosines .exit) ∷ now (sines .exit) ∷ []) (now (scratch .exit)) ≡ rescaledCall degree (now (field .entry)) gm radius
+        (now (cosines .entry)) (now (sines .entry)) (now (scratch .entry)) ⌝ }
 {
     let values = slices::both(
         slices::all_finite(field),
@@ -296,7 +300,8 @@ pub fn compute_with_derivative(
     dp: &mut [f64],
     scratch: &mut [f64],
 ) -> slices::Outcome
-    ensures { λ r. ⌜ left r (now (p .exit) ∷ now (dp .exit) ∷ []) (now (scratch .exit)) ≡ computeCall degree (now (a .entry)) (now (b .entry)) lat (now (p .entry)) (now (dp .entry)) (now (scratch .entry)) ⌝ }
+    ensures { λ r. ⌜ left r (now (p .exit) ∷ now (dp .exit) ∷ []) (now (scratch .exit)) ≡ computeCall degree (now (a .entry)) (now (b .entry)) lat
+        (now (p .entry)) (now (dp .entry)) (now (scratch .entry)) ⌝ }
 {
     let values = slices::both(
         slices::all_finite(a),
@@ -366,7 +371,8 @@ pub fn partials(
     lon: f64,
     scratch: &mut [f64],
 ) -> PartialsAnswer
-    ensures { λ z. ⌜ left z [] (now (scratch .exit)) ≡ partialsCall degree (now (field .entry)) (now (a .entry)) (now (b .entry)) r lat lon (now (scratch .entry)) ⌝ }
+    ensures { λ z. ⌜ left z [] (now (scratch .exit)) ≡ partialsCall degree (now (field .entry)) (now (a .entry)) (now (b .entry)) r lat lon
+        (now (scratch .entry)) ⌝ }
 {
     let values = values_fine(field, a, b, r, lat, lon);
     let n = field_refusal(degree, field.len(), a.len(), b.len(), scratch.len(), values);

@@ -44,7 +44,8 @@ zeros-through [] q n = refl
 zeros-through (s ∷ ss) q n = ap (through ss) (one-quiet s (q .0) n) ∙ zeros-through ss (q .1) n
 
 band-quiet : All Quiet band
-unfolding band butterworth section quality sampleOf number sine cosine sineAt cosineAt sineNear cosineNear near rounded quarter left horner hornerFrom factorial alternating sines cosines ofBits ofInt round add sub mul div neg lt le
+unfolding band butterworth section quality sampleOf number sine cosine sineAt cosineAt sineNear cosineNear near rounded quarter left horner hornerFrom factorial alternating sines cosines ofBits ofInt
+    round add sub mul div neg lt le
 band-quiet = (refl, (refl, (refl, (refl, tt))))
 
 padded-zeros : padded 64 (replicate 65 zero64) ≡ replicate 193 zero64

@@ -309,9 +309,6 @@ passed-now pass ts x out out₀ goal start h l lo lo₀ inv =
     fill-done out (passed pass (drop start ts) (drop start x)) goal start (omega arith)
     (ap (λ (l : List Float). passRuns pass (runsOf l) (drop start x)) (drop-of-length-le ts {i = start} (omega arith))) inv
 
-pub put-length : (a k : ℕ) (xs ys x₀ : List Float) → length ys ≡ length (midOf a k xs) → length xs ≡ length x₀ → length (putMid a k xs ys) ≡ length x₀
-put-length a k xs ys x₀ h l = same-len-mid a k xs ys h ∙ l
-
 -- ---- counting runs
 
 pub runs-turn : (ts : List Float) (start e runs goal : ℕ) → start < length ts → e ≡ start + getD (runsOf (drop start ts)) 0 0 →

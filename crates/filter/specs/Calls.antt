@@ -1,4 +1,5 @@
--- The public calls (document 01, "Outcomes" and "Bounds"): which refusal, and what is left behind. A length of an output or of the scratch is named by what it is for:
+-- The public calls (document 01, "Outcomes" and "Bounds"): which refusal, and what is left behind. A length of an output or of the scratch is named by
+-- what it is for:
 -- `places` for the numbers handed out, `room` for the scratch. Assumes nothing.
 use mathlib.Core.Bool.{Bool, cond, _&&_}
 use mathlib.Core.List.{List, [], _∷_}

@@ -1,5 +1,5 @@
--- What the filter computes (document 01, module 7): a list through biquad sections, each in direct form I; forward and backward over a list that is padded oddly
--- (twice the end value minus the mirrored one), so that no phase is left; and the band-pass of each run of a list of times. Assumes nothing.
+-- What the filter computes (document 01, module 7): a list through biquad sections, each in direct form I; forward and backward over a list that is padded
+-- oddly (twice the end value minus the mirrored one), so that no phase is left; and the band-pass of each run of a list of times. Assumes nothing.
 use mathlib.Core.List.{List, [], _∷_, _++_, map, reverse}
 use mathlib.Core.Bool.{cond}
 use Prim.Native.Nat.{ℕ, _-_, min}

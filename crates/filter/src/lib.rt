@@ -145,7 +145,8 @@ pub fn filtfilt(
     out: &mut [f64],
     scratch: &mut [f64],
 ) -> slices::Outcome
-    ensures { λ r. ⌜ left r (now (out .exit) ∷ []) (now (scratch .exit)) ≡ filtfiltCall (now (sections .entry)) (now (x .entry)) pad (now (out .entry)) (now (scratch .entry)) ⌝ }
+    ensures { λ r. ⌜ left r (now (out .exit) ∷ []) (now (scratch .exit)) ≡ filtfiltCall (now (sections .entry)) (now (x .entry)) pad (now (out .entry))
+        (now (scratch .entry)) ⌝ }
 {
     let refused = filter_refusal(sections, x, out.len(), scratch.len());
     if refused != 0 {
@@ -168,7 +169,8 @@ fn band_refusal(times: &[f64], x: &[f64], places: usize, room: usize) -> u8
 
 // The band from 1 to 10 mHz of samples 2 s apart, run by run.
 pub fn band_pass(times: &[f64], x: &[f64], out: &mut [f64], scratch: &mut [f64]) -> slices::Outcome
-    ensures { λ r. ⌜ left r (now (out .exit) ∷ []) (now (scratch .exit)) ≡ bandPassCall (now (times .entry)) (now (x .entry)) (now (out .entry)) (now (scratch .entry)) ⌝ }
+    ensures { λ r. ⌜ left r (now (out .exit) ∷ []) (now (scratch .exit)) ≡ bandPassCall (now (times .entry)) (now (x .entry)) (now (out .entry))
+        (now (scratch .entry)) ⌝ }
 {
     let refused = band_refusal(times, x, out.len(), scratch.len());
     if refused != 0 {

@@ -5,7 +5,8 @@ ghost use Prim.Native.Nat.{ℕ, _+_, _-_, _≤_, _<_, min};
 ghost use lib.ListN.{length, take, drop, getD};
 ghost use lib.Ieee.{nan};
 ghost use Rattle.laws.specs.Runs.{runsOf, passed};
-ghost use Rattle.filter.specs.Sections.{quality as qualityOf, section as sectionOf, highPass, lowPass, butterworth, coefficients as coefficientsOf, sectionsOf};
+ghost use Rattle.filter.specs.Sections.{quality as qualityOf, section as sectionOf, highPass, lowPass, butterworth};
+ghost use Rattle.filter.specs.Sections.{coefficients as coefficientsOf, sectionsOf};
 ghost use Rattle.filter.specs.Filter.{rest, throughOne, through, reflected, padded, bothWays, filtfilt as filtfiltOf, passBy, bandPass};
 use crate::Biquad;
 use crate::BiquadMemory;
@@ -165,7 +166,8 @@ pub fn run_sections(sections: &[f64], x: &mut [f64])
 // Twice x[about] minus each of the values before x[end], from the last of them back.
 fn reflect(x: &[f64], about: usize, end: usize, out: &mut [f64])
     requires { ⌜ (about < length (now x)) × (length (now out) ≤ end) × (end ≤ length (now x)) ⌝ }
-    ensures { λ _. ⌜ now (out .exit) ≡ reflected (getD (now (x .entry)) about nan) (reverse (take (length (now (out .entry))) (drop (end - length (now (out .entry))) (now (x .entry))))) ⌝ }
+    ensures { λ _. ⌜ now (out .exit) ≡ reflected (getD (now (x .entry)) about nan)
+        (reverse (take (length (now (out .entry))) (drop (end - length (now (out .entry))) (now (x .entry))))) ⌝ }
 {
     let p = out.len();
     let v = 2.0 * x[about];
@@ -248,7 +250,8 @@ pub fn run_end(times: &[f64], start: usize) -> usize
 }
 
 fn pass_runs(sections: &[f64], times: &[f64], x: &[f64], out: &mut [f64], scratch: &mut [f64])
-    requires { ⌜ (length (now times) ≡ length (now x)) × (length (now out) ≡ length (now x)) × (length (now x) + length (now x) + length (now x) ≤ length (now scratch)) ⌝ }
+    requires { ⌜ (length (now times) ≡ length (now x)) × (length (now out) ≡ length (now x))
+        × (length (now x) + length (now x) + length (now x) ≤ length (now scratch)) ⌝ }
     ensures { λ _. ⌜ now (out .exit) ≡ passed (passBy (sectionsOf (now (sections .entry)))) (now (times .entry)) (now (x .entry)) ⌝ }
 {
     let n = x.len();
@@ -262,7 +265,8 @@ fn pass_runs(sections: &[f64], times: &[f64], x: &[f64], out: &mut [f64], scratc
 
 // The band from 1 to 10 mHz of samples 2 s apart.
 pub fn band_pass(times: &[f64], x: &[f64], out: &mut [f64], scratch: &mut [f64])
-    requires { ⌜ (length (now times) ≡ length (now x)) × (length (now out) ≡ length (now x)) × (length (now x) + length (now x) + length (now x) ≤ length (now scratch)) ⌝ }
+    requires { ⌜ (length (now times) ≡ length (now x)) × (length (now out) ≡ length (now x))
+        × (length (now x) + length (now x) + length (now x) ≤ length (now scratch)) ⌝ }
     ensures { λ _. ⌜ now (out .exit) ≡ bandPass (now (times .entry)) (now (x .entry)) ⌝ }
 {
     let sections = coefficients(1e-3, 10e-3, 2.0);

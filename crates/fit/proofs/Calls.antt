@@ -21,12 +21,12 @@ use Rattle.slices.specs.Slices.{copied}
 use Rattle.slices.specs.Calls.{left, settled}
 use Rattle.slices.proofs.Calls.{call-refused, call-failed, call-handed}
 use Rattle.slices.proofs.Laws.{copied-all}
-use Rattle.inputs.specs.Inputs.{fitRoom, fieldsFine, few, lengthsFit, statesFit, modelFine, keyedFine, frontSize, Front}
-use Rattle.inputs.proofs.Passed.{all-pass, degree-passes, states-pass, lengths-room}
+use Rattle.inputs.specs.Inputs.{Model, fitRoom, fieldsFine, few, sizesFit, statesFit, modelFine, keyedFine, frontSize, Front}
+use Rattle.inputs.proofs.Passed.{all-pass, degree-passes, states-pass, sizes-room}
 use Rattle.finality.specs.Brackets.{covers}
 use Rattle.integrate.specs.declared.kernel.Arc.{Arc}
 use Rattle.integrate.specs.Room.{runSize, Run, flat}
-use Rattle.integrate.specs.Force.{model, fullForce}
+use Rattle.integrate.specs.Force.{fullForce}
 use Rattle.integrate.specs.Calls.{outFits, arcFits}
 use Rattle.integrate.proofs.Calls.{out-passes, flat-part}
 use Rattle.fit.specs.declared.kernel.Held.{Held}
@@ -49,22 +49,22 @@ pub record Passed (N : ℕ) (arc : Arc) (ks : List ℤ) (states out scratch : �
   pub rows : states ≡ 6 * length ks
   pub order : risingSeconds ks ≡ true
 
-pub passes : (N : ℕ) (field a b ts fs : List Float) (ks : List ℤ) (ss : List Float) (arc : Arc) (out scratch : ℕ) → refusal N field a b ts fs ks ss arc out scratch ≡ 0 → Passed N arc ks (length ss) out scratch
+pub passes : (M : Model) (ks : List ℤ) (ss : List Float) (arc : Arc) (out scratch : ℕ) → refusal M ks ss arc out scratch ≡ 0 → Passed (M .fixed .degree) arc ks (length ss) out scratch
 unfolding refusal
-passes N field a b ts fs ks ss arc out scratch h =
-    let p = all-pass (degreeFine N) ((fieldsFine (length ts) && leb (arc .steps) 5302) && few (length ks))
-    (lengthsFit N (length ts) (length field) (length fs) (length a) (length b) scratch && (outFits (arc .steps) out && statesFit (length ks) (length ss)))
-    (modelFine field a b ts fs && (arcFits arc && keyedFine ks ss)) (rising ts && risingSeconds ks) h in
-    let l = both-true (lengthsFit N (length ts) (length field) (length fs) (length a) (length b) scratch) (outFits (arc .steps) out && statesFit (length ks) (length ss)) (p .lengths) in
+passes M ks ss arc out scratch h =
+    let p = all-pass (degreeFine (M .fixed .degree)) ((fieldsFine (length (M .fields .fieldTimes)) && leb (arc .steps) 5302) && few (length ks))
+    (sizesFit M scratch && (outFits (arc .steps) out && statesFit (length ks) (length ss)))
+    (modelFine M && (arcFits arc && keyedFine ks ss)) (rising (M .fields .fieldTimes) && risingSeconds ks) 0 h in
+    let l = both-true (sizesFit M scratch) (outFits (arc .steps) out && statesFit (length ks) (length ss)) (p .lengths) in
     let s = both-true (outFits (arc .steps) out) (statesFit (length ks) (length ss)) (l .1) in
     let o = out-passes (arc .steps) out (s .0) in
     record {
-      degree = degree-passes N (p .degree);
+      degree = degree-passes (M .fixed .degree) (p .degree);
       few = o .0;
-      room = lengths-room N (length ts) (length field) (length fs) (length a) (length b) scratch (l .0);
+      room = sizes-room M scratch (l .0);
       each = o .1;
       rows = states-pass (length ks) (length ss) (s .1);
-      order = both-true (rising ts) (risingSeconds ks) (p .order) .1;
+      order = both-true (rising (M .fields .fieldTimes)) (risingSeconds ks) (p .order) .1;
     }
 
 -- ---- an arc refused has a number from 6 on
@@ -133,7 +133,8 @@ module _ (x : Float) (N steps base : ℕ) (w out o1 w1 : List Float) (h : N ≤ 
 
 -- ---- the call
 
-settled-scratch : (x : Float) (d : ℕ) (new outs : List (List Float)) (s s' : List Float) → cleared s ≡ cleared s' → settled (Fitted x) Refused 0 d new outs s ≡ settled (Fitted x) Refused 0 d new outs s'
+settled-scratch : (x : Float) (d : ℕ) (new outs : List (List Float)) (s s' : List Float) → cleared s ≡ cleared s'
+    → settled (Fitted x) Refused 0 d new outs s ≡ settled (Fitted x) Refused 0 d new outs s'
 settled-scratch x zero new outs s s' e = by-finite (all (all finite) new) refl
   where
     by-finite : (b : Bool) → all (all finite) new ≡ b → settled (Fitted x) Refused 0 0 new outs s ≡ settled (Fitted x) Refused 0 0 new outs s'
@@ -141,39 +142,47 @@ settled-scratch x zero new outs s s' e = by-finite (all (all finite) new) refl
     by-finite false q = simp q (ap (left (Refused 10) (map cleared outs)) e)
 settled-scratch x (suc d) new outs s s' e = ap (left (Refused (suc d)) (map cleared outs)) e
 
-module _ (N : ℕ) (field a b ts fs : List Float) (ks : List ℤ) (ss : List Float) (arc : Arc) (out scratch : List Float) (n : ℕ) (en : n ≡ refusal N field a b ts fs ks ss arc (length out) (length scratch)) where
-  pub fit-refused : (n ≡ 0 → ⊥) → left (Refused n) (out ∷ []) scratch ≡ fitCall N field a b ts fs ks ss arc out scratch
+module _ (M : Model) (ks : List ℤ) (ss : List Float) (arc : Arc) (out scratch : List Float) (n : ℕ) (en : n ≡ refusal M ks ss arc (length out) (length scratch)) where
+  pub fit-refused : (n ≡ 0 → ⊥) → left (Refused n) (out ∷ []) scratch ≡ fitCall M ks ss arc out scratch
   unfolding fitCall
   fit-refused h = call-refused _ Refused _ _ _ n _ _ en h
 
-  pub fit-passed : n ≡ 0 → Passed N arc ks (length ss) (length out) (length scratch)
-  fit-passed h = passes N field a b ts fs ks ss arc (length out) (length scratch) (sym en ∙ h)
+  pub fit-passed : n ≡ 0 → Passed (M .fixed .degree) arc ks (length ss) (length out) (length scratch)
+  fit-passed h = passes M ks ss arc (length out) (length scratch) (sym en ∙ h)
 
-  module _ (h : n ≡ 0) (s1 : List Float) (answer : Fit) (af : ArcFit (arcServes N (arc .steps) ks (length ss) (length scratch)) (covers ts) (fullForce (model N field ts fs) a b) (stateFor ks ss) arc scratch s1 (frontSize N) answer) where
-    fitted : Fits (covers ts) (fullForce (model N field ts fs) a b) (stateFor ks ss) arc scratch s1 (frontSize N) answer
+  module _ (h : n ≡ 0) (s1 : List Float) (answer : Fit)
+      (af : ArcFit (arcServes (M .fixed .degree) (arc .steps) ks (length ss) (length scratch)) (covers (M .fields .fieldTimes)) (fullForce M) (stateFor ks ss) arc scratch s1
+      (frontSize (M .fixed .degree)) answer) where
+    fitted : Fits (covers (M .fields .fieldTimes)) (fullForce M) (stateFor ks ss) arc scratch s1 (frontSize (M .fixed .degree)) answer
     unfolding arcServes
     fitted =
         let q = fit-passed h in
-        af .fits (simp (le-leb N 180 (q .degree), le-leb (arc .steps) 5302 (q .few), eq-eqb (length ss) (6 * length ks) (q .rows), le-leb (frontSize N + workSize) (length scratch) (omega (arith, q .room)), q .order))
+        af .fits (simp (
+          le-leb (M .fixed .degree) 180 (q .degree),
+          le-leb (arc .steps) 5302 (q .few),
+          eq-eqb (length ss) (6 * length ks) (q .rows),
+          le-leb (frontSize (M .fixed .degree) + workSize) (length scratch) (omega (arith, q .room)),
+          q .order,
+        ))
 
     pub fit-long : length s1 ≡ length scratch
     fit-long = fitted .only .long
 
-    pub fit-failed : (k : ℕ) → answer ≡ Refused k → (out' s2 : List Float) → out' ≡ cleared out → s2 ≡ cleared s1 → left (Refused k) (out' ∷ []) s2 ≡ fitCall N field a b ts fs ks ss arc out scratch
+    pub fit-failed : (k : ℕ) → answer ≡ Refused k → (out' s2 : List Float) → out' ≡ cleared out → s2 ≡ cleared s1 → left (Refused k) (out' ∷ []) s2 ≡ fitCall M ks ss arc out scratch
     unfolding fitCall
     fit-failed k e out' s2 eo es =
-        let ek : fitOf (covers ts) (fullForce (model N field ts fs) a b) (stateFor ks ss) arc ≡ Refused k = sym (fitted .said) ∙ e in
+        let ek : fitOf (covers (M .fields .fieldTimes)) (fullForce M) (stateFor ks ss) arc ≡ Refused k = sym (fitted .said) ∙ e in
         (λ i. left (Refused k) (eo i ∷ []) ((es ∙ same-cleared s1 scratch fit-long) i))
-        ∙ call-failed _ Refused _ (out ∷ []) scratch k _ _ (sym h ∙ en) (sym (ap numberOf ek)) (subst Late ek (fit-late (covers ts) (fullForce (model N field ts fs) a b) (stateFor ks ss) arc))
+        ∙ call-failed _ Refused _ (out ∷ []) scratch k _ _ (sym h ∙ en) (sym (ap numberOf ek)) (subst Late ek (fit-late (covers (M .fields .fieldTimes)) (fullForce M) (stateFor ks ss) arc))
 
-    pub fit-handed : (x : Float) → answer ≡ Fitted x → (r : Fit) (out' s2 : List Float) → Handed x (take (6 * (arc .steps + 1)) (drop (frontSize N) s1)) out s1 r out' s2 →
-        left r (out' ∷ []) s2 ≡ fitCall N field a b ts fs ks ss arc out scratch
+    pub fit-handed : (x : Float) → answer ≡ Fitted x → (r : Fit) (out' s2 : List Float) → Handed x (take (6 * (arc .steps + 1)) (drop (frontSize (M .fixed .degree)) s1)) out s1 r out' s2 →
+        left r (out' ∷ []) s2 ≡ fitCall M ks ss arc out scratch
     unfolding fitCall
     fit-handed x e r out' s2 hd =
-        let run : Run = orbitOf (fullForce (model N field ts fs) a b) (stateFor ks ss) arc in
-        let ex : fitOf (covers ts) (fullForce (model N field ts fs) a b) (stateFor ks ss) arc ≡ Fitted x = sym (fitted .said) ∙ e in
-        let new : take (6 * (arc .steps + 1)) (drop (frontSize N) s1) ≡ flat run (arc .steps + 1) =
-        flat-part s1 (frontSize N) run (arc .steps + 1) (fitted .states x e) (omega (arith, fit-long, fit-passed h .room, fit-passed h .few)) in
+        let run : Run = orbitOf (fullForce M) (stateFor ks ss) arc in
+        let ex : fitOf (covers (M .fields .fieldTimes)) (fullForce M) (stateFor ks ss) arc ≡ Fitted x = sym (fitted .said) ∙ e in
+        let new : take (6 * (arc .steps + 1)) (drop (frontSize (M .fixed .degree)) s1) ≡ flat run (arc .steps + 1) =
+        flat-part s1 (frontSize (M .fixed .degree)) run (arc .steps + 1) (fitted .states x e) (omega (arith, fit-long, fit-passed h .room, fit-passed h .few)) in
         hd .is
         ∙ settled-scratch x (cond (finite x) 0 10) _ (out ∷ []) s1 scratch (same-cleared s1 scratch fit-long)
         ∙ (λ i. settled (Fitted (rmsIn (sym ex i))) Refused ((sym h ∙ en) i) (numberOf (sym ex i)) (new i ∷ []) (out ∷ []) scratch)

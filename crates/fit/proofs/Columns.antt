@@ -42,7 +42,8 @@ pub step-apart : (b from : ℕ) (s s' : List Float) → 4244 ≤ from → from �
 unfolding stepAt
 step-apart b from s s' _ _ g o r l = ap stepNumber (o .same (b + observedPart + 4 * (r / 3)) (omega arith) (λ p q. omega arith))
 
-pub differentiated : (run : Run) (steps : ℕ) (s s₁ s₂ : List Float) (b m i : ℕ) → m ≤ 3183 → Orbit s₁ b run (steps + 1) → Only 0 (b + observedPart) s s₁ → Columned s₁ s₂ b m i → Differentiated run steps s s₂ b m i
+pub differentiated : (run : Run) (steps : ℕ) (s s₁ s₂ : List Float) (b m i : ℕ) → m ≤ 3183 → Orbit s₁ b run (steps + 1) → Only 0 (b + observedPart) s s₁ → Columned s₁ s₂ b m i
+    → Differentiated run steps s s₂ b m i
 differentiated run steps s s₁ s₂ b m i lm o u w = record {
   rows = λ r h l.
       let e : stepAt s₁ b r ≡ stepAt s b r = step-past b s s₁ u r in
@@ -68,7 +69,8 @@ apart-then s s₁ s₂ b from from₁ from₂ o₁ o₂ h₁ h₂ = record {
 pub designed-none : (moved : ℕ → Run) (steps : ℕ) (s : List Float) (b m : ℕ) → Designed moved steps s s b m 0
 designed-none moved steps s b m = record { rows = λ r i h l u. absurd (omega arith); apart = apart-same s b designPart }
 
-pub designed-more : (moved : ℕ → Run) (steps : ℕ) (s s₁ s₂ : List Float) (b m i : ℕ) → m ≤ 3183 → i < 15 → Designed moved steps s s₁ b m i → Differentiated (moved i) steps s₁ s₂ b m i → Designed moved steps s s₂ b m (i + 1)
+pub designed-more : (moved : ℕ → Run) (steps : ℕ) (s s₁ s₂ : List Float) (b m i : ℕ) → m ≤ 3183 → i < 15 → Designed moved steps s s₁ b m i → Differentiated (moved i) steps s₁ s₂ b m i
+    → Designed moved steps s s₂ b m (i + 1)
 designed-more moved steps s s₁ s₂ b m i lm li d w = record {
   rows = λ r j h l u.
       let e : stepAt s₁ b r ≡ stepAt s b r = step-apart b designPart s s₁ (omega arith) (omega arith) (omega arith) (d .apart) r (omega arith) in

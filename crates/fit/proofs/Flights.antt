@@ -25,7 +25,8 @@ fits-here : (N steps room : ℕ) → N ≤ 180 → steps ≤ 5302 → frontSize 
 unfolding runFits
 fits-here N steps room h k l = simp (le-leb N 180 h, le-leb steps 5302 k, le-leb (frontSize N + runSize) room l)
 
-pub flew : (N steps base : ℕ) (w w' : List Float) (run : Run) → Ran (runFits N steps (length w)) w w' (frontSize N) steps run → steps ≤ 5302 → base + runSize ≤ length w → N ≤ 180 → base ≡ frontSize N →
+pub flew : (N steps base : ℕ) (w w' : List Float) (run : Run) → Ran (runFits N steps (length w)) w w' (frontSize N) steps run → steps ≤ 5302 → base + runSize ≤ length w → N ≤ 180
+    → base ≡ frontSize N →
     Orbit w' base run (steps + 1) × Only 0 (base + runSize) w w'
 flew N steps base w w' run r k l h e =
     let f = r .flown (fits-here N steps (length w) h k (omega arith)) in
@@ -35,7 +36,14 @@ flew N steps base w w' run r k l h e =
 
 module _ (N steps : ℕ) (keys : List ℤ) (states room : ℕ) where
   not-serving : arcServes N steps keys states room ≡ false → Serving N steps keys states room false
-  not-serving e = record { says = sym e; degree = λ h. absurd (false≢true h); few = λ h. absurd (false≢true h); each = λ h. absurd (false≢true h); enough = λ h. absurd (false≢true h); rising = λ h. absurd (false≢true h) }
+  not-serving e = record {
+    says = sym e;
+    degree = λ h. absurd (false≢true h);
+    few = λ h. absurd (false≢true h);
+    each = λ h. absurd (false≢true h);
+    enough = λ h. absurd (false≢true h);
+    rising = λ h. absurd (false≢true h);
+  }
 
   pub serves-degree : 180 < N → Serving N steps keys states room false
   unfolding arcServes
@@ -65,7 +73,8 @@ module _ (N steps : ℕ) (keys : List ℤ) (states room : ℕ) where
       rising = λ t. sym q ∙ t;
     }
 
-module _ (covered : Float → Bool) (full : Float → Vector → Vector) (look : Float → Held) (arc : Arc) (s s' : List Float) (N : ℕ) (keys : List ℤ) (states : ℕ) (t : Bool) (g : Serving N (arc .steps) keys states (length s) t) where
+module _ (covered : Float → Bool) (full : Float → Vector → Vector) (look : Float → Held) (arc : Arc) (s s' : List Float) (N : ℕ) (keys : List ℤ) (states : ℕ) (t : Bool)
+    (g : Serving N (arc .steps) keys states (length s) t) where
   pub arc-fitted : (base : ℕ) (answer : Fit) → t ≡ true → Front N base → Fits covered full look arc s s' base answer →
       ArcFit (arcServes N (arc .steps) keys states (length s)) covered full look arc s s' (frontSize N) answer
   arc-fitted base answer h e f = record {

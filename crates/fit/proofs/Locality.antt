@@ -108,7 +108,8 @@ pub record SameReads (covered covered' : Float → Bool) (full full' : Float →
   pub start : look (arc .t0) ≡ look' (arc .t0)
   pub places : (c : ℕ) → c < arc .steps / 5 + 1 → look (stepTime (arc .t0) (5 * c)) ≡ look' (stepTime (arc .t0) (5 * c))
 
-module _ (covered covered' : Float → Bool) (full full' : Float → Vector → Vector) (look look' : Float → Held) (arc : Arc) (l : arc .steps ≤ 5302) (r : SameReads covered covered' full full' look look' arc) where
+module _ (covered covered' : Float → Bool) (full full' : Float → Vector → Vector) (look look' : Float → Held) (arc : Arc) (l : arc .steps ≤ 5302)
+    (r : SameReads covered covered' full full' look look' arc) where
   places-same : observed look arc ≡ observed look' arc
   unfolding observed
   places-same = observed-same look look' (arc .t0) (arc .steps / 5 + 1) (r .places)

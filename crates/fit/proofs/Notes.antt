@@ -61,12 +61,15 @@ pub observes-none : (s : List Float) (at : ℕ) → Observes s at []
 observes-none s at = record { step = λ j l. absurd (omega arith); place = λ j l. absurd (omega arith) }
 
 -- a step whose position is known, and one whose position is not
-pub noted-known : (s s' : List Float) (b n k : ℕ) (held : Held) (state : State) → held ≡ Known state → n < 1061 → Stored s s' (b + observedPart + 4 * n) k (state .position) → Noted s s' b n (seen k held) (n + 1)
+pub noted-known : (s s' : List Float) (b n k : ℕ) (held : Held) (state : State) → held ≡ Known state → n < 1061 → Stored s s' (b + observedPart + 4 * n) k (state .position)
+    → Noted s s' b n (seen k held) (n + 1)
 noted-known s s' b n k held state e l w =
     subst (λ (x : Held). Noted s s' b n (seen k x) (n + 1)) (sym e) (record {
-      all = λ obs q h. observes-more s s' (b + observedPart) obs (record { step = k; place = state .position }) h (subst (λ (m : ℕ). Stored s s' (b + observedPart + 4 * m) k (state .position)) (sym q) w);
+      all = λ obs q h. observes-more s s' (b + observedPart) obs (record { step = k; place = state .position }) h
+          (subst (λ (m : ℕ). Stored s s' (b + observedPart + 4 * m) k (state .position)) (sym q) w);
       counted = refl;
-      only = only-then (b + observedPart) (b + basePart) (b + observedPart + 4 * n) (b + observedPart + 4 * n + 4) (b + observedPart) (b + basePart) s s' s' (w .only) (only-same (b + observedPart) (b + basePart) s') (omega arith) (omega arith) (omega arith) (omega arith);
+      only = only-then (b + observedPart) (b + basePart) (b + observedPart + 4 * n) (b + observedPart + 4 * n + 4) (b + observedPart) (b + basePart) s s' s' (w .only)
+          (only-same (b + observedPart) (b + basePart) s') (omega arith) (omega arith) (omega arith) (omega arith);
     })
 
 pub noted-missing : (s : List Float) (b n k : ℕ) (held : Held) → held ≡ Missing → Noted s s b n (seen k held) n
@@ -92,7 +95,8 @@ pub sofar-none : (look : Float → Held) (t0 : Float) (s : List Float) (b : ℕ)
 unfolding observedTo
 sofar-none look t0 s b = record { counted = refl; few = omega arith; all = observes-none s (b + observedPart); only = only-same (b + observedPart) (b + basePart) s }
 
-pub sofar-more : (look : Float → Held) (t0 : Float) (s s₁ s₂ : List Float) (b c n r : ℕ) → Sofar look t0 s s₁ b c n → Noted s₁ s₂ b n (seen (5 * c) (look (stepTime t0 (5 * c)))) r → Sofar look t0 s s₂ b (c + 1) r
+pub sofar-more : (look : Float → Held) (t0 : Float) (s s₁ s₂ : List Float) (b c n r : ℕ) → Sofar look t0 s s₁ b c n → Noted s₁ s₂ b n (seen (5 * c) (look (stepTime t0 (5 * c)))) r
+    → Sofar look t0 s s₂ b (c + 1) r
 unfolding observedTo
 sofar-more look t0 s s₁ s₂ b c n r f w =
     let more = seen (5 * c) (look (stepTime t0 (5 * c))) in
@@ -101,10 +105,12 @@ sofar-more look t0 s s₁ s₂ b c n r f w =
       counted = w .counted ∙ ap (λ (m : ℕ). m + length more) (f .counted) ∙ sym (ap length next ∙ length-append (observedTo look t0 c) more);
       few = omega (arith, w .counted, f .few, seen-short (5 * c) (look (stepTime t0 (5 * c))));
       all = subst (λ (x : List Observed). Observes s₂ (b + observedPart) x) (sym next) (w .all (observedTo look t0 c) (sym (f .counted)) (f .all));
-      only = only-then (b + observedPart) (b + basePart) (b + observedPart) (b + basePart) (b + observedPart) (b + basePart) s s₁ s₂ (f .only) (w .only) (omega arith) (omega arith) (omega arith) (omega arith);
+      only = only-then (b + observedPart) (b + basePart) (b + observedPart) (b + basePart) (b + observedPart) (b + basePart) s s₁ s₂ (f .only) (w .only) (omega arith) (omega arith) (omega arith)
+          (omega arith);
     }
 
-pub observing : (look : Float → Held) (arc : Arc) (s s' : List Float) (b c n : ℕ) → arc .steps ≤ 5302 → c ≡ arc .steps / 5 + 1 → Sofar look (arc .t0) s s' b c n → Observing s s' b (observed look arc) n
+pub observing : (look : Float → Held) (arc : Arc) (s s' : List Float) (b c n : ℕ) → arc .steps ≤ 5302 → c ≡ arc .steps / 5 + 1 → Sofar look (arc .t0) s s' b c n
+    → Observing s s' b (observed look arc) n
 unfolding observed
 observing look arc s s' b c n l e f = record {
   few = omega (arith, f .few);

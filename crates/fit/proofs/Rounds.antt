@@ -1,4 +1,4 @@
--- Laws of a round, of the last run, and of the whole fit.
+-- Laws of a round of the fit.
 use mathlib.Core.Path.{_≡_, refl, sym, ap, _∙_}
 use mathlib.Core.Bool.{true}
 use mathlib.Core.List.{List}
@@ -18,7 +18,8 @@ use Rattle.fit.specs.Room.{observedPart, misfitPart, designPart, workSiz
 use Rattle.fit.specs.Contracts.{Linearised, Within, Rounded}
 use Rattle.fit.proofs.Columns.{axis-of}
 use Rattle.forces.specs.Forces.{j2Of}
-use Rattle.integrate.specs.Force.{Model, attractionOf, fullForce, runOf}
+use Rattle.inputs.specs.Inputs.{Model}
+use Rattle.integrate.specs.Force.{attractionOf, fullForce, runOf}
 use Rattle.integrate.specs.Room.{Run}
 use Rattle.laws.specs.Floats.{_⊖_}
 use Rattle.laws.specs.Tables.{row, row-at, row-length}
@@ -46,7 +47,8 @@ module _ (s : List Float) (b steps : ℕ) (obs : List Observed) (o : Observes s 
   row-low = omega (arith, row-step, w (r / 3) (omega arith) .0)
 
 -- the misfits as a list
-pub misfit-list : (full : Run) (s s' : List Float) (b n k steps : ℕ) (obs : List Observed) → k ≡ 3 * n → length obs ≡ n → n ≤ 1061 → b + workSize ≤ length s' → Observes s (b + observedPart) obs → Within obs steps →
+pub misfit-list : (full : Run) (s s' : List Float) (b n k steps : ℕ) (obs : List Observed) → k ≡ 3 * n → length obs ≡ n → n ≤ 1061 → b + workSize ≤ length s' → Observes s (b + observedPart) obs
+    → Within obs steps →
     ((r : ℕ) → r < 3 * n → stepAt s b r ≤ steps → getD s' (b + misfitPart + r) nan ≡ placeAt s b r ⊖ axis (r % 3) (full (stepAt s b r) .position)) →
     take k (drop (b + misfitPart) s') ≡ misfitsOf full obs
 unfolding misfitsOf misfitAt
@@ -56,8 +58,10 @@ misfit-list full s s' b n k steps obs e l n≤ room o w g =
     ∙ ap (λ (x : Float). x ⊖ axis (r % 3) (full (stepAt s b r) .position)) (row-place s b steps obs o w r h)
     ∙ ap (λ (m : ℕ). axis (r % 3) (nth obs (r / 3) .place) ⊖ axis (r % 3) (full m .position)) (row-step s b steps obs o w r h))
 
-pub design-list : (base : Run) (moved : ℕ → Run) (s s' : List Float) (b n k steps : ℕ) (obs : List Observed) → k ≡ 45 * n → length obs ≡ n → n ≤ 1061 → b + workSize ≤ length s' → Observes s (b + observedPart) obs → Within obs steps →
-    ((r i : ℕ) → r < 3 * n → i < 15 → stepAt s b r ≤ steps → getD s' (b + designPart + (15 * r + i)) nan ≡ axis (r % 3) (moved i (stepAt s b r) .position) ⊖ axis (r % 3) (base (stepAt s b r) .position)) →
+pub design-list : (base : Run) (moved : ℕ → Run) (s s' : List Float) (b n k steps : ℕ) (obs : List Observed) → k ≡ 45 * n → length obs ≡ n → n ≤ 1061 → b + workSize ≤ length s'
+    → Observes s (b + observedPart) obs → Within obs steps →
+    ((r i : ℕ) → r < 3 * n → i < 15 → stepAt s b r ≤ steps → getD s' (b + designPart + (15 * r + i)) nan ≡ axis (r % 3) (moved i (stepAt s b r) .position) ⊖ axis (r % 3)
+    (base (stepAt s b r) .position)) →
     take k (drop (b + designPart) s') ≡ designOf base moved obs
 unfolding designOf partialAt
 design-list base moved s s' b n k steps obs e l n≤ room o w g =
@@ -69,13 +73,13 @@ design-list base moved s s' b n k steps obs e l n≤ room o w g =
     ∙ ap (λ (x : ℕ). axis (m / 15 % 3) (moved (m % 15) x .position) ⊖ axis (m / 15 % 3) (base x .position)) (row-step s b steps obs o w (m / 15) hr))
 
 -- the two forces
-pub full-is : (M : Model) (ta tb : List Float) → attractionOf Full M ta tb ≡ fullForce M ta tb
+pub full-is : (M : Model) → attractionOf Full M ≡ fullForce M
 unfolding attractionOf
-full-is M ta tb = refl
+full-is M = refl
 
-pub j2-is : (M : Model) (ta tb : List Float) → attractionOf J2 M ta tb ≡ (λ t. j2Of)
+pub j2-is : (M : Model) → attractionOf J2 M ≡ (λ t. j2Of)
 unfolding attractionOf
-j2-is M ta tb = refl
+j2-is M = refl
 
 shaped-true : (rows y n : ℕ) → rows ≡ 45 * n → y ≡ 3 * n → n ≤ 1061 → shaped15 rows y ≡ true
 unfolding shaped15
@@ -84,33 +88,35 @@ shaped-true rows y n e f l = simp (le-ltb 100000 y (omega arith), eq-eqb rows (y
 part-length : (s : List Float) (at k m : ℕ) → k ≡ m → at + m ≤ length s → length (take k (drop at s)) ≡ m
 part-length s at k m e h = length-take-le k (drop at s) (simp length-drop (omega arith)) ∙ e
 
-module _ (M : Model) (ta tb : List Float) (arc : Arc) (p s s' : List Float) (b n : ℕ) (l : n ≤ 1061) (room : b + workSize ≤ length s')
-    (lin : Linearised (runOf (attractionOf Full M ta tb) arc p) (runOf (attractionOf J2 M ta tb) arc p) (λ (i : ℕ). runOf (attractionOf J2 M ta tb) arc (movedOf p i)) (arc .steps) s s' b (3 * n))
-    (kd ky : ℕ) (ed : kd ≡ 45 * n) (ey : ky ≡ 3 * n) (e : Estimate) (est : Estimated (take kd (drop (b + designPart) s')) (take ky (drop (b + misfitPart) s')) e) (q : List Float) (hq : q ≡ updatedOf p (e .beta)) where
+module _ (M : Model) (arc : Arc) (p s s' : List Float) (b n : ℕ) (l : n ≤ 1061) (room : b + workSize ≤ length s')
+    (lin : Linearised (runOf (attractionOf Full M) arc p) (runOf (attractionOf J2 M) arc p) (λ (i : ℕ). runOf (attractionOf J2 M) arc (movedOf p i)) (arc .steps) s s' b (3 * n))
+    (kd ky : ℕ) (ed : kd ≡ 45 * n) (ey : ky ≡ 3 * n) (e : Estimate) (est : Estimated (take kd (drop (b + designPart) s')) (take ky (drop (b + misfitPart) s')) e) (q : List Float)
+    (hq : q ≡ updatedOf p (e .beta)) where
   module _ (obs : List Observed) (lo : length obs ≡ n) (o : Observes s (b + observedPart) obs) (w : Within obs (arc .steps)) where
-    rows-are : take kd (drop (b + designPart) s') ≡ designAt (fullForce M ta tb) arc obs p
+    rows-are : take kd (drop (b + designPart) s') ≡ designAt (fullForce M) arc obs p
     unfolding designAt
     rows-are =
-        design-list (runOf (attractionOf J2 M ta tb) arc p) (λ (i : ℕ). runOf (attractionOf J2 M ta tb) arc (movedOf p i)) s s' b n kd (arc .steps) obs ed lo l room o w (lin .design)
-        ∙ ap (λ (pull : Float → Vector → Vector). designOf (runOf pull arc p) (λ (i : ℕ). runOf pull arc (movedOf p i)) obs) (j2-is M ta tb)
+        design-list (runOf (attractionOf J2 M) arc p) (λ (i : ℕ). runOf (attractionOf J2 M) arc (movedOf p i)) s s' b n kd (arc .steps) obs ed lo l room o w (lin .design)
+        ∙ ap (λ (pull : Float → Vector → Vector). designOf (runOf pull arc p) (λ (i : ℕ). runOf pull arc (movedOf p i)) obs) (j2-is M)
 
-    misfits-are : take ky (drop (b + misfitPart) s') ≡ misfitsAt (fullForce M ta tb) arc obs p
+    misfits-are : take ky (drop (b + misfitPart) s') ≡ misfitsAt (fullForce M) arc obs p
     unfolding misfitsAt
     misfits-are =
-        misfit-list (runOf (attractionOf Full M ta tb) arc p) s s' b n ky (arc .steps) obs ey lo l room o w (lin .misfits)
-        ∙ ap (λ (pull : Float → Vector → Vector). misfitsOf (runOf pull arc p) obs) (full-is M ta tb)
+        misfit-list (runOf (attractionOf Full M) arc p) s s' b n ky (arc .steps) obs ey lo l room o w (lin .misfits)
+        ∙ ap (λ (pull : Float → Vector → Vector). misfitsOf (runOf pull arc p) obs) (full-is M)
 
-  pub rounded : Rounded (fullForce M ta tb) arc p s s' b n (record { fine = e .fine; beta = q })
+  pub rounded : Rounded (fullForce M) arc p s s' b n (record { fine = e .fine; beta = q })
   unfolding regular improved
   rounded = record {
     said = λ obs lo o w.
         est .said
-        ∙ simp (shaped-true (length (take kd (drop (b + designPart) s'))) (length (take ky (drop (b + misfitPart) s'))) n (part-length s' (b + designPart) kd (45 * n) ed (omega arith)) (part-length s' (b + misfitPart) ky (3 * n) ey (omega arith)) l)
+        ∙ simp (shaped-true (length (take kd (drop (b + designPart) s'))) (length (take ky (drop (b + misfitPart) s'))) n (part-length s' (b + designPart) kd (45 * n) ed (omega arith))
+        (part-length s' (b + misfitPart) ky (3 * n) ey (omega arith)) l)
         (ap (λ (x : List Float). solvable x (take ky (drop (b + misfitPart) s')) 15) (rows-are obs lo o w)
-        ∙ ap (λ (y : List Float). solvable (designAt (fullForce M ta tb) arc obs p) y 15) (misfits-are obs lo o w));
+        ∙ ap (λ (y : List Float). solvable (designAt (fullForce M) arc obs p) y 15) (misfits-are obs lo o w));
     values = λ obs lo o w g.
         hq ∙ ap (updatedOf p) (est .values g
         ∙ ap (λ (x : List Float). solved x (take ky (drop (b + misfitPart) s')) 15) (rows-are obs lo o w)
-        ∙ ap (λ (y : List Float). solved (designAt (fullForce M ta tb) arc obs p) y 15) (misfits-are obs lo o w));
+        ∙ ap (λ (y : List Float). solved (designAt (fullForce M) arc obs p) y 15) (misfits-are obs lo o w));
     apart = lin .apart;
   }

@@ -24,7 +24,8 @@ use Rattle.fit.proofs.Columns.{run-reads, step-past, place-past, apart-
 use Rattle.fit.proofs.Rounds.{misfit-list, full-is}
 use Rattle.fit.proofs.Steps.{within}
 use Rattle.integrate.proofs.Places.{only-same, only-then, stays3}
-use Rattle.integrate.specs.Force.{Model, attractionOf, fullForce, runOf}
+use Rattle.inputs.specs.Inputs.{Model}
+use Rattle.integrate.specs.Force.{attractionOf, fullForce, runOf}
 use Rattle.integrate.specs.Room.{Only, Orbit, Run}
 use Rattle.laws.specs.Floats.{_⊖_}
 use Rattle.laws.specs.Bools.{by}
@@ -47,12 +48,12 @@ observes-apart b s s' obs n o w = record {
 }
 
 -- the last run and its misfits
-pub finished : (M : Model) (ta tb : List Float) (arc : Arc) (p s s₁ s₂ : List Float) (b n k : ℕ) (x : Float) → n ≤ 1061 → arc .steps ≤ 5302 → k ≡ 3 * n → b + workSize ≤ length s →
-    Orbit s₁ b (runOf (attractionOf Full M ta tb) arc p) (arc .steps + 1) → Only 0 (b + observedPart) s s₁ → Measured s₁ s₂ b (3 * n) → x ≡ rmsOf (take k (drop (b + misfitPart) s₂)) →
-    Finished (fullForce M ta tb) arc p s s₂ b n x
+pub finished : (M : Model) (arc : Arc) (p s s₁ s₂ : List Float) (b n k : ℕ) (x : Float) → n ≤ 1061 → arc .steps ≤ 5302 → k ≡ 3 * n → b + workSize ≤ length s →
+    Orbit s₁ b (runOf (attractionOf Full M) arc p) (arc .steps + 1) → Only 0 (b + observedPart) s s₁ → Measured s₁ s₂ b (3 * n) → x ≡ rmsOf (take k (drop (b + misfitPart) s₂)) →
+    Finished (fullForce M) arc p s s₂ b n x
 unfolding rmsAt misfitsAt
-finished M ta tb arc p s s₁ s₂ b n k x l ls ek room o u me ex =
-    let full = runOf (attractionOf Full M ta tb) arc p in
+finished M arc p s s₁ s₂ b n k x l ls ek room o u me ex =
+    let full = runOf (attractionOf Full M) arc p in
     record {
       said = λ obs lo ob w.
           ex ∙ ap rmsOf (misfit-list full s s₂ b n k (arc .steps) obs ek lo l (omega (arith, me .only .long, u .long)) ob w
@@ -60,8 +61,8 @@ finished M ta tb arc p s s₁ s₂ b n k x l ls ek room o u me ex =
           me .rows r h
           ∙ ap (λ (v : Float). v ⊖ runAt s₁ b r) (place-past b s s₁ u r)
           ∙ ap (λ (v : Float). placeAt s b r ⊖ v) (run-reads s₁ b full (arc .steps) r o (omega arith) ∙ ap (λ (m : ℕ). axis (r % 3) (full m .position)) e))
-          ∙ ap (λ (pull : Float → Vector → Vector). misfitsOf (runOf pull arc p) obs) (full-is M ta tb));
-      states = subst (λ (pull : Float → Vector → Vector). Orbit s₂ b (runOf pull arc p) (arc .steps + 1)) (full-is M ta tb)
+          ∙ ap (λ (pull : Float → Vector → Vector). misfitsOf (runOf pull arc p) obs) (full-is M));
+      states = subst (λ (pull : Float → Vector → Vector). Orbit s₂ b (runOf pull arc p) (arc .steps + 1)) (full-is M)
           (orbit-stays (b + misfitPart) (b + designPart) b (arc .steps + 1) s₁ s₂ full (me .only) (omega arith) o);
       apart = record {
         long = me .only .long ∙ u .long;
@@ -116,7 +117,8 @@ module _ (full : Float → Vector → Vector) (arc : Arc) (start : State) (p s s
               ap Fitted (f .said obs lo (observes-apart b s₁ s₂ obs (omega arith) (r₂ .apart) (kept obs lo o w)) w ∙ ap (rmsAt full arc obs) (beta₂-is obs lo o w))
               ∙ sym (simp (regular-first obs lo o w, regular-second obs lo o w, h));
           states = λ obs lo o w y q. subst (λ (z : List Float). Orbit s₃ b (runOf full arc z) (arc .steps + 1)) (beta₂-is obs lo o w) (f .states);
-          apart = apart-then s s₂ s₃ b basePart basePart basePart (apart-then s s₁ s₂ b basePart basePart basePart (r₁ .apart) (r₂ .apart) (omega arith) (omega arith)) (f .apart) (omega arith) (omega arith);
+          apart = apart-then s s₂ s₃ b basePart basePart basePart (apart-then s s₁ s₂ b basePart basePart basePart (r₁ .apart) (r₂ .apart) (omega arith) (omega arith)) (f .apart) (omega arith)
+              (omega arith);
         }
 
 -- ---- the whole fit
@@ -130,7 +132,8 @@ module _ (covered : Float → Bool) (full : Float → Vector → Vector) (look :
   unfolding fitOf
   last-uncovered t e g h = record { said = sym (simp (g, ap covered (sym e) ∙ h)); states = λ x f. no-rms x 6 f; only = only-same 0 (b + workSize) s }
 
-  module _ (t : Float) (et : t ≡ stepTime (arc .t0) (arc .steps)) (g : covered (arc .t0) ≡ true) (h : covered t ≡ true) (ls : arc .steps ≤ 5302) (s₁ : List Float) (n : ℕ) (ob : Observing s s₁ b (observed look arc) n) where
+  module _ (t : Float) (et : t ≡ stepTime (arc .t0) (arc .steps)) (g : covered (arc .t0) ≡ true) (h : covered t ≡ true) (ls : arc .steps ≤ 5302) (s₁ : List Float) (n : ℕ)
+      (ob : Observing s s₁ b (observed look arc) n) where
     ends : covered (stepTime (arc .t0) (arc .steps)) ≡ true
     ends = ap covered (sym et) ∙ h
 
@@ -150,7 +153,8 @@ module _ (covered : Float → Bool) (full : Float → Vector → Vector) (look :
       only = only-then 0 (b + workSize) (b + observedPart) (b + basePart) 0 (b + workSize) s s₁ s₁ (ob .only) (only-same 0 (b + workSize) s₁) (omega arith) (omega arith) (omega arith) (omega arith);
     }
 
-    pub started : arc .steps / 10 ≤ n → (state : State) → look (arc .t0) ≡ Known state → (s₂ : List Float) (answer : Fit) → FitFrom full arc state s₁ s₂ b n answer → Fits covered full look arc s s₂ b answer
+    pub started : arc .steps / 10 ≤ n → (state : State) → look (arc .t0) ≡ Known state → (s₂ : List Float) (answer : Fit) → FitFrom full arc state s₁ s₂ b n answer
+        → Fits covered full look arc s s₂ b answer
     unfolding fitOf orbitOf
     started l state e s₂ answer f = record {
       said = f .said (observed look arc) (sym (ob .counted)) (ob .all) (within look arc ls)

@@ -9,11 +9,12 @@ use lib.Ieee.Scale.{finite}
 use lib.ListN.{length}
 use Rattle.laws.specs.Checks.{rising, risingSeconds, degreeFine}
 use Rattle.slices.specs.Calls.{Left, settled}
-use Rattle.inputs.specs.Inputs.{firstOf, fieldsFine, few, lengthsFit, statesFit, modelFine, keyedFine}
+use Rattle.inputs.specs.Inputs.{Model, firstOf, fieldsFine, few, sizesFit, statesFit, modelFine, keyedFine}
+use Rattle.vectors.specs.declared.Vector.{Vector}
 use Rattle.finality.specs.Brackets.{covers}
 use Rattle.integrate.specs.declared.kernel.Arc.{Arc}
 use Rattle.integrate.specs.Room.{flat}
-use Rattle.integrate.specs.Force.{model, fullForce}
+use Rattle.integrate.specs.Force.{fullForce}
 use Rattle.integrate.specs.Calls.{outFits, arcFits}
 use Rattle.fit.specs.declared.kernel.Fitted.{Fitted as Fit}
 use Rattle.fit.specs.declared.kernel.Fitted.the-variants.{Fitted, Refused}
@@ -29,17 +30,20 @@ rmsIn (Fitted x) = x
 rmsIn (Refused n) = nan
 
 -- which of 1 to 5 the arguments call for, or 0
-unfoldable pub refusal : ℕ → List Float → List Float → List Float → List Float → List Float → List ℤ → List Float → Arc → ℕ → ℕ → ℕ
-refusal N field a b times added keys states arc out scratch =
-    firstOf (degreeFine N) ((fieldsFine (length times) && leb (arc .steps) 5302) && few (length keys))
-    (lengthsFit N (length times) (length field) (length added) (length a) (length b) scratch && (outFits (arc .steps) out && statesFit (length keys) (length states)))
-    (modelFine field a b times added && (arcFits arc && keyedFine keys states)) (rising times && risingSeconds keys)
+unfoldable pub refusal : Model → List ℤ → List Float → Arc → ℕ → ℕ → ℕ
+refusal M keys states arc out scratch =
+    firstOf (degreeFine (M .fixed .degree)) ((fieldsFine (length (M .fields .fieldTimes)) && leb (arc .steps) 5302) && few (length keys))
+    (sizesFit M scratch && (outFits (arc .steps) out && statesFit (length keys) (length states)))
+    (modelFine M && (arcFits arc && keyedFine keys states)) (rising (M .fields .fieldTimes) && risingSeconds keys) 0
 
--- the rms and the states, or the refusal
-unfoldable pub fitCall : ℕ → List Float → List Float → List Float → List Float → List Float → List ℤ → List Float → Arc → List Float → List Float → Left Fit
-fitCall N field a b times added keys states arc out scratch =
-    let full = fullForce (model N field times added) a b in
+-- the rms and the states by a full attraction, or the refusal
+abbrev pub fitBy : (Float → Vector → Vector) → Model → List ℤ → List Float → Arc → List Float → List Float → Left Fit
+fitBy full M keys states arc out scratch =
     let look = stateFor keys states in
-    let answer = fitOf (covers times) full look arc in
-    settled (Fitted (rmsIn answer)) Refused (refusal N field a b times added keys states arc (length out) (length scratch)) (numberOf answer)
+    let answer = fitOf (covers (M .fields .fieldTimes)) full look arc in
+    settled (Fitted (rmsIn answer)) Refused (refusal M keys states arc (length out) (length scratch)) (numberOf answer)
     (flat (orbitOf full look arc) (arc .steps + 1) ∷ []) (out ∷ []) scratch
+
+-- `fit_orbit`
+unfoldable pub fitCall : Model → List ℤ → List Float → Arc → List Float → List Float → Left Fit
+fitCall M keys states arc out scratch = fitBy (fullForce M) M keys states arc out scratch

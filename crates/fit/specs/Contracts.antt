@@ -65,12 +65,14 @@ pub record Apart (s s' : List Float) (b from : ℕ) : Type 0 where
 
 -- the first k columns of the design, by the runs with a parameter moved
 pub record Designed (moved : ℕ → Run) (steps : ℕ) (s s' : List Float) (b m k : ℕ) : Type 0 where
-  pub rows : (r i : ℕ) → r < m → i < k → stepAt s b r ≤ steps → getD s' (b + designPart + (15 * r + i)) nan ≡ axis (r % 3) (moved i (stepAt s b r) .position) ⊖ getD s (b + basePart + r) nan
+  pub rows : (r i : ℕ) → r < m → i < k → stepAt s b r ≤ steps
+      → getD s' (b + designPart + (15 * r + i)) nan ≡ axis (r % 3) (moved i (stepAt s b r) .position) ⊖ getD s (b + basePart + r) nan
   pub apart : Apart s s' b designPart
 
 -- one column of it
 pub record Differentiated (moved : Run) (steps : ℕ) (s s' : List Float) (b m i : ℕ) : Type 0 where
-  pub rows : (r : ℕ) → r < m → stepAt s b r ≤ steps → getD s' (b + designPart + (15 * r + i)) nan ≡ axis (r % 3) (moved (stepAt s b r) .position) ⊖ getD s (b + basePart + r) nan
+  pub rows : (r : ℕ) → r < m → stepAt s b r ≤ steps → getD s' (b + designPart + (15 * r + i)) nan ≡ axis (r % 3) (moved (stepAt s b r) .position) ⊖ getD s
+      (b + basePart + r) nan
   pub others : (r j : ℕ) → j < 15 → (j ≡ i → ⊥) → getD s' (b + designPart + (15 * r + j)) nan ≡ getD s (b + designPart + (15 * r + j)) nan
   pub apart : Apart s s' b designPart
 
@@ -88,7 +90,8 @@ Within obs steps = (j : ℕ) → j < length obs → (nth obs j .step ≤ steps) 
 -- one round of Gauss-Newton
 pub record Rounded (full : Float → Vector → Vector) (arc : Arc) (p : List Float) (s s' : List Float) (b n : ℕ) (e : Estimate) : Type 0 where
   pub said : (obs : List Observed) → length obs ≡ n → Observes s (b + observedPart) obs → Within obs (arc .steps) → e .fine ≡ regular full arc obs p
-  pub values : (obs : List Observed) → length obs ≡ n → Observes s (b + observedPart) obs → Within obs (arc .steps) → e .fine ≡ true → e .beta ≡ improved full arc obs p
+  pub values : (obs : List Observed) → length obs ≡ n → Observes s (b + observedPart) obs → Within obs (arc .steps) → e .fine ≡ true
+      → e .beta ≡ improved full arc obs p
   pub apart : Apart s s' b basePart
 
 -- the last run
@@ -105,7 +108,8 @@ pub record FitFrom (full : Float → Vector → Vector) (arc : Arc) (start : Sta
   pub apart : Apart s s' b basePart
 
 -- the whole fit: the answer, the states, and what lies after the work as it was
-pub record Fits (covered : Float → Bool) (full : Float → Vector → Vector) (look : Float → Held) (arc : Arc) (s s' : List Float) (b : ℕ) (answer : Fit) : Type 0 where
+pub record Fits (covered : Float → Bool) (full : Float → Vector → Vector) (look : Float → Held) (arc : Arc) (s s' : List Float) (b : ℕ) (answer : Fit) : Type
+    0 where
   pub said : answer ≡ fitOf covered full look arc
   pub states : (x : Float) → answer ≡ Fitted x → Orbit s' b (orbitOf full look arc) (arc .steps + 1)
   pub only : Only 0 (b + workSize) s s'
@@ -126,6 +130,7 @@ pub record Serving (N steps : ℕ) (keys : List ℤ) (states room : ℕ) (r : Bo
   pub rising : r ≡ true → risingSeconds keys ≡ true
 
 -- the fit where the slices serve, and nothing otherwise
-pub record ArcFit (serves : Bool) (covered : Float → Bool) (full : Float → Vector → Vector) (look : Float → Held) (arc : Arc) (s s' : List Float) (base : ℕ) (answer : Fit) : Type 0 where
+pub record ArcFit (serves : Bool) (covered : Float → Bool) (full : Float → Vector → Vector) (look : Float → Held) (arc : Arc) (s s' : List Float) (base : ℕ)
+    (answer : Fit) : Type 0 where
   pub fits : serves ≡ true → Fits covered full look arc s s' base answer
   pub unfit : serves ≡ false → (answer ≡ Refused 3) × (s' ≡ s)

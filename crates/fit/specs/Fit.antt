@@ -1,5 +1,6 @@
--- A dynamic orbit fitted to observed positions: initial state and nine empirical accelerations, by Gauss-Newton with partials from the J2 model (document 01, module 4; the
--- source's `fit_orbit`). It is a function of `covered`, of the full attraction as a function of the time, of the state at a time's second, and of the arc. Assumes nothing.
+-- A dynamic orbit fitted to observed positions: initial state and nine empirical accelerations, by Gauss-Newton with partials from the J2 model (document 01,
+-- module 4; the source's `fit_orbit`). It is a function of `covered`, of the full attraction as a function of the time, of the state at a time's second, and
+-- of the arc. Assumes nothing.
 use Prim.Native.Nat.{ℕ, zero, suc, _+_, _*_, _/_, _%_}
 use mathlib.Core.Bool.{Bool, cond, _&&_}
 use mathlib.Core.List.{List, [], _∷_, _++_}

@@ -11,8 +11,8 @@ use Rattle.fit.specs.Fit.{Observed, nth}
 use Rattle.integrate.specs.Room.{runSize, Holds3}
 use Rattle.laws.specs.WholeNumbers.{number}
 
--- where the parts of a fit's work begin, counted from the states of a run on, which come first: at most 1,061 observed steps, four numbers each; the base positions
--- at them and the misfits, three each; the rows of the design, one for each misfit
+-- where the parts of a fit's work begin, counted from the states of a run on, which come first: at most 1,061 observed steps, four numbers each; the base
+-- positions at them and the misfits, three each; the rows of the design, one for each misfit
 abbrev pub observedPart : ℕ
 observedPart = runSize
 

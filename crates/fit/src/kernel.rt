@@ -12,12 +12,13 @@ ghost use Rattle.numbers.specs.Seconds.{wholeSecond};
 ghost use Rattle.slices.specs.Slices.{lookup};
 ghost use Rattle.finality.specs.Brackets.{covers};
 ghost use Rattle.integrate.specs.Room.{runSize, Only, Orbit};
-ghost use Rattle.inputs.specs.Inputs.{frontSize};
-ghost use Rattle.integrate.specs.Force.{model, fullForce, attractionOf, runOf};
+ghost use Rattle.inputs.specs.Inputs.{modelOf, frontSize};
+ghost use Rattle.integrate.specs.Force.{fullForce, attractionOf, runOf};
 ghost use Rattle.integrate.specs.declared.kernel.Force.the-variants.{Full, J2};
 ghost use Rattle.fit.specs.Fit.{stateFor, seen, observed, startOf, scaleOf, movedOf, updatedOf, rmsOf};
 ghost use Rattle.fit.specs.Room.{basePart, workSize, stepNumber, stepAt, placeAt, runAt};
-ghost use Rattle.fit.specs.Contracts.{Measured, Based, Columned, Stored, Noted, Observing, Designed, Differentiated, Linearised, Rounded, Finished, FitFrom, Fits, arcServes, Serving, ArcFit};
+ghost use Rattle.fit.specs.Contracts.{Measured, Based, Columned, Stored, Noted, Observing, Designed, Differentiated, Linearised, Rounded};
+ghost use Rattle.fit.specs.Contracts.{Finished, FitFrom, Fits, arcServes, Serving, ArcFit};
 
 // Observed steps: step, x, y, z.
 const OBSERVED: usize = 31_818;
@@ -71,23 +72,20 @@ fn state_for(keys: &[i64], states: &[f64], t: f64) -> Held
 }
 
 // The states of a run, from the first six parameters.
-fn fly(
+fn fly<'a>(
     force: integrate::kernel::Force,
     degree: usize,
-    field: &[f64],
-    a: &[f64],
-    b: &[f64],
-    times: &[f64],
-    added: &[f64],
+    model: inputs::Model<'a>,
     arc: integrate::kernel::Arc,
     p: [f64; 15],
     s: &mut [f64],
     base: usize,
 )
     requires { ⌜ (arc .steps ≤ 5302) × (base + runSize ≤ length (now s)) × (degree ≤ 180) × (base ≡ frontSize degree) ⌝ }
-    ensures { λ _. ⌜ Orbit (now (s .exit)) base (runOf (attractionOf force (model degree (now (field .entry)) (now (times .entry)) (now (added .entry))) (now (a .entry)) (now (b .entry))) arc p) (arc .steps + 1) × Only 0 (base + runSize) (now (s .entry)) (now (s .exit)) ⌝ }
+    ensures { λ _. ⌜ Orbit (now (s .exit)) base (runOf (attractionOf force (modelOf degree (model .entry))) arc p) (arc .steps + 1)
+        × Only 0 (base + runSize) (now (s .entry)) (now (s .exit)) ⌝ }
 {
-    integrate::kernel::run(force, degree, field, a, b, times, added, arc, p, s);
+    integrate::kernel::run(force, degree, model, arc, p, s);
 }
 
 // A step number that was stored as a float.
@@ -234,8 +232,10 @@ fn note(
     base: usize,
     n: usize,
 ) -> usize
-    requires { ⌜ (risingSeconds (now keys) ≡ true) × (length (now states) ≡ 6 * length (now keys)) × (n ≤ c) × (c < 1061) × (base + workSize ≤ length (now s)) ⌝ }
-    ensures { λ r. ⌜ Noted (now (s .entry)) (now (s .exit)) base n (seen (5 * c) (stateFor (now (keys .entry)) (now (states .entry)) (stepTime t0 (5 * c)))) r ⌝ }
+    requires { ⌜ (risingSeconds (now keys) ≡ true) × (length (now states) ≡ 6 * length (now keys)) × (n ≤ c) × (c < 1061)
+        × (base + workSize ≤ length (now s)) ⌝ }
+    ensures { λ r. ⌜ Noted (now (s .entry)) (now (s .exit)) base n (seen (5 * c) (stateFor (now (keys .entry)) (now (states .entry)) (stepTime t0 (5 * c)))) r
+        ⌝ }
 {
     let held = state_for(keys, states, integrate::kernel::time(t0, 5 * c));
     match held {
@@ -255,7 +255,8 @@ fn observe(
     s: &mut [f64],
     base: usize,
 ) -> usize
-    requires { ⌜ (risingSeconds (now keys) ≡ true) × (length (now states) ≡ 6 * length (now keys)) × (arc .steps ≤ 5302) × (base + workSize ≤ length (now s)) ⌝ }
+    requires { ⌜ (risingSeconds (now keys) ≡ true) × (length (now states) ≡ 6 * length (now keys)) × (arc .steps ≤ 5302)
+        × (base + workSize ≤ length (now s)) ⌝ }
     ensures { λ r. ⌜ Observing (now (s .entry)) (now (s .exit)) base (observed (stateFor (now (keys .entry)) (now (states .entry))) arc) r ⌝ }
 {
     let mut n: usize = 0;
@@ -266,13 +267,9 @@ fn observe(
 }
 
 // Column i of the design: a run with parameter i moved, less the base.
-fn partial(
+fn partial<'a>(
     degree: usize,
-    field: &[f64],
-    a: &[f64],
-    b: &[f64],
-    times: &[f64],
-    added: &[f64],
+    model: inputs::Model<'a>,
     arc: integrate::kernel::Arc,
     p: [f64; 15],
     i: usize,
@@ -281,32 +278,17 @@ fn partial(
     n: usize,
 )
     requires { ⌜ (arc .steps ≤ 5302) × (i < 15) × (n ≤ 1061) × (base + workSize ≤ length (now s)) × (degree ≤ 180) × (base ≡ frontSize degree) ⌝ }
-    ensures { λ _. ⌜ Differentiated (runOf (attractionOf J2 (model degree (now (field .entry)) (now (times .entry)) (now (added .entry))) (now (a .entry)) (now (b .entry))) arc (movedOf p i)) (arc .steps) (now (s .entry)) (now (s .exit)) base (3 * n) i ⌝ }
+    ensures { λ _. ⌜ Differentiated (runOf (attractionOf J2 (modelOf degree (model .entry))) arc (movedOf p i)) (arc .steps) (now (s .entry)) (now (s .exit))
+        base (3 * n) i ⌝ }
 {
     let q = moved(p, i);
-    fly(
-        integrate::kernel::Force::J2,
-        degree,
-        field,
-        a,
-        b,
-        times,
-        added,
-        arc,
-        q,
-        s,
-        base,
-    );
+    fly(integrate::kernel::Force::J2, degree, model, arc, q, s, base);
     column(s, base, n, i);
 }
 
-fn design(
+fn design<'a>(
     degree: usize,
-    field: &[f64],
-    a: &[f64],
-    b: &[f64],
-    times: &[f64],
-    added: &[f64],
+    model: inputs::Model<'a>,
     arc: integrate::kernel::Arc,
     p: [f64; 15],
     s: &mut [f64],
@@ -314,21 +296,18 @@ fn design(
     n: usize,
 )
     requires { ⌜ (arc .steps ≤ 5302) × (n ≤ 1061) × (base + workSize ≤ length (now s)) × (degree ≤ 180) × (base ≡ frontSize degree) ⌝ }
-    ensures { λ _. ⌜ Designed (λ (i : ℕ). runOf (attractionOf J2 (model degree (now (field .entry)) (now (times .entry)) (now (added .entry))) (now (a .entry)) (now (b .entry))) arc (movedOf p i)) (arc .steps) (now (s .entry)) (now (s .exit)) base (3 * n) 15 ⌝ }
+    ensures { λ _. ⌜ Designed (λ (i : ℕ). runOf (attractionOf J2 (modelOf degree (model .entry))) arc (movedOf p i)) (arc .steps) (now (s .entry))
+        (now (s .exit)) base (3 * n) 15 ⌝ }
 {
     for i in 0..15usize {
-        partial(degree, field, a, b, times, added, arc, p, i, s, base, n);
+        partial(degree, model, arc, p, i, s, base, n);
     }
 }
 
 // Misfits of the full run, and the design around the base run.
-fn linearise(
+fn linearise<'a>(
     degree: usize,
-    field: &[f64],
-    a: &[f64],
-    b: &[f64],
-    times: &[f64],
-    added: &[f64],
+    model: inputs::Model<'a>,
     arc: integrate::kernel::Arc,
     p: [f64; 15],
     s: &mut [f64],
@@ -336,47 +315,29 @@ fn linearise(
     n: usize,
 )
     requires { ⌜ (arc .steps ≤ 5302) × (n ≤ 1061) × (base + workSize ≤ length (now s)) × (degree ≤ 180) × (base ≡ frontSize degree) ⌝ }
-    ensures { λ _. ⌜ Linearised (runOf (attractionOf Full (model degree (now (field .entry)) (now (times .entry)) (now (added .entry))) (now (a .entry)) (now (b .entry))) arc p) (runOf (attractionOf J2 (model degree (now (field .entry)) (now (times .entry)) (now (added .entry))) (now (a .entry)) (now (b .entry))) arc p) (λ (i : ℕ). runOf (attractionOf J2 (model degree (now (field .entry)) (now (times .entry)) (now (added .entry))) (now (a .entry)) (now (b .entry))) arc (movedOf p i)) (arc .steps) (now (s .entry)) (now (s .exit)) base (3 * n) ⌝ }
+    ensures { λ _. ⌜ Linearised (runOf (attractionOf Full (modelOf degree (model .entry))) arc p)
+        (runOf (attractionOf J2 (modelOf degree (model .entry))) arc p) (λ (i : ℕ). runOf (attractionOf J2 (modelOf degree (model .entry))) arc (movedOf p i))
+        (arc .steps) (now (s .entry)) (now (s .exit)) base (3 * n) ⌝ }
 {
     fly(
         integrate::kernel::Force::Full,
         degree,
-        field,
-        a,
-        b,
-        times,
-        added,
+        model,
         arc,
         p,
         s,
         base,
     );
     misfits(s, base, n);
-    fly(
-        integrate::kernel::Force::J2,
-        degree,
-        field,
-        a,
-        b,
-        times,
-        added,
-        arc,
-        p,
-        s,
-        base,
-    );
+    fly(integrate::kernel::Force::J2, degree, model, arc, p, s, base);
     bases(s, base, n);
-    design(degree, field, a, b, times, added, arc, p, s, base, n);
+    design(degree, model, arc, p, s, base, n);
 }
 
 // One round of Gauss-Newton: the parameters after it, or none.
-fn round(
+fn round<'a>(
     degree: usize,
-    field: &[f64],
-    a: &[f64],
-    b: &[f64],
-    times: &[f64],
-    added: &[f64],
+    model: inputs::Model<'a>,
     arc: integrate::kernel::Arc,
     p: [f64; 15],
     s: &mut [f64],
@@ -384,9 +345,9 @@ fn round(
     n: usize,
 ) -> least_squares::kernel::Estimate
     requires { ⌜ (arc .steps ≤ 5302) × (n ≤ 1061) × (base + workSize ≤ length (now s)) × (degree ≤ 180) × (base ≡ frontSize degree) ⌝ }
-    ensures { λ r. ⌜ Rounded (fullForce (model degree (now (field .entry)) (now (times .entry)) (now (added .entry))) (now (a .entry)) (now (b .entry))) arc p (now (s .entry)) (now (s .exit)) base n r ⌝ }
+    ensures { λ r. ⌜ Rounded (fullForce (modelOf degree (model .entry))) arc p (now (s .entry)) (now (s .exit)) base n r ⌝ }
 {
-    linearise(degree, field, a, b, times, added, arc, p, s, base, n);
+    linearise(degree, model, arc, p, s, base, n);
     let d = base + DESIGN;
     let m = base + MISFITS;
     let e = least_squares::kernel::fifteen(&s[d..d + 45 * n], &s[m..m + 3 * n]);
@@ -410,13 +371,9 @@ fn rms(y: &[f64]) -> f64
 }
 
 // The last full run and its misfits.
-fn finish(
+fn finish<'a>(
     degree: usize,
-    field: &[f64],
-    a: &[f64],
-    b: &[f64],
-    times: &[f64],
-    added: &[f64],
+    model: inputs::Model<'a>,
     arc: integrate::kernel::Arc,
     p: [f64; 15],
     s: &mut [f64],
@@ -424,16 +381,12 @@ fn finish(
     n: usize,
 ) -> f64
     requires { ⌜ (arc .steps ≤ 5302) × (n ≤ 1061) × (base + workSize ≤ length (now s)) × (degree ≤ 180) × (base ≡ frontSize degree) ⌝ }
-    ensures { λ r. ⌜ Finished (fullForce (model degree (now (field .entry)) (now (times .entry)) (now (added .entry))) (now (a .entry)) (now (b .entry))) arc p (now (s .entry)) (now (s .exit)) base n r ⌝ }
+    ensures { λ r. ⌜ Finished (fullForce (modelOf degree (model .entry))) arc p (now (s .entry)) (now (s .exit)) base n r ⌝ }
 {
     fly(
         integrate::kernel::Force::Full,
         degree,
-        field,
-        a,
-        b,
-        times,
-        added,
+        model,
         arc,
         p,
         s,
@@ -445,13 +398,9 @@ fn finish(
 }
 
 // Two rounds from a start, and the final run.
-fn fit_from(
+fn fit_from<'a>(
     degree: usize,
-    field: &[f64],
-    a: &[f64],
-    b: &[f64],
-    times: &[f64],
-    added: &[f64],
+    model: inputs::Model<'a>,
     arc: integrate::kernel::Arc,
     state: integrate::kernel::State,
     s: &mut [f64],
@@ -459,51 +408,38 @@ fn fit_from(
     n: usize,
 ) -> Fitted
     requires { ⌜ (arc .steps ≤ 5302) × (n ≤ 1061) × (base + workSize ≤ length (now s)) × (degree ≤ 180) × (base ≡ frontSize degree) ⌝ }
-    ensures { λ r. ⌜ FitFrom (fullForce (model degree (now (field .entry)) (now (times .entry)) (now (added .entry))) (now (a .entry)) (now (b .entry))) arc state (now (s .entry)) (now (s .exit)) base n r ⌝ }
+    ensures { λ r. ⌜ FitFrom (fullForce (modelOf degree (model .entry))) arc state (now (s .entry)) (now (s .exit)) base n r ⌝ }
 {
-    let first = round(
-        degree,
-        field,
-        a,
-        b,
-        times,
-        added,
-        arc,
-        start(state),
-        s,
-        base,
-        n,
-    );
+    let first = round(degree, model, arc, start(state), s, base, n);
     if !first.fine {
         return Fitted::Refused(9);
     }
     let p = first.beta;
-    let second = round(degree, field, a, b, times, added, arc, p, s, base, n);
+    let second = round(degree, model, arc, p, s, base, n);
     if !second.fine {
         return Fitted::Refused(9);
     }
     let q = second.beta;
-    let r = finish(degree, field, a, b, times, added, arc, q, s, base, n);
+    let r = finish(degree, model, arc, q, s, base, n);
     Fitted::Fitted(r)
 }
 
 // A dynamic orbit fitted to the known positions of an arc; its states stay in scratch from b on.
-fn fit_within(
+fn fit_within<'a>(
     degree: usize,
-    field: &[f64],
-    a: &[f64],
-    b: &[f64],
-    times: &[f64],
-    added: &[f64],
+    model: inputs::Model<'a>,
     keys: &[i64],
     states: &[f64],
     arc: integrate::kernel::Arc,
     s: &mut [f64],
     base: usize,
 ) -> Fitted
-    requires { ⌜ (risingSeconds (now keys) ≡ true) × (length (now states) ≡ 6 * length (now keys)) × (arc .steps ≤ 5302) × (base + workSize ≤ length (now s)) × (degree ≤ 180) × (base ≡ frontSize degree) ⌝ }
-    ensures { λ r. ⌜ Fits (covers (now (times .entry))) (fullForce (model degree (now (field .entry)) (now (times .entry)) (now (added .entry))) (now (a .entry)) (now (b .entry))) (stateFor (now (keys .entry)) (now (states .entry))) arc (now (s .entry)) (now (s .exit)) base r ⌝ }
+    requires { ⌜ (risingSeconds (now keys) ≡ true) × (length (now states) ≡ 6 * length (now keys)) × (arc .steps ≤ 5302) × (base + workSize ≤ length (now s))
+        × (degree ≤ 180) × (base ≡ frontSize degree) ⌝ }
+    ensures { λ r. ⌜ Fits (covers (modelOf degree (model .entry) .fields .fieldTimes)) (fullForce (modelOf degree (model .entry)))
+        (stateFor (now (keys .entry)) (now (states .entry))) arc (now (s .entry)) (now (s .exit)) base r ⌝ }
 {
+    let times = model[inputs::FIELD_TIMES];
     if !model::kernel::covers(times, arc.t0) {
         return Fitted::Refused(6);
     }
@@ -516,7 +452,7 @@ fn fit_within(
     }
     let held = state_for(keys, states, arc.t0);
     match held {
-        Held::Known(state) => fit_from(degree, field, a, b, times, added, arc, state, s, base, n),
+        Held::Known(state) => fit_from(degree, model, arc, state, s, base, n),
         Held::Missing => Fitted::Refused(8),
     }
 }
@@ -541,36 +477,23 @@ fn arc_fits(degree: usize, steps: usize, keys: &[i64], states: usize, room: usiz
     slices::rising_keys(keys)
 }
 
-// A dynamic orbit fitted to the known positions of an arc; its states stay behind the numbers before them. Refused by 3, and nothing is done, where the slices do not serve.
-pub fn fit_arc(
+// A dynamic orbit fitted to the known positions of an arc; its states stay behind the numbers before them. Refused by 3, and nothing is done, where the
+// slices do not serve.
+pub fn fit_arc<'a>(
     degree: usize,
-    field: &[f64],
-    a: &[f64],
-    b: &[f64],
-    times: &[f64],
-    added: &[f64],
+    model: inputs::Model<'a>,
     keys: &[i64],
     states: &[f64],
     arc: integrate::kernel::Arc,
     s: &mut [f64],
 ) -> Fitted
-    ensures { λ r. ⌜ ArcFit (arcServes degree (arc .steps) (now (keys .entry)) (length (now (states .entry))) (length (now (s .entry)))) (covers (now (times .entry))) (fullForce (model degree (now (field .entry)) (now (times .entry)) (now (added .entry))) (now (a .entry)) (now (b .entry))) (stateFor (now (keys .entry)) (now (states .entry))) arc (now (s .entry)) (now (s .exit)) (frontSize degree) r ⌝ }
+    ensures { λ r. ⌜ ArcFit (arcServes degree (arc .steps) (now (keys .entry)) (length (now (states .entry))) (length (now (s .entry))))
+        (covers (modelOf degree (model .entry) .fields .fieldTimes)) (fullForce (modelOf degree (model .entry)))
+        (stateFor (now (keys .entry)) (now (states .entry))) arc (now (s .entry)) (now (s .exit)) (frontSize degree) r ⌝ }
 {
     if arc_fits(degree, arc.steps, keys, states.len(), s.len()) {
         let base = inputs::front_size(degree);
-        return fit_within(
-            degree,
-            field,
-            a,
-            b,
-            times,
-            added,
-            keys,
-            states,
-            arc,
-            s,
-            base,
-        );
+        return fit_within(degree, model, keys, states, arc, s, base);
     }
     Fitted::Refused(3)
 }

@@ -12,7 +12,7 @@ use borrow.Author.Tests.{leb-true, eqb-true}
 use Rattle.laws.specs.Floats.{zero64}
 use Rattle.laws.specs.Checks.{all, isTime, rising, risingSeconds, degreeFine}
 use Rattle.laws.specs.Bools.{both-true}
-use Rattle.inputs.specs.Inputs.{windowRoom, fieldsFine, few, modelFits, leastScratch, wholeScratchFits, modelFine, keyedFine, frontSize}
+use Rattle.inputs.specs.Inputs.{windowRoom, fieldsFine, few, modelSized, leastScratch, wholeScratchFits, modelFine, keyedFine, frontSize}
 use Rattle.inputs.proofs.Passed.{all-pass, degree-passes}
 use Rattle.finality.specs.Brackets.{covers}
 use Rattle.integrate.specs.Force.{fullForce}
@@ -29,25 +29,26 @@ use Rattle.fit.specs.Room.{workSize}
 -- ---- all tests passed
 
 record Passed (g : Given) (fit : Bool) : Type 0 where
-  pub degree : g .model .degree ≤ 180
+  pub degree : g .model .fixed .degree ≤ 180
   pub lengths : fit ≡ true
   pub times : all isTime (g .nodes) ≡ true
-  pub keys : risingSeconds (g .keys) ≡ true
+  pub keys : risingSeconds (g .states .keys) ≡ true
   pub nodes : rising (g .nodes) ≡ true
 
 passes : (g : Given) (fit : Bool) → refusal g fit ≡ 0 → Passed g fit
 unfolding refusal
 passes g fit h =
-    let a = all-pass (degreeFine (g .model .degree)) ((fieldsFine (length (g .model .times)) && few (length (g .keys))) && leb (length (g .nodes)) 64) fit
-    (modelFine (g .model .field) (g .a) (g .b) (g .model .times) (g .model .added) && (keyedFine (g .keys) (g .states) && all isTime (g .nodes))) (rising (g .model .times) && (risingSeconds (g .keys) && rising (g .nodes))) h in
-    let values = both-true (modelFine (g .model .field) (g .a) (g .b) (g .model .times) (g .model .added)) (keyedFine (g .keys) (g .states) && all isTime (g .nodes)) (a .values) .1 in
-    let order = both-true (rising (g .model .times)) (risingSeconds (g .keys) && rising (g .nodes)) (a .order) .1 in
+    let a = all-pass (degreeFine (g .model .fixed .degree)) ((fieldsFine (length (g .model .fields .fieldTimes)) && few (length (g .states .keys))) && leb (length (g .nodes)) 64) fit
+    (modelFine (g .model) && (keyedFine (g .states .keys) (g .states .values) && all isTime (g .nodes)))
+    (rising (g .model .fields .fieldTimes) && (risingSeconds (g .states .keys) && rising (g .nodes))) 0 h in
+    let values = both-true (modelFine (g .model)) (keyedFine (g .states .keys) (g .states .values) && all isTime (g .nodes)) (a .values) .1 in
+    let order = both-true (rising (g .model .fields .fieldTimes)) (risingSeconds (g .states .keys) && rising (g .nodes)) (a .order) .1 in
     record {
-      degree = degree-passes (g .model .degree) (a .degree);
+      degree = degree-passes (g .model .fixed .degree) (a .degree);
       lengths = a .lengths;
-      times = both-true (keyedFine (g .keys) (g .states)) (all isTime (g .nodes)) values .1;
-      keys = both-true (risingSeconds (g .keys)) (rising (g .nodes)) order .0;
-      nodes = both-true (risingSeconds (g .keys)) (rising (g .nodes)) order .1;
+      times = both-true (keyedFine (g .states .keys) (g .states .values)) (all isTime (g .nodes)) values .1;
+      keys = both-true (risingSeconds (g .states .keys)) (rising (g .nodes)) order .0;
+      nodes = both-true (risingSeconds (g .states .keys)) (rising (g .nodes)) order .1;
     }
 
 pub record Long (k : ℕ) (o : Outputs) : Type 0 where
@@ -77,26 +78,26 @@ module _ (g : Given) (o : Outputs) (scratch : ℕ) (fit : Bool) (n : ℕ) (ef : 
   passed = passes g fit (sym e ∙ z)
 
   abbrev model-fits : Bool
-  model-fits = modelFits (g .model .degree) (length (g .model .times)) (length (g .model .field)) (length (g .model .added)) (length (g .a)) (length (g .b))
+  model-fits = modelSized (g .model)
 
   abbrev each-fits : Bool
-  each-fits = eqb (length (g .states)) (6 * length (g .keys))
+  each-fits = eqb (length (g .states .values)) (6 * length (g .states .keys))
 
   abbrev places : Bool
   places = placesFit (length (g .nodes)) (length (o .keys)) (length (o .states)) (length (o .rms))
 
   abbrev room : Bool
-  room = wholeScratchFits (g .model .degree) (length (g .model .times)) (length (g .nodes)) 0 scratch
+  room = wholeScratchFits (g .model .fixed .degree) (length (g .model .fields .fieldTimes)) (length (g .nodes)) 0 scratch
 
   lengths : ((model-fits && each-fits) ≡ true) × ((places && room) ≡ true)
   lengths = both-true (model-fits && each-fits) (places && room) (sym ef ∙ passed .lengths)
 
-  pub usable : Usable (g .model .degree) (g .keys) (length (g .states)) scratch
+  pub usable : Usable (g .model .fixed .degree) (g .states .keys) (length (g .states .values)) scratch
   usable = record {
     degree = passed .degree;
     rises = passed .keys;
-    each = eqb-true (length (g .states)) (6 * length (g .keys)) (both-true model-fits each-fits (lengths .0) .1);
-    enough = scratch-pass (g .model .degree) (length (g .model .times)) (length (g .nodes)) scratch (both-true places room (lengths .1) .1);
+    each = eqb-true (length (g .states .values)) (6 * length (g .states .keys)) (both-true model-fits each-fits (lengths .0) .1);
+    enough = scratch-pass (g .model .fixed .degree) (length (g .model .fields .fieldTimes)) (length (g .nodes)) scratch (both-true places room (lengths .1) .1);
   }
 
   pub ends : (w : ℕ) → w + 1 < length (g .nodes) → Ends (getD (g .nodes) w nan) (getD (g .nodes) (w + 1) nan)
@@ -109,14 +110,15 @@ module _ (g : Given) (o : Outputs) (scratch : ℕ) (fit : Bool) (n : ℕ) (ef : 
 
 -- the lengths of the outputs, tested apart
 pub fit-is : (g : Given) (o : Outputs) (scratch : ℕ) (p fit : Bool) → p ≡ placesFit (length (g .nodes)) (length (o .keys)) (length (o .states)) (length (o .rms)) →
-    fit ≡ ((modelFits (g .model .degree) (length (g .model .times)) (length (g .model .field)) (length (g .model .added)) (length (g .a)) (length (g .b)) && eqb (length (g .states)) (6 * length (g .keys)))
-    && (p && wholeScratchFits (g .model .degree) (length (g .model .times)) (length (g .nodes)) 0 scratch)) → fit ≡ lengthsFit g o scratch
+    fit ≡ ((modelSized (g .model) && eqb (length (g .states .values)) (6 * length (g .states .keys)))
+    && (p && wholeScratchFits (g .model .fixed .degree) (length (g .model .fields .fieldTimes)) (length (g .nodes)) 0 scratch)) → fit ≡ lengthsFit g o scratch
 fit-is g o scratch p fit ep ef =
-    ef ∙ ap (λ (x : Bool). (modelFits (g .model .degree) (length (g .model .times)) (length (g .model .field)) (length (g .model .added)) (length (g .a)) (length (g .b)) && eqb (length (g .states)) (6 * length (g .keys)))
-    && (x && wholeScratchFits (g .model .degree) (length (g .model .times)) (length (g .nodes)) 0 scratch)) ep
+    ef ∙ ap (λ (x : Bool). (modelSized (g .model) && eqb (length (g .states .values)) (6 * length (g .states .keys)))
+    && (x && wholeScratchFits (g .model .fixed .degree) (length (g .model .fields .fieldTimes)) (length (g .nodes)) 0 scratch)) ep
 
 pub so-far-given : (g : Given) (r : Done) (o : Outputs) →
-    SoFar (length (g .nodes) - 1) (between (windowFit (covers (g .model .times)) (fullForce (g .model) (g .a) (g .b)) (stateFor (g .keys) (g .states))) (g .nodes)) r o → SoFar (length (g .nodes) - 1) (fittedWindows g) r o
+    SoFar (length (g .nodes) - 1) (between (windowFit (covers (g .model .fields .fieldTimes)) (fullForce (g .model)) (stateFor (g .states .keys) (g .states .values))) (g .nodes)) r o
+    → SoFar (length (g .nodes) - 1) (fittedWindows g) r o
 unfolding fittedWindows
 so-far-given g r o f = f
 
@@ -142,7 +144,8 @@ module _ (g : Given) (o : Outputs) (s : List Float) (fit : Bool) (n : ℕ) (ef :
   judged : (x : Bool) → n ≡ 0 → x ≡ (all finite (listed k ws .states) && all finite (listed k ws .rms)) → handed x k ws s ≡ orbitsCall g o s
   judged x z f = ap (λ (y : Bool). handed y k ws s) f ∙ ap (λ (m : ℕ). settled m k ws o s) (sym z) ∙ settles
 
-  module _ (z : n ≡ 0) (r : Done) (o' : Outputs) (f : SoFar k ws r o') (x y b : Bool) (ex : x ≡ all finite (o' .states)) (ey : y ≡ all finite (o' .rms)) (eb : b ≡ (x && y)) (s' : List Float) (m : ℕ) (l : m ≡ length s) (es : s' ≡ replicate m zero64) where
+  module _ (z : n ≡ 0) (r : Done) (o' : Outputs) (f : SoFar k ws r o') (x y b : Bool) (ex : x ≡ all finite (o' .states)) (ey : y ≡ all finite (o' .rms)) (eb : b ≡ (x && y)) (s' : List Float) (m : ℕ)
+      (l : m ≡ length s) (es : s' ≡ replicate m zero64) where
     fine : b ≡ (all finite (listed k ws .states) && all finite (listed k ws .rms))
     fine = eb ∙ (λ i. ex i && ey i) ∙ ap (λ (q : Outputs). all finite (q .states) && all finite (q .rms)) (f .outputs)
 

@@ -133,7 +133,8 @@ keeping-none t0 from to s base first keys states = record {
 }
 
 -- how many of the first steps lie inside, with one more that does
-pub few-more : (t0 from to : Float) (k m : ℕ) → Time from → Time to → ((run : Run) → length (inside t0 from to 0 (row run m)) ≤ 3500) → k < m → within from to (stepTime t0 k) ≡ true → keptCount t0 from to k + 1 ≤ 3500
+pub few-more : (t0 from to : Float) (k m : ℕ) → Time from → Time to → ((run : Run) → length (inside t0 from to 0 (row run m)) ≤ 3500) → k < m → within from to (stepTime t0 k) ≡ true
+    → keptCount t0 from to k + 1 ≤ 3500
 unfolding keptCount
 few-more t0 from to k m ft ut h l e =
     let most = few t0 from to (suc k) m ft ut h l in
@@ -151,7 +152,8 @@ keeping-more t0 from to s base first k n r keys keys₁ keys₂ states states₁
       all = λ m table h t.
           subst (λ (x : Table State). Tabled m x r keys₂ states₂)
           (append-assoc table (keptTo (readRun s base) t0 from to k) (keptIf b (wholeSecond (stepTime t0 k)) (stateIn s (base + 6 * k))) ∙ ap (λ (x : Table State). table ++ x) (sym next))
-          (tabled-more b (wholeSecond (stepTime t0 k)) (stateIn s (base + 6 * k)) n r keys₁ keys₂ states₁ states₂ w m (table ++ keptTo (readRun s base) t0 from to k) (λ e. let q = room e in let c = f .counted in omega arith) (f .all m table h t));
+          (tabled-more b (wholeSecond (stepTime t0 k)) (stateIn s (base + 6 * k)) n r keys₁ keys₂ states₁ states₂ w m (table ++ keptTo (readRun s base) t0 from to k)
+          (λ e. let q = room e in let c = f .counted in omega arith) (f .all m table h t));
       counted = rw add-one (w .counted ∙ (let c = f .counted in ap (λ (x : ℕ). x + cond b 1 0) c ∙ omega arith));
       longKeys = kept-keys b _ _ n r keys₁ keys₂ states₁ states₂ w ∙ f .longKeys;
       longStates = kept-states b _ _ n r keys₁ keys₂ states₁ states₂ w ∙ f .longStates;
@@ -161,7 +163,8 @@ pub keeping-all : (t0 from to : Float) (s : List Float) (base first steps k r : 
     ((run : Run) → length (inside t0 from to 0 (row run (steps + 1))) ≤ 3500) → k ≡ steps + 1 → Keeping t0 from to s base first k r keys keys' states states' →
     Joins (inside t0 from to 0 (row (readRun s base) (steps + 1))) first r keys keys' states states'
 keeping-all t0 from to s base first steps k r keys keys' states states' ft ut h e f =
-    let is : keptTo (readRun s base) t0 from to k ≡ inside t0 from to 0 (row (readRun s base) (steps + 1)) = ap (keptTo (readRun s base) t0 from to) e ∙ sym (kept-inside (readRun s base) t0 from to (steps + 1) ft ut) in
+    let is : keptTo (readRun s base) t0 from to k ≡ inside t0 from to 0 (row (readRun s base) (steps + 1)) = ap (keptTo (readRun s base) t0 from to) e
+    ∙ sym (kept-inside (readRun s base) t0 from to (steps + 1) ft ut) in
     let most = few t0 from to k (steps + 1) ft ut h (omega arith) in
     record {
       all = λ m table l t. subst (λ (x : Table State). Tabled m (table ++ x) r keys' states') is (f .all m table l t);
@@ -178,7 +181,8 @@ run-read s base run m o (suc k) h = (λ i. run-read s base run m o k (omega arit
 
 -- ---- from what the calls gave
 
-pub kept-in : (b b₁ : Bool) (t t₁ : Float) (state : State) (n : ℕ) (keys keys' : List ℤ) (states states' : List Float) → b₁ ≡ b → b₁ ≡ true → t₁ ≡ t → keys' ≡ set keys n (wholeSecond t₁) → states' ≡ putSix states (6 * n) state →
+pub kept-in : (b b₁ : Bool) (t t₁ : Float) (state : State) (n : ℕ) (keys keys' : List ℤ) (states states' : List Float) → b₁ ≡ b → b₁ ≡ true → t₁ ≡ t → keys' ≡ set keys n (wholeSecond t₁)
+    → states' ≡ putSix states (6 * n) state →
     Kept b (wholeSecond t) state n (n + 1) keys keys' states states'
 kept-in b b₁ t t₁ state n keys keys' states states' eb e et ek es = subst (λ (x : Bool). Kept x (wholeSecond t) state n (n + 1) keys keys' states states') (sym e ∙ eb) (record {
   counted = refl;

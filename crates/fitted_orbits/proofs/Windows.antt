@@ -19,7 +19,7 @@ use Rattle.laws.specs.Tables.{row}
 use Rattle.laws.specs.Loops.{filledUp, filled-set, filled-none}
 use Rattle.finality.specs.Tables.{Table, keyOf}
 use Rattle.finality.specs.Arcs.{longest, start, steps, arcOf, inside}
-use Rattle.finality.proofs.Windows.{steps-short}
+use Rattle.finality.proofs.WindowTimes.{steps-short}
 use Rattle.vectors.specs.declared.Vector.{Vector}
 use Rattle.integrate.specs.Room.{Run}
 use Rattle.integrate.specs.declared.kernel.State.{State}
@@ -189,7 +189,8 @@ module _ (covered : Float → Bool) (full : Float → Vector → Vector) (look :
         j' = subst (λ (l : Table State). Joins l (done .states) n (o .keys) keys' (o .states) states') same j
 
     -- the same, from what the calls gave
-    pub fitted-adds-at : (N : ℕ) (s s₁ : List Float) (base : ℕ) (arc₁ : ArcStruct) (done : Done) (o : Outputs) (answer : Fitted) (x : Float) (n : ℕ) (keys' : List ℤ) (states' : List Float) (w : ℕ) (rms' : List Float) →
+    pub fitted-adds-at : (N : ℕ) (s s₁ : List Float) (base : ℕ) (arc₁ : ArcStruct) (done : Done) (o : Outputs) (answer : Fitted) (x : Float) (n : ℕ) (keys' : List ℤ) (states' : List Float) (w : ℕ)
+        (rms' : List Float) →
         answer ≡ Rms x → base ≡ frontSize N → arc₁ ≡ arcBetween a b → Fits covered full look arc s s₁ (frontSize N) answer →
         Joins (inside (arc₁ .t0) a b 0 (row (readRun s₁ base) (arc₁ .steps + 1))) (done .states) n (o .keys) keys' (o .states) states' → w ≡ done .windows + 1 → rms' ≡ set (o .rms) (done .windows) x →
         Adds (windowFit covered full look a b) 1 done (record { states = n; windows = w }) o (outputs keys' states' rms')
@@ -222,7 +223,8 @@ module _ (f : Float → Float → List Window) (nodes : List Float) where
   pub each-more : (w : ℕ) (d r : Done) (o o' o'' : Outputs) → w + 1 < length nodes → Adds (between f (take (w + 1) nodes)) w start-done d o o' →
       Adds (f (getD nodes w nan) (getD nodes (w + 1) nan)) 1 d r o' o'' → Adds (between f (take (w + 1 + 1) nodes)) (w + 1) start-done r o o''
   each-more w d r o o' o'' h x y =
-      subst (λ (l : List Window). Adds l (w + 1) start-done r o o'') (sym next) (adds-then (between f (take (w + 1) nodes)) (f (getD nodes w nan) (getD nodes (w + 1) nan)) w start-done d r o o' o'' x y)
+      subst (λ (l : List Window). Adds l (w + 1) start-done r o o'') (sym next)
+      (adds-then (between f (take (w + 1) nodes)) (f (getD nodes w nan) (getD nodes (w + 1) nan)) w start-done d r o o' o'' x y)
     where
       one : w + 1 ≡ suc w
       one = add-one w
@@ -236,13 +238,15 @@ module _ (f : Float → Float → List Window) (nodes : List Float) where
           ∙ between-more f nodes w (omega arith)
           ∙ ap (λ (m : ℕ). between f (take m nodes) ++ f (getD nodes w nan) (getD nodes m nan)) (sym one)
 
-  pub each-all : (w : ℕ) (r : Done) (o o' : Outputs) → w ≤ length nodes - 1 → length nodes ≤ w + 1 → Adds (between f (take (w + 1) nodes)) w start-done r o o' → Adds (between f nodes) (length nodes - 1) start-done r o o'
+  pub each-all : (w : ℕ) (r : Done) (o o' : Outputs) → w ≤ length nodes - 1 → length nodes ≤ w + 1 → Adds (between f (take (w + 1) nodes)) w start-done r o o'
+      → Adds (between f nodes) (length nodes - 1) start-done r o o'
   each-all w r o o' h l x =
       let e : w ≡ length nodes - 1 = omega arith in
       subst (λ (n : ℕ). Adds (between f nodes) n start-done r o o') e (subst (λ (y : List Float). Adds (between f y) w start-done r o o') (take-all (w + 1) nodes (omega arith)) x)
 
   -- room for the next window
-  pub each-room : (w : ℕ) (d : Done) (o o' : Outputs) → w + 1 < length nodes → length (o .keys) ≡ 3500 * (length nodes - 1) → length (o .states) ≡ 6 * (3500 * (length nodes - 1)) → length (o .rms) ≡ length nodes - 1 →
+  pub each-room : (w : ℕ) (d : Done) (o o' : Outputs) → w + 1 < length nodes → length (o .keys) ≡ 3500 * (length nodes - 1) → length (o .states) ≡ 6 * (3500 * (length nodes - 1))
+      → length (o .rms) ≡ length nodes - 1 →
       Adds (between f (take (w + 1) nodes)) w start-done d o o' → Room d o'
   each-room w d o o' h hk hs hr x =
       let a = x .states in
@@ -258,7 +262,8 @@ usable-still N keys states s s' e u = subst (λ (n : ℕ). Usable N keys states 
 
 -- ---- all windows, from empty outputs
 
-pub cleared-listed : (k : ℕ) (keys keys' : List ℤ) (states states' rms rms' : List Float) → keys' ≡ replicate (length keys) (pos 0) → states' ≡ replicate (length states) zero64 → rms' ≡ replicate (length rms) zero64 →
+pub cleared-listed : (k : ℕ) (keys keys' : List ℤ) (states states' rms rms' : List Float) → keys' ≡ replicate (length keys) (pos 0) → states' ≡ replicate (length states) zero64
+    → rms' ≡ replicate (length rms) zero64 →
     length keys ≡ 3500 * k → length states ≡ 6 * (3500 * k) → length rms ≡ k → outputs keys' states' rms' ≡ listed k []
 unfolding listed joined numbersOf
 cleared-listed k keys keys' states states' rms rms' ek es er lk ls lr = λ i. outputs

@@ -11,10 +11,11 @@ use lib.ListN.{length}
 use Rattle.laws.specs.Floats.{zero64}
 use Rattle.laws.specs.Checks.{all, isTime, rising, risingSeconds, degreeFine}
 use Rattle.laws.specs.Loops.{cleared, filledUp}
-use Rattle.inputs.specs.Inputs.{firstOf, fieldsFine, few, modelFits, wholeScratchFits, modelFine, keyedFine}
+use Rattle.inputs.specs.Inputs.{Model, firstOf, fieldsFine, few, modelSized, wholeScratchFits, modelFine, keyedFine, Keyed, keyed}
+use Rattle.vectors.specs.declared.Vector.{Vector}
 use Rattle.finality.specs.Tables.{keyOf}
 use Rattle.finality.specs.Brackets.{covers}
-use Rattle.integrate.specs.Force.{Model, fullForce}
+use Rattle.integrate.specs.Force.{fullForce}
 use Rattle.fit.specs.Fit.{stateFor}
 use Rattle.fitted_orbits.specs.declared.FittedOrbits.{FittedOrbits}
 use Rattle.fitted_orbits.specs.declared.FittedOrbits.the-variants.{Counted, Refused}
@@ -32,17 +33,14 @@ orbitsValues (Refused n) = none
 
 -- ---- the arguments
 
--- what the call is lent: the model with the Legendre tables a and b, the states by key, the nodes
+-- what the call is lent: the model, the states by key, the nodes
 pub record Given : Type 0 where
   pub model : Model
-  pub a : List Float
-  pub b : List Float
-  pub keys : List ℤ
-  pub states : List Float
+  pub states : Keyed
   pub nodes : List Float
 
-abbrev pub given : Model → List Float → List Float → List ℤ → List Float → List Float → Given
-given model a b keys states nodes = record { model = model; a = a; b = b; keys = keys; states = states; nodes = nodes }
+abbrev pub given : Model → List ℤ → List Float → List Float → Given
+given model keys states nodes = record { model = model; states = keyed keys states; nodes = nodes }
 
 -- its outputs
 pub record Outputs : Type 0 where
@@ -61,30 +59,34 @@ placesFit n keys states rms = leb n 64 && (eqb keys (3500 * (n - 1)) && (eqb sta
 
 abbrev pub lengthsFit : Given → Outputs → ℕ → Bool
 lengthsFit g o scratch =
-    (modelFits (g .model .degree) (length (g .model .times)) (length (g .model .field)) (length (g .model .added)) (length (g .a)) (length (g .b))
-    && eqb (length (g .states)) (6 * length (g .keys)))
+    (modelSized (g .model) && eqb (length (g .states .values)) (6 * length (g .states .keys)))
     && (placesFit (length (g .nodes)) (length (o .keys)) (length (o .states)) (length (o .rms))
-    && wholeScratchFits (g .model .degree) (length (g .model .times)) (length (g .nodes)) 0 scratch)
+    && wholeScratchFits (g .model .fixed .degree) (length (g .model .fields .fieldTimes)) (length (g .nodes)) 0 scratch)
 
 -- fit: whether all lengths do
 unfoldable pub refusal : Given → Bool → ℕ
 refusal g fit =
-    firstOf (degreeFine (g .model .degree))
-    ((fieldsFine (length (g .model .times)) && few (length (g .keys))) && leb (length (g .nodes)) 64)
+    firstOf (degreeFine (g .model .fixed .degree))
+    ((fieldsFine (length (g .model .fields .fieldTimes)) && few (length (g .states .keys))) && leb (length (g .nodes)) 64)
     fit
-    (modelFine (g .model .field) (g .a) (g .b) (g .model .times) (g .model .added) && (keyedFine (g .keys) (g .states) && all isTime (g .nodes)))
-    (rising (g .model .times) && (risingSeconds (g .keys) && rising (g .nodes)))
+    (modelFine (g .model) && (keyedFine (g .states .keys) (g .states .values) && all isTime (g .nodes)))
+    (rising (g .model .fields .fieldTimes) && (risingSeconds (g .states .keys) && rising (g .nodes))) 0
 
 -- ---- the work
 
+-- the windows fitted by a full attraction
+abbrev pub windowsBy : (Float → Vector → Vector) → Given → List Window
+windowsBy full g = orbitsOf (covers (g .model .fields .fieldTimes)) full (stateFor (g .states .keys) (g .states .values)) (g .nodes)
+
 unfoldable pub fittedWindows : Given → List Window
-fittedWindows g = orbitsOf (covers (g .model .times)) (fullForce (g .model) (g .a) (g .b)) (stateFor (g .keys) (g .states)) (g .nodes)
+fittedWindows g = windowsBy (fullForce (g .model)) g
 
 -- ---- what is left
 
 -- for k pairs of neighbouring nodes: the seconds of all states, their numbers, and the rms of each window, 0 and +0.0 after the last
 unfoldable pub listed : ℕ → List Window → Outputs
-listed k ws = outputs (filledUp (pos 0) (3500 * k) (map keyOf (joined ws))) (filledUp zero64 (6 * (3500 * k)) (numbersOf (joined ws))) (filledUp zero64 k (map (λ (w : Window). w .0) ws))
+listed k ws = outputs (filledUp (pos 0) (3500 * k) (map keyOf (joined ws))) (filledUp zero64 (6 * (3500 * k)) (numbersOf (joined ws)))
+    (filledUp zero64 k (map (λ (w : Window). w .0) ws))
 
 pub record Left : Type 0 where
   pub answer : FittedOrbits
@@ -104,6 +106,10 @@ abbrev pub settled : ℕ → ℕ → List Window → Outputs → List Float → 
 settled (suc n) k ws o scratch = left (Refused (suc n)) o scratch
 settled zero k ws o scratch = handed (all finite (listed k ws .states) && all finite (listed k ws .rms)) k ws scratch
 
+-- of windows that were fitted
+abbrev pub orbitsFrom : List Window → Given → Outputs → List Float → Left
+orbitsFrom windows g o scratch = settled (refusal g (lengthsFit g o (length scratch))) (length (g .nodes) - 1) windows o scratch
+
 -- `fitted_orbits`
 abbrev pub orbitsCall : Given → Outputs → List Float → Left
-orbitsCall g o scratch = settled (refusal g (lengthsFit g o (length scratch))) (length (g .nodes) - 1) (fittedWindows g) o scratch
+orbitsCall g o scratch = orbitsFrom (fittedWindows g) g o scratch

@@ -1,5 +1,5 @@
--- The fitted orbits of one satellite (document 01, module 4; the source's `fitted_orbits`): of the windows between neighbouring nodes those that are fitted, each with the rms of its
--- misfits and its states by second. The force and the states are functions of the time. Assumes nothing.
+-- The fitted orbits of one satellite (document 01, module 4; the source's `fitted_orbits`): of the windows between neighbouring nodes those that are fitted,
+-- each with the rms of its misfits and its states by second. The force and the states are functions of the time. Assumes nothing.
 use Prim.Native.Nat.{suc}
 use mathlib.Core.Bool.{Bool, cond}
 use mathlib.Core.List.{List, [], _∷_, _++_}
@@ -30,7 +30,8 @@ unlessRefused (Refused n) table = []
 unfoldable pub windowFit : (Float → Bool) → (Float → Vector → Vector) → (Float → Held) → Float → Float → List Window
 windowFit covered full look a b =
     cond (lt (b ⊖ a) longest)
-    (unlessRefused (fitOf covered full look (arcStruct (arcOf a b))) (inside (start a) a b 0 (row (orbitOf full look (arcStruct (arcOf a b))) (suc (steps a b)))))
+    (unlessRefused (fitOf covered full look (arcStruct (arcOf a b)))
+    (inside (start a) a b 0 (row (orbitOf full look (arcStruct (arcOf a b))) (suc (steps a b)))))
     []
 
 -- what stands between neighbouring nodes, end to end

@@ -24,7 +24,8 @@ use Rattle.fit.specs.Room.{workSize}
 -- six numbers stored from a place on
 unfoldable pub putSix : List Float → ℕ → State → List Float
 putSix o at s =
-    set (set (set (set (set (set o at (s .position .x)) (at + 1) (s .position .y)) (at + 2) (s .position .z)) (at + 3) (s .velocity .x)) (at + 4) (s .velocity .y)) (at + 5) (s .velocity .z)
+    set (set (set (set (set (set o at (s .position .x)) (at + 1) (s .position .y)) (at + 2) (s .position .z)) (at + 3) (s .velocity .x)) (at + 4)
+    (s .velocity .y)) (at + 5) (s .velocity .z)
 
 -- the states of a run as they stand in the lent numbers
 abbrev pub readRun : List Float → ℕ → Run

@@ -6,8 +6,7 @@ ghost use mathlib.Core.Bool.{_&&_};
 ghost use Prim.Native.Nat.{_-_, _*_};
 ghost use lib.Dec.{eqb};
 ghost use lib.ListN.{length};
-ghost use Rattle.inputs.specs.Inputs.{modelFits, wholeScratchFits};
-ghost use Rattle.integrate.specs.Force.{model};
+ghost use Rattle.inputs.specs.Inputs.{modelOf, modelSized, wholeScratchFits};
 ghost use Rattle.fitted_orbits.specs.Calls.{given, outputs, placesFit, refusal as refusalOf, left, orbitsCall};
 
 // How many states and how many windows were fitted, or the number of the refusal.
@@ -38,64 +37,56 @@ fn places_fit(n: usize, keys: usize, states: usize, rms: usize) -> bool
 }
 
 // Lengths of what is lent; places: whether those of the outputs fit.
-fn lengths_fit(
+fn lengths_fit<'a>(
     degree: usize,
-    field: &[f64],
-    a: &[f64],
-    b: &[f64],
-    times: &[f64],
-    added: &[f64],
+    model: inputs::Model<'a>,
     keys: &[i64],
     states: &[f64],
     nodes: usize,
     places: bool,
     scratch: usize,
 ) -> bool
-    ensures { λ r. ⌜ r ≡ (modelFits degree (length (now (times .entry))) (length (now (field .entry))) (length (now (added .entry))) (length (now (a .entry))) (length (now (b .entry))) && eqb (length (now (states .entry))) (6 * length (now (keys .entry)))) && (places && wholeScratchFits degree (length (now (times .entry))) nodes 0 scratch) ⌝ }
+    ensures { λ r. ⌜ r ≡ (modelSized (modelOf degree (model .entry)) && eqb (length (now (states .entry))) (6 * length (now (keys .entry)))) &&
+        (places && wholeScratchFits degree (length (modelOf degree (model .entry) .fields .fieldTimes)) nodes 0 scratch) ⌝ }
 {
+    let times = model[inputs::FIELD_TIMES];
     let fields = times.len();
-    let model = inputs::model_fits(degree, fields, field.len(), added.len(), a.len(), b.len());
+    let lists = inputs::model_sized(degree, model);
     let each = states.len() == 6 * keys.len();
     let room = inputs::whole_scratch_fits(degree, fields, nodes, 0, scratch);
-    slices::both(slices::both(model, each), slices::both(places, room))
+    slices::both(slices::both(lists, each), slices::both(places, room))
 }
 
 // fit: whether all lengths do.
-fn refusal(
+fn refusal<'a>(
     degree: usize,
-    field: &[f64],
-    a: &[f64],
-    b: &[f64],
-    times: &[f64],
-    added: &[f64],
+    model: inputs::Model<'a>,
     keys: &[i64],
     states: &[f64],
     nodes: &[f64],
     fit: bool,
 ) -> u8
-    ensures { λ r. ⌜ r ≡ refusalOf (given (model degree (now (field .entry)) (now (times .entry)) (now (added .entry))) (now (a .entry)) (now (b .entry)) (now (keys .entry)) (now (states .entry)) (now (nodes .entry))) fit ⌝ }
+    ensures { λ r. ⌜ r ≡ refusalOf (given (modelOf degree (model .entry)) (now (keys .entry)) (now (states .entry)) (now (nodes .entry))) fit ⌝ }
 {
+    let times = model[inputs::FIELD_TIMES];
     let few = slices::both(inputs::fields_fine(times.len()), keys.len() <= 200000);
     let counts = slices::both(few, nodes.len() <= 64);
     let values = slices::both(
-        inputs::model_fine(field, a, b, times, added),
+        inputs::model_fine(model),
         slices::both(inputs::keyed_fine(keys, states), slices::all_times(nodes)),
     );
     let order = slices::both(
         slices::rising(times),
         slices::both(slices::rising_keys(keys), slices::rising(nodes)),
     );
-    inputs::first_of(inputs::degree_fine(degree), counts, fit, values, order)
+    inputs::first_of(inputs::degree_fine(degree), counts, fit, values, order, 0)
 }
 
-// The dynamic orbits fitted between neighbouring nodes: the states inside each window with their seconds, and an rms a window, without the windows that are skipped.
-pub fn fitted_orbits(
+// The dynamic orbits fitted between neighbouring nodes: the states inside each window with their seconds, and an rms a window, without the windows that
+// are skipped.
+pub fn fitted_orbits<'a>(
     degree: usize,
-    field: &[f64],
-    a: &[f64],
-    b: &[f64],
-    times: &[f64],
-    added: &[f64],
+    model: inputs::Model<'a>,
     keys: &[i64],
     states: &[f64],
     nodes: &[f64],
@@ -104,33 +95,27 @@ pub fn fitted_orbits(
     rms: &mut [f64],
     scratch: &mut [f64],
 ) -> FittedOrbits
-    ensures { λ r. ⌜ left r (outputs (now (outkeys .exit)) (now (outstates .exit)) (now (rms .exit))) (now (scratch .exit)) ≡ orbitsCall (given (model degree (now (field .entry)) (now (times .entry)) (now (added .entry))) (now (a .entry)) (now (b .entry)) (now (keys .entry)) (now (states .entry)) (now (nodes .entry))) (outputs (now (outkeys .entry)) (now (outstates .entry)) (now (rms .entry))) (now (scratch .entry)) ⌝ }
+    ensures { λ r. ⌜ left r (outputs (now (outkeys .exit)) (now (outstates .exit)) (now (rms .exit))) (now (scratch .exit)) ≡ orbitsCall
+        (given (modelOf degree (model .entry)) (now (keys .entry)) (now (states .entry)) (now (nodes .entry)))
+        (outputs (now (outkeys .entry)) (now (outstates .entry)) (now (rms .entry))) (now (scratch .entry)) ⌝ }
 {
     let places = places_fit(nodes.len(), outkeys.len(), outstates.len(), rms.len());
     let fit = lengths_fit(
         degree,
-        field,
-        a,
-        b,
-        times,
-        added,
+        model,
         keys,
         states,
         nodes.len(),
         places,
         scratch.len(),
     );
-    let refused = refusal(degree, field, a, b, times, added, keys, states, nodes, fit);
+    let refused = refusal(degree, model, keys, states, nodes, fit);
     if refused != 0 {
         return FittedOrbits::Refused(refused);
     }
     let done = work::fill(
         degree,
-        field,
-        a,
-        b,
-        times,
-        added,
+        model,
         keys,
         states,
         nodes,

@@ -11,7 +11,8 @@ ghost use Rattle.numbers.specs.Seconds.{wholeSecond};
 ghost use Rattle.finality.specs.Arcs.{inside};
 ghost use Rattle.laws.specs.Tables.{row};
 ghost use Rattle.finality.specs.Brackets.{covers};
-ghost use Rattle.integrate.specs.Force.{model, fullForce};
+ghost use Rattle.inputs.specs.Inputs.{modelOf};
+ghost use Rattle.integrate.specs.Force.{fullForce};
 ghost use Rattle.integrate.specs.Room.{runSize, Run, stateIn};
 ghost use Rattle.fit.specs.Fit.{stateFor};
 ghost use Rattle.windows.specs.Slots.{within};
@@ -70,8 +71,10 @@ fn keep_step(
     outkeys: &mut [i64],
     outstates: &mut [f64],
 ) -> usize
-    requires { ⌜ (k ≤ 5302) × (base + runSize ≤ length (now s)) × (within from to (stepTime t0 k) ≡ true → n < length (now outkeys)) × (within from to (stepTime t0 k) ≡ true → 6 * n + 6 ≤ length (now outstates)) ⌝ }
-    ensures { λ r. ⌜ Kept (within from to (stepTime t0 k)) (wholeSecond (stepTime t0 k)) (stateIn (now (s .entry)) (base + 6 * k)) n r (now (outkeys .entry)) (now (outkeys .exit)) (now (outstates .entry)) (now (outstates .exit)) ⌝ }
+    requires { ⌜ (k ≤ 5302) × (base + runSize ≤ length (now s)) × (within from to (stepTime t0 k) ≡ true → n < length (now outkeys))
+        × (within from to (stepTime t0 k) ≡ true → 6 * n + 6 ≤ length (now outstates)) ⌝ }
+    ensures { λ r. ⌜ Kept (within from to (stepTime t0 k)) (wholeSecond (stepTime t0 k)) (stateIn (now (s .entry)) (base + 6 * k)) n r (now (outkeys .entry))
+        (now (outkeys .exit)) (now (outstates .entry)) (now (outstates .exit)) ⌝ }
 {
     let t = integrate::kernel::time(t0, k);
     if windows::kernel::within(from, to, t) {
@@ -94,8 +97,10 @@ fn keep(
     outkeys: &mut [i64],
     outstates: &mut [f64],
 ) -> usize
-    requires { ⌜ Time from × Time to × (steps ≤ 5302) × ((run : Run) → length (inside t0 from to 0 (row run (steps + 1))) ≤ 3500) × (base + runSize ≤ length (now s)) × (first + 3500 ≤ length (now outkeys)) × (6 * (first + 3500) ≤ length (now outstates)) ⌝ }
-    ensures { λ r. ⌜ Joins (inside t0 from to 0 (row (readRun (now (s .entry)) base) (steps + 1))) first r (now (outkeys .entry)) (now (outkeys .exit)) (now (outstates .entry)) (now (outstates .exit)) ⌝ }
+    requires { ⌜ Time from × Time to × (steps ≤ 5302) × ((run : Run) → length (inside t0 from to 0 (row run (steps + 1))) ≤ 3500)
+        × (base + runSize ≤ length (now s)) × (first + 3500 ≤ length (now outkeys)) × (6 * (first + 3500) ≤ length (now outstates)) ⌝ }
+    ensures { λ r. ⌜ Joins (inside t0 from to 0 (row (readRun (now (s .entry)) base) (steps + 1))) first r (now (outkeys .entry)) (now (outkeys .exit))
+        (now (outstates .entry)) (now (outstates .exit)) ⌝ }
 {
     let mut n = first;
     for k in 0..steps + 1 {
@@ -114,13 +119,9 @@ fn put_rms(x: f64, rms: &mut [f64], at: usize) -> usize
 }
 
 // The fit of a window shorter than 7,000 s: its states and its rms, unless it is refused.
-fn fit_between(
+fn fit_between<'a>(
     degree: usize,
-    field: &[f64],
-    a: &[f64],
-    b: &[f64],
-    times: &[f64],
-    added: &[f64],
+    model: inputs::Model<'a>,
     keys: &[i64],
     states: &[f64],
     from: f64,
@@ -131,12 +132,15 @@ fn fit_between(
     rms: &mut [f64],
     s: &mut [f64],
 ) -> Done
-    requires { ⌜ Usable degree (now keys) (length (now states)) (length (now s)) × Short from to × Room done (outputs (now outkeys) (now outstates) (now rms)) ⌝ }
-    ensures { λ r. ⌜ Adds (windowFit (covers (now (times .entry))) (fullForce (model degree (now (field .entry)) (now (times .entry)) (now (added .entry))) (now (a .entry)) (now (b .entry))) (stateFor (now (keys .entry)) (now (states .entry))) from to) 1 done r (outputs (now (outkeys .entry)) (now (outstates .entry)) (now (rms .entry))) (outputs (now (outkeys .exit)) (now (outstates .exit)) (now (rms .exit))) ⌝ }
+    requires { ⌜ Usable degree (now keys) (length (now states)) (length (now s)) × Short from to
+        × Room done (outputs (now outkeys) (now outstates) (now rms)) ⌝ }
+    ensures { λ r. ⌜ Adds (windowFit (covers (modelOf degree (model .entry) .fields .fieldTimes)) (fullForce (modelOf degree (model .entry)))
+        (stateFor (now (keys .entry)) (now (states .entry))) from to) 1 done r (outputs (now (outkeys .entry)) (now (outstates .entry)) (now (rms .entry)))
+        (outputs (now (outkeys .exit)) (now (outstates .exit)) (now (rms .exit))) ⌝ }
 {
     let arc = windows::kernel::arc_between(from, to);
     let base = inputs::front_size(degree);
-    let fitted = fit::kernel::fit_arc(degree, field, a, b, times, added, keys, states, arc, s);
+    let fitted = fit::kernel::fit_arc(degree, model, keys, states, arc, s);
     match fitted {
         fit::kernel::Fitted::Fitted(x) => {
             let n = keep(
@@ -161,13 +165,9 @@ fn fit_between(
 }
 
 // A window, skipped where it is 7,000 s or longer.
-fn window(
+fn window<'a>(
     degree: usize,
-    field: &[f64],
-    a: &[f64],
-    b: &[f64],
-    times: &[f64],
-    added: &[f64],
+    model: inputs::Model<'a>,
     keys: &[i64],
     states: &[f64],
     from: f64,
@@ -178,17 +178,16 @@ fn window(
     rms: &mut [f64],
     s: &mut [f64],
 ) -> Done
-    requires { ⌜ Usable degree (now keys) (length (now states)) (length (now s)) × Ends from to × Room done (outputs (now outkeys) (now outstates) (now rms)) ⌝ }
-    ensures { λ r. ⌜ Adds (windowFit (covers (now (times .entry))) (fullForce (model degree (now (field .entry)) (now (times .entry)) (now (added .entry))) (now (a .entry)) (now (b .entry))) (stateFor (now (keys .entry)) (now (states .entry))) from to) 1 done r (outputs (now (outkeys .entry)) (now (outstates .entry)) (now (rms .entry))) (outputs (now (outkeys .exit)) (now (outstates .exit)) (now (rms .exit))) ⌝ }
+    requires { ⌜ Usable degree (now keys) (length (now states)) (length (now s)) × Ends from to
+        × Room done (outputs (now outkeys) (now outstates) (now rms)) ⌝ }
+    ensures { λ r. ⌜ Adds (windowFit (covers (modelOf degree (model .entry) .fields .fieldTimes)) (fullForce (modelOf degree (model .entry)))
+        (stateFor (now (keys .entry)) (now (states .entry))) from to) 1 done r (outputs (now (outkeys .entry)) (now (outstates .entry)) (now (rms .entry)))
+        (outputs (now (outkeys .exit)) (now (outstates .exit)) (now (rms .exit))) ⌝ }
 {
     if to - from < 7000.0 {
         return fit_between(
             degree,
-            field,
-            a,
-            b,
-            times,
-            added,
+            model,
             keys,
             states,
             from,
@@ -204,13 +203,9 @@ fn window(
 }
 
 // The windows between neighbouring nodes.
-fn fit_each(
+fn fit_each<'a>(
     degree: usize,
-    field: &[f64],
-    a: &[f64],
-    b: &[f64],
-    times: &[f64],
-    added: &[f64],
+    model: inputs::Model<'a>,
     keys: &[i64],
     states: &[f64],
     nodes: &[f64],
@@ -219,8 +214,14 @@ fn fit_each(
     rms: &mut [f64],
     s: &mut [f64],
 ) -> Done
-    requires { ⌜ Usable degree (now keys) (length (now states)) (length (now s)) × ((w : ℕ) → w + 1 < length (now nodes) → Ends (getD (now nodes) w nan) (getD (now nodes) (w + 1) nan)) × (length (now outkeys) ≡ 3500 * (length (now nodes) - 1)) × (length (now outstates) ≡ 6 * (3500 * (length (now nodes) - 1))) × (length (now rms) ≡ length (now nodes) - 1) ⌝ }
-    ensures { λ r. ⌜ Adds (between (windowFit (covers (now (times .entry))) (fullForce (model degree (now (field .entry)) (now (times .entry)) (now (added .entry))) (now (a .entry)) (now (b .entry))) (stateFor (now (keys .entry)) (now (states .entry)))) (now (nodes .entry))) (length (now (nodes .entry)) - 1) (record { states = 0; windows = 0 }) r (outputs (now (outkeys .entry)) (now (outstates .entry)) (now (rms .entry))) (outputs (now (outkeys .exit)) (now (outstates .exit)) (now (rms .exit))) ⌝ }
+    requires { ⌜ Usable degree (now keys) (length (now states)) (length (now s))
+        × ((w : ℕ) → w + 1 < length (now nodes) → Ends (getD (now nodes) w nan) (getD (now nodes) (w + 1) nan))
+        × (length (now outkeys) ≡ 3500 * (length (now nodes) - 1)) × (length (now outstates) ≡ 6 * (3500 * (length (now nodes) - 1)))
+        × (length (now rms) ≡ length (now nodes) - 1) ⌝ }
+    ensures { λ r. ⌜ Adds (between (windowFit (covers (modelOf degree (model .entry) .fields .fieldTimes)) (fullForce (modelOf degree (model .entry)))
+        (stateFor (now (keys .entry)) (now (states .entry)))) (now (nodes .entry))) (length (now (nodes .entry)) - 1) (record { states = 0; windows = 0 }) r
+        (outputs (now (outkeys .entry)) (now (outstates .entry)) (now (rms .entry))) (outputs (now (outkeys .exit)) (now (outstates .exit)) (now (rms .exit)))
+        ⌝ }
 {
     let mut done = Done {
         states: 0,
@@ -231,11 +232,7 @@ fn fit_each(
         let next = w + 1;
         done = window(
             degree,
-            field,
-            a,
-            b,
-            times,
-            added,
+            model,
             keys,
             states,
             nodes[w],
@@ -253,7 +250,8 @@ fn fit_each(
 
 // 0 and +0.0 in every output.
 pub(crate) fn clear_outputs(outkeys: &mut [i64], outstates: &mut [f64], rms: &mut [f64])
-    ensures { λ _. ⌜ ((k : ℕ) → length (now (outkeys .entry)) ≡ 3500 * k → length (now (outstates .entry)) ≡ 6 * (3500 * k) → length (now (rms .entry)) ≡ k → outputs (now (outkeys .exit)) (now (outstates .exit)) (now (rms .exit)) ≡ listed k []) ⌝ }
+    ensures { λ _. ⌜ ((k : ℕ) → length (now (outkeys .entry)) ≡ 3500 * k → length (now (outstates .entry)) ≡ 6 * (3500 * k) → length (now (rms .entry)) ≡ k
+        → outputs (now (outkeys .exit)) (now (outstates .exit)) (now (rms .exit)) ≡ listed k []) ⌝ }
 {
     clear_keys(outkeys);
     slices::clear(outstates);
@@ -261,13 +259,9 @@ pub(crate) fn clear_outputs(outkeys: &mut [i64], outstates: &mut [f64], rms: &mu
 }
 
 // The fitted windows of all neighbouring nodes; 0 and +0.0 after the last.
-pub(crate) fn fill(
+pub(crate) fn fill<'a>(
     degree: usize,
-    field: &[f64],
-    a: &[f64],
-    b: &[f64],
-    times: &[f64],
-    added: &[f64],
+    model: inputs::Model<'a>,
     keys: &[i64],
     states: &[f64],
     nodes: &[f64],
@@ -276,17 +270,19 @@ pub(crate) fn fill(
     rms: &mut [f64],
     s: &mut [f64],
 ) -> Done
-    requires { ⌜ Usable degree (now keys) (length (now states)) (length (now s)) × ((w : ℕ) → w + 1 < length (now nodes) → Ends (getD (now nodes) w nan) (getD (now nodes) (w + 1) nan)) × (length (now outkeys) ≡ 3500 * (length (now nodes) - 1)) × (length (now outstates) ≡ 6 * (3500 * (length (now nodes) - 1))) × (length (now rms) ≡ length (now nodes) - 1) ⌝ }
-    ensures { λ r. ⌜ SoFar (length (now (nodes .entry)) - 1) (between (windowFit (covers (now (times .entry))) (fullForce (model degree (now (field .entry)) (now (times .entry)) (now (added .entry))) (now (a .entry)) (now (b .entry))) (stateFor (now (keys .entry)) (now (states .entry)))) (now (nodes .entry))) r (outputs (now (outkeys .exit)) (now (outstates .exit)) (now (rms .exit))) ⌝ }
+    requires { ⌜ Usable degree (now keys) (length (now states)) (length (now s))
+        × ((w : ℕ) → w + 1 < length (now nodes) → Ends (getD (now nodes) w nan) (getD (now nodes) (w + 1) nan))
+        × (length (now outkeys) ≡ 3500 * (length (now nodes) - 1)) × (length (now outstates) ≡ 6 * (3500 * (length (now nodes) - 1)))
+        × (length (now rms) ≡ length (now nodes) - 1) ⌝ }
+    ensures { λ r. ⌜ SoFar (length (now (nodes .entry)) - 1)
+        (between (windowFit (covers (modelOf degree (model .entry) .fields .fieldTimes)) (fullForce (modelOf degree (model .entry)))
+        (stateFor (now (keys .entry)) (now (states .entry)))) (now (nodes .entry))) r
+        (outputs (now (outkeys .exit)) (now (outstates .exit)) (now (rms .exit))) ⌝ }
 {
     clear_outputs(outkeys, outstates, rms);
     fit_each(
         degree,
-        field,
-        a,
-        b,
-        times,
-        added,
+        model,
         keys,
         states,
         nodes,

@@ -86,12 +86,14 @@ gravity-is N field a b w p q x g lf fits ep eq eg =
 
 -- ---- what is left behind
 
-pub gravity-refused : (N : ℕ) (field a b s : List Float) (x : Vector) (v : Bool) (n : ℕ) → v ≡ valuesFine field a b x → n ≡ gravityRefusal N (length field) (length a) (length b) (length s) v → (n ≡ 0 → ⊥) →
+pub gravity-refused : (N : ℕ) (field a b s : List Float) (x : Vector) (v : Bool) (n : ℕ) → v ≡ valuesFine field a b x → n ≡ gravityRefusal N (length field) (length a) (length b) (length s) v
+    → (n ≡ 0 → ⊥) →
     left (Refused n) [] s ≡ gravityCall N field a b x s
 gravity-refused N field a b s x v n ev e h =
     call-refused (answer true (gravityOfField N field a b x)) Refused [] [] s n _ 0 (e ∙ ap (gravityRefusal N (length field) (length a) (length b) (length s)) ev) h
 
-pub gravity-answered : (N : ℕ) (field a b s s' s'' : List Float) (x g : Vector) (r : Answer) (v : Bool) (n : ℕ) → v ≡ valuesFine field a b x → n ≡ gravityRefusal N (length field) (length a) (length b) (length s) v → n ≡ 0 →
+pub gravity-answered : (N : ℕ) (field a b s s' s'' : List Float) (x g : Vector) (r : Answer) (v : Bool) (n : ℕ) → v ≡ valuesFine field a b x
+    → n ≡ gravityRefusal N (length field) (length a) (length b) (length s) v → n ≡ 0 →
     g ≡ gravityOfField N field a b x → length s' ≡ length s → s'' ≡ cleared s' → r ≡ answer true g → left r [] s'' ≡ gravityCall N field a b x s
 gravity-answered N field a b s s' s'' x g r v n ev e z eg l es er =
     ap₂ (λ (u : Answer) (t : List Float). left u [] t) (er ∙ ap (answer true) eg) (es ∙ ap (λ (k : ℕ). replicate k zero64) l)

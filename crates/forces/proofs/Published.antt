@@ -1,20 +1,24 @@
 -- From tables to the published series: with the Legendre tables that `Legendre::new` fills, each gravity is `gravityOf` of its coefficients. Assumes nothing.
-use mathlib.Core.Path.{_≡_, sym, ap, ap₂, _∙_}
+use mathlib.Core.Path.{_≡_, refl, sym, ap, ap₂, _∙_}
+use mathlib.Core.Bool.{Bool, true, false, _&&_, false≢true}
 use mathlib.Core.List.{List, _++_, append-assoc}
 use Prim.Native.Nat.{ℕ, _+_, _*_, _-_, _≤_}
 use native.Mathlib.Omega.{arith}
+use borrow.Author.Tests.{leb-true, eqb-true}
+use lib.Dec.{leb, eqb}
 use lib.ListN.{length, take, drop, getD, length-append, length-drop}
 use lib.Seq.{take-at, drop-at}
 use lib.Ieee.{Float, nan}
-use Rattle.laws.specs.Tables.{rows, rows-length}
+use Rattle.laws.specs.Bools.{by, both-true}
+use Rattle.laws.specs.Tables.{rows}
 use Rattle.legendre.specs.Legendre.{aOf, bOf}
-use Rattle.legendre.specs.Field.{size, part, partialsBy}
+use Rattle.legendre.specs.Field.{size, part, partialsBy, partialsWith}
 use Rattle.legendre.proofs.Published.{IsPrepared, lent-published, prepared-partials, prepared-stays}
 use Rattle.solid_tide.specs.Gravity.{gradient, gravityOf}
 use Rattle.solid_tide.specs.Tide.{placeOf}
 use Rattle.solid_tide.specs.declared.kernel.Place.{Place}
 use Rattle.vectors.specs.declared.Vector.{Vector}
-use Rattle.forces.specs.Forces.{gravityBy, gravityWith}
+use Rattle.forces.specs.Forces.{gravityBy, tablesSized, gravityLent, gravityWith}
 use Rattle.forces.specs.Calls.{gravityOfField}
 
 -- the gravity by those tables is that of the published series
@@ -63,8 +67,25 @@ module _ (N : ℕ) (c s p : List Float) (lc : length c ≡ size N) (ls : length 
       (prepared-partials N gm radius a b ((c ++ s) ++ drop (2 * size N) p) (at .r) (at .lat) (at .lon) h la lb front-prepared
       ∙ ap₂ (λ (u v : List Float). partialsBy N gm radius a b u v (at .r) (at .lat) (at .lon)) front-cosines front-sines)
 
-  -- and with the tables of `Legendre::new` that of the published series
-  pub front-published : (gm radius : Float) (x : Vector) → N ≤ 180 →
-      gravityWith N gm radius (rows aOf (N + 1)) (rows bOf (N + 1)) ((c ++ s) ++ drop (2 * size N) p) x ≡ gravityOf N gm radius c s x
-  front-published gm radius x h =
-      front-gravity gm radius (rows aOf (N + 1)) (rows bOf (N + 1)) x h (rows-length aOf (N + 1)) (rows-length bOf (N + 1)) ∙ lent-gravity N gm radius c s x
+-- ---- tables of any length
+
+-- a fourth test changes nothing where one of three fails
+fourth : (a b c d : Bool) → (a && (b && c)) ≡ false → (a && (b && (c && d))) ≡ false
+fourth true true false d h = refl
+fourth true true true d h = absurd (false≢true (sym h))
+fourth true false c d h = refl
+fourth false b c d h = refl
+
+-- the kernel's gravity is that of c and s, by the same case
+pub front-lent : (N : ℕ) (c s p : List Float) → length c ≡ size N → length s ≡ size N → (N ≤ 180 → IsPrepared N p) → (gm radius : Float) (a b : List Float) (x : Vector) →
+    gravityWith N gm radius a b ((c ++ s) ++ drop (2 * size N) p) x ≡ gravityLent N gm radius a b c s x
+unfolding gravityWith partialsWith gravityLent
+front-lent N c s p lc ls prep gm radius a b x =
+    let w : List Float = (c ++ s) ++ drop (2 * size N) p in
+    by (tablesSized N a b)
+    (λ h.
+    let d = both-true (leb N 180) (eqb (length a) (size N) && eqb (length b) (size N)) h in
+    let e = both-true (eqb (length a) (size N)) (eqb (length b) (size N)) (d .1) in
+    let n : N ≤ 180 = leb-true N 180 (d .0) in
+    front-gravity N c s p lc ls (prep n) gm radius a b x n (eqb-true (length a) (size N) (e .0)) (eqb-true (length b) (size N) (e .1)) ∙ sym (simp h))
+    (λ h. simp (h, fourth (leb N 180) (eqb (length a) (size N)) (eqb (length b) (size N)) (leb (8 * size N) (length w)) h))

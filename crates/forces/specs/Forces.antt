@@ -1,7 +1,9 @@
 -- The forces of module 2, m/s², Earth-fixed. Assumes nothing: definitions only.
 use Prim.Native.Nat.{ℕ}
+use mathlib.Core.Bool.{Bool, cond, _&&_}
 use mathlib.Core.List.{List}
-use lib.ListN.{getD}
+use lib.Dec.{leb, eqb}
+use lib.ListN.{length, getD}
 use lib.Ieee.{Float, nan, binary64, neg}
 use Rattle.root.specs.Root.{sqrt}
 use Rattle.laws.specs.Floats.{_⊕_, _⊖_, _⊗_, _⊘_, zero64, one64}
@@ -12,17 +14,26 @@ use Rattle.vectors.specs.Vector.{plus, minus, times, inner, norm, cross}
 use Rattle.vectors.specs.declared.Vector.{Vector}
 use Rattle.numbers.specs.Constants.{decimal, earthGM, earthRadius, sunGM, moonGM, rotation, j2}
 use Rattle.sun_moon.specs.SunMoon.{sunMoon}
-use Rattle.legendre.specs.Field.{partialsWith, partialsBy}
+use Rattle.legendre.specs.Field.{size, nothing, partialsWith, partialsBy}
 use Rattle.solid_tide.specs.Tide.{placeOf, solidTide}
 use Rattle.solid_tide.specs.Gravity.{gradient, tideGravity}
 use Rattle.forces.specs.declared.kernel.Moment.{Moment}
 use Rattle.forces.specs.declared.kernel.Axes.{Axes}
 
--- the gravity at x from lent Legendre tables a and b: with those that `Legendre::new` fills, `gravityOf` of crate `solid_tide`, the published series (proofs/Published)
+-- the gravity at x from lent Legendre tables a and b: with those that `Legendre::new` fills, `gravityOf` of crate `solid_tide`, the published series
+-- (proofs/Published)
 unfoldable pub gravityBy : ℕ → Float → Float → List Float → List Float → List Float → List Float → Vector → Vector
 gravityBy N gm radius a b c s x = let at = placeOf x in gradient at (partialsBy N gm radius a b c s (at .r) (at .lat) (at .lon))
 
--- the same from tables as given: a, b, and a work slice with C and S at its front
+-- the tables are of degree N, at most 180
+abbrev pub tablesSized : ℕ → List Float → List Float → Bool
+tablesSized N a b = leb N 180 && (eqb (length a) (size N) && eqb (length b) (size N))
+
+-- the same for tables of any length: a potential of +0.0 where one is not of degree N
+unfoldable pub gravityLent : ℕ → Float → Float → List Float → List Float → List Float → List Float → Vector → Vector
+gravityLent N gm radius a b c s x = cond (tablesSized N a b) (gravityBy N gm radius a b c s x) (gradient (placeOf x) nothing)
+
+-- the kernel's form: tables a and b as given, and a work slice with C and S at its front
 unfoldable pub gravityWith : ℕ → Float → Float → List Float → List Float → List Float → Vector → Vector
 gravityWith N gm radius a b work x = let at = placeOf x in gradient at (partialsWith N gm radius a b work (at .r) (at .lat) (at .lon))
 
@@ -30,7 +41,7 @@ gravityWith N gm radius a b work x = let at = placeOf x in gradient at (partials
 unfoldable pub thirdBody : Vector → Vector → Float → Vector
 thirdBody x body gm =
     let d = minus body x in
-    minus (times d (gm ⊘ power (norm d) 3 one64)) (times body (gm ⊘ power (norm body) 3 one64))
+    minus (times d (gm ⊘ power (norm d) 3)) (times body (gm ⊘ power (norm body) 3))
 
 -- what the tides take from the time alone
 unfoldable pub momentOf : Float → Moment

@@ -4,7 +4,8 @@ use mathlib.Core.Logic.{_⊎_, ⊎-elim}
 use mathlib.Core.Bool.{Bool, true, false, not, _&&_}
 use mathlib.Core.List.{List, [], _∷_, _++_, append-assoc, append-nil}
 use Prim.Native.Nat.{ℕ, zero, suc, _+_, _-_, _*_, _/_, _%_, _^_, _<_, _≤_}
-use native.Mathlib.Nat.{le-refl, le-trans, mul-one, one-mul, mul-assoc, mul-le-mul-right, one-le-pow, pow-succ', pow-le-pow-right, le-div-iff-mul-le, mod-lt, div-add-mod', div-lt-iff-lt-mul, pow-zero, pow-suc, mod-eq-of-lt, add-zero, add-suc, suc-add, zero-add}
+use native.Mathlib.Nat.{le-refl, le-trans, mul-one, one-mul, mul-assoc, mul-le-mul-right, one-le-pow, pow-succ', pow-le-pow-right, le-div-iff-mul-le, mod-lt, div-add-mod', div-lt-iff-lt-mul}
+use native.Mathlib.Nat.{pow-zero, pow-suc, mod-eq-of-lt, add-zero, add-suc, suc-add, zero-add}
 use native.Mathlib.Omega.{arith}
 use borrow.Author.Tests.{ltb-true, lt-ltb, le-ltb, le-leb, eqb-true, eqb-false, not-true, ne-eqb}
 use lib.Dec.{ltb, eqb}

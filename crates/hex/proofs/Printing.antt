@@ -25,7 +25,8 @@ pub bytes-turn : (bytes out out₀ : List ℕ) (at k : ℕ) → length out ≡ l
 bytes-turn bytes out out₀ at k l r h inv =
     let s : at + (k + 1) ≡ at + k + 1 = omega arith in
     let t : take (k + 1) bytes ≡ take k bytes ++ (getD bytes k 0 ∷ []) = rw add-one (take-suc bytes k 0 h) in
-    rw s (take-set out (at + k) (getD bytes k 0) (omega arith) ∙ ap (λ (x : List ℕ). x ++ (getD bytes k 0 ∷ [])) inv ∙ append-assoc (take at out₀) (take k bytes) (getD bytes k 0 ∷ []) ∙ ap (λ (x : List ℕ). take at out₀ ++ x) (sym t))
+    rw s (take-set out (at + k) (getD bytes k 0) (omega arith) ∙ ap (λ (x : List ℕ). x ++ (getD bytes k 0 ∷ [])) inv ∙ append-assoc (take at out₀) (take k bytes) (getD bytes k 0 ∷ [])
+    ∙ ap (λ (x : List ℕ). take at out₀ ++ x) (sym t))
 
 pub bytes-done : (bytes out out₀ : List ℕ) (at k : ℕ) → length bytes ≤ k → k ≤ length bytes → take (at + k) out ≡ take at out₀ ++ take k bytes → Printed bytes out₀ at out (at + k)
 bytes-done bytes out out₀ at k h g inv = record {
@@ -86,5 +87,8 @@ unfolding refusedText
 refused-prints n o o1 o2 o3 a b r p q s =
     then (114 ∷ 101 ∷ 102 ∷ 117 ∷ 115 ∷ 101 ∷ 100 ∷ 32 ∷ []) (decimalOf n ++ lineFeed) o o1 o3 0 a r p (then (decimalOf n) lineFeed o1 o2 o3 a b r q s)
 
-pub printed-fits : (bytes before after : List ℕ) (r : ℕ) → Printed bytes before 0 after r → r ≤ length after
-printed-fits bytes before after r p = omega (arith, p .ends, simp length-append at (ap length (p .text)), length-take r after)
+-- where a text ends counts bytes of the list it is printed in
+pub printed-counts : (bytes before after : List ℕ) (r : ℕ) → Printed bytes before 0 after r → (r ≤ length after) × (r ≡ length (take r after))
+printed-counts bytes before after r p =
+    let h : r ≤ length after = omega (arith, p .ends, simp length-append at (ap length (p .text)), length-take r after) in
+    (h, sym (length-take-le r after h))

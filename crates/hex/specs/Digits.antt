@@ -1,4 +1,5 @@
--- Numbers as text (document 01, "The band-pass program": uppercase hexadecimal digits, the most significant first; counts in decimal). Bytes are ASCII. Assumes nothing.
+-- Numbers as text (document 01, "The band-pass program": uppercase hexadecimal digits, the most significant first; counts in decimal). Bytes are ASCII.
+-- Assumes nothing.
 use Prim.Native.Nat.{ℕ, zero, suc, _+_, _-_, _*_, _/_, _%_}
 use mathlib.Core.Path.{_≡_}
 use mathlib.Core.Bool.{Bool, true, false, cond, not, _&&_}

@@ -1,1 +1,2 @@
+-- The horizon's answer and the entries handed back.
 pub mod Horizon

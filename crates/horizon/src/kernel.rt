@@ -54,7 +54,8 @@ fn reached(
     fields: &[f64],
     observed: &[f64],
 ) -> bool
-    ensures { λ r. ⌜ r ≡ reachedBy (endsOf (now (cstates .entry)) (now (dstates .entry)) (now (caccs .entry)) (now (daccs .entry)) (now (fields .entry)) (now (observed .entry))) z ⌝ }
+    ensures { λ r. ⌜ r ≡ reachedBy (endsOf (now (cstates .entry)) (now (dstates .entry)) (now (caccs .entry)) (now (daccs .entry)) (now (fields .entry))
+        (now (observed .entry))) z ⌝ }
 {
     let far = reach(z);
     let other = other_reach(z);
@@ -79,7 +80,9 @@ pub fn horizon(
     fields: &[f64],
     observed: &[f64],
 ) -> HorizonNode
-    ensures { λ r. ⌜ r ≡ horizonAnswer (horizonOf (endsOf (now (cstates .entry)) (now (dstates .entry)) (now (caccs .entry)) (now (daccs .entry)) (now (fields .entry)) (now (observed .entry))) (now (nodes .entry))) ⌝ }
+    ensures { λ r. ⌜ r ≡ horizonAnswer (horizonOf
+        (endsOf (now (cstates .entry)) (now (dstates .entry)) (now (caccs .entry)) (now (daccs .entry)) (now (fields .entry)) (now (observed .entry)))
+        (now (nodes .entry))) ⌝ }
 {
     let mut i = nodes.len();
     while 0 < i {

@@ -8,28 +8,31 @@ use native.Mathlib.Omega.{arith}
 use lib.Dec.{leb, eqb}
 use lib.IntN.{ℤ}
 use lib.Ieee.{Float}
+use lib.ListN.{length}
 use borrow.Author.Tests.{leb-true, le-leb, lt-leb, eqb-true}
 use Rattle.laws.specs.Checks.{rising, risingSeconds, degreeFine}
 use Rattle.laws.specs.Bools.{both-true}
 use Rattle.slices.proofs.Calls.{cond-passes}
-use Rattle.inputs.specs.Inputs.{windowRoom, fitRoom, kind, fieldSize, few, firstOf, countsFine, modelFits, statesFit, leastScratch, scratchFits, lengthsFit, wholeScratchFits, rise}
+use Rattle.inputs.specs.Inputs.{Model, sizesFit, windowRoom, fitRoom, kind, fieldSize, few, firstOf, countsFine, modelFits, statesFit, leastScratch, scratchFits, lengthsFit, wholeScratchFits}
+use Rattle.inputs.specs.Inputs.{rise}
 
--- all of five tests
-pub record AllPass (d k n v o : Bool) : Type 0 where
+-- all of five tests, and the rest
+pub record AllPass (d k n v o : Bool) (r : ℕ) : Type 0 where
   pub degree : d ≡ true
   pub counts : k ≡ true
   pub lengths : n ≡ true
   pub values : v ≡ true
   pub order : o ≡ true
+  pub rest : r ≡ 0
 
-pub all-pass : (d k n v o : Bool) → firstOf d k n v o ≡ 0 → AllPass d k n v o
-all-pass d k n v o h =
+pub all-pass : (d k n v o : Bool) (r : ℕ) → firstOf d k n v o r ≡ 0 → AllPass d k n v o r
+all-pass d k n v o r h =
     let a = cond-passes d _ 0 h in
     let b = cond-passes k _ 1 (a .1) in
     let e = cond-passes n _ 2 (b .1) in
     let f = cond-passes v _ 3 (e .1) in
     let g = cond-passes o _ 4 (f .1) in
-    record { degree = a .0; counts = b .0; lengths = e .0; values = f .0; order = g .0 }
+    record { degree = a .0; counts = b .0; lengths = e .0; values = f .0; order = g .0; rest = g .1 }
 
 pub degree-passes : (N : ℕ) → degreeFine N ≡ true → N ≤ 180
 degree-passes N h = leb-true N 180 (both-true (leb 2 N) (leb N 180) h .1)
@@ -115,6 +118,19 @@ unfolding lengthsFit
 lengths-room N fields field added a b scratch h =
     omega (arith, scratch-passes N fields 0 scratch (both-true (modelFits N fields field added a b) (scratchFits N fields 0 scratch) h .1))
 
+pub sizes-room : (M : Model) (scratch : ℕ) → sizesFit M scratch ≡ true → 8 * kind (M .fixed .degree) + fitRoom ≤ scratch
+sizes-room M scratch h = lengths-room (M .fixed .degree) _ _ _ _ _ scratch h
+
+-- the lengths of a model's lists
+pub record Sized (M : Model) : Type 0 where
+  pub static : length (M .fixed .static) ≡ fieldSize (M .fixed .degree)
+  pub added : length (M .fields .added) ≡ length (M .fields .fieldTimes) * fieldSize (M .fixed .degree)
+  pub a : length (M .fixed .a) ≡ kind (M .fixed .degree)
+  pub b : length (M .fixed .b) ≡ kind (M .fixed .degree)
+
+pub sizes-pass : (M : Model) (scratch : ℕ) → sizesFit M scratch ≡ true → Sized M
+sizes-pass M scratch h = let l = lengths-pass (M .fixed .degree) _ _ _ _ _ scratch h in record { static = l .static; added = l .added; a = l .a; b = l .b }
+
 -- ---- one way through each test
 
 pub product-small : (a b : ℕ) → a ≤ 32 → b ≤ 32944 → a * b ≤ 1054208
@@ -129,7 +145,8 @@ module _ (N fields field added a b : ℕ) where
   unfolding modelFits
   model-count h k = rw (le-leb N 180 h, lt-leb fields 32 k)
 
-  pub model-within : (r : Bool) → N ≤ 180 → fields ≤ 32 → r ≡ ((eqb field (fieldSize N) && eqb added (fields * fieldSize N)) && (eqb a (kind N) && eqb b (kind N))) → r ≡ modelFits N fields field added a b
+  pub model-within : (r : Bool) → N ≤ 180 → fields ≤ 32 → r ≡ ((eqb field (fieldSize N) && eqb added (fields * fieldSize N)) && (eqb a (kind N) && eqb b (kind N)))
+      → r ≡ modelFits N fields field added a b
   unfolding modelFits
   model-within r h k e = rw (le-leb N 180 h, le-leb fields 32 k) e
 
@@ -175,6 +192,7 @@ module _ (N fields nodes count scratch : ℕ) where
   unfolding wholeScratchFits
   whole-count h k n l = rw (le-leb N 180 h, le-leb fields 32 k, le-leb nodes 64 n, lt-leb count 100000 l)
 
-  pub whole-within : (r : ℕ) → N ≤ 180 → fields ≤ 32 → nodes ≤ 64 → count ≤ 100000 → r ≡ leastScratch N fields count + windowRoom * (nodes - 1) → leb r scratch ≡ wholeScratchFits N fields nodes count scratch
+  pub whole-within : (r : ℕ) → N ≤ 180 → fields ≤ 32 → nodes ≤ 64 → count ≤ 100000 → r ≡ leastScratch N fields count + windowRoom * (nodes - 1)
+      → leb r scratch ≡ wholeScratchFits N fields nodes count scratch
   unfolding wholeScratchFits
   whole-within r h k n l e = rw (le-leb N 180 h, le-leb fields 32 k, le-leb nodes 64 n, le-leb count 100000 l) (ap (λ (i : ℕ). leb i scratch) e)

@@ -1,12 +1,38 @@
 // Tests of the lists that the calls of modules 3 to 5 and the whole path are lent.
 ghost use mathlib.Core.Path.{_≡_};
 ghost use mathlib.Core.Bool.{_&&_};
-ghost use Prim.Native.Nat.{_+_, _-_, _*_, _≤_, _<_};
+ghost use Prim.Native.Nat.{ℕ, _+_, _-_, _*_, _≤_, _<_};
 ghost use lib.ListN.{length};
 ghost use lib.Dec.{leb, eqb};
 ghost use Rattle.laws.specs.Checks.{degreeFine};
-ghost use Rattle.inputs.specs.Inputs.{windowRoom, kind, fieldSize, firstOf, fieldsFine, countsFine, modelFits, statesFit, tablesFit, frontSize, leastScratch, scratchFits, lengthsFit, wholeScratchFits, modelFine, keyedFine, rise as riseOf};
+ghost use Rattle.inputs.specs.Inputs.{lentList, modelOf, pairOf, inputs, inputsFit, inputsFine, pairFine, modelSized, sizesFit, windowRoom, kind};
+ghost use Rattle.inputs.specs.Inputs.{fieldSize, firstOf, fieldsFine, countsFine, modelFits, statesFit, tablesFit, frontSize, leastScratch};
+ghost use Rattle.inputs.specs.Inputs.{scratchFits, lengthsFit, wholeScratchFits, modelFine, keyedFine, rise};
 use slices;
+
+// A time-variable model: static field, Legendre tables a and b, times of the added fields, these end to end.
+pub type Model<'a> = [&'a [f64]; 5];
+
+// The places of its lists.
+pub const STATIC: usize = 0;
+
+pub const TABLE_A: usize = 1;
+
+pub const TABLE_B: usize = 2;
+
+pub const FIELD_TIMES: usize = 3;
+
+pub const ADDED: usize = 4;
+
+// The keys of the satellites C and D, which are whole seconds, and the numbers that belong to them.
+pub type Keys<'a> = [&'a [i64]; 2];
+
+pub type Rows<'a> = [&'a [f64]; 2];
+
+// The places of their lists.
+pub const C: usize = 0;
+
+pub const D: usize = 1;
 
 // The numbers of one fit's work.
 pub const FIT_ROOM: usize = 150_000;
@@ -31,11 +57,18 @@ pub fn degree_fine(degree: usize) -> bool
     slices::both(2 <= degree, degree <= 180)
 }
 
-// The number of the first test that fails.
-pub fn first_of(degree: bool, counts: bool, lengths: bool, values: bool, order: bool) -> u8
-    ensures { λ r. ⌜ r ≡ firstOf degree counts lengths values order ⌝ }
+// The number of the first test that fails; `rest` is that of the tests behind these.
+pub fn first_of(
+    degree: bool,
+    counts: bool,
+    lengths: bool,
+    values: bool,
+    order: bool,
+    rest: u8,
+) -> u8
+    ensures { λ r. ⌜ r ≡ firstOf degree counts lengths values order rest ⌝ }
 {
-    let last = slices::unless(values, 4, slices::unless(order, 5, 0));
+    let last = slices::unless(values, 4, slices::unless(order, 5, rest));
     slices::unless(
         degree,
         1,
@@ -110,6 +143,25 @@ pub fn model_fits(
     model_lengths(degree, fields, field, added, a, b)
 }
 
+// The same of a model that is lent.
+pub fn model_sized<'a>(degree: usize, model: Model<'a>) -> bool
+    ensures { λ r. ⌜ r ≡ modelSized (modelOf degree (model .entry)) ⌝ }
+{
+    let field = model[STATIC];
+    let a = model[TABLE_A];
+    let b = model[TABLE_B];
+    let times = model[FIELD_TIMES];
+    let added = model[ADDED];
+    model_fits(
+        degree,
+        times.len(),
+        field.len(),
+        added.len(),
+        a.len(),
+        b.len(),
+    )
+}
+
 // Six numbers for each of n states.
 pub fn states_fit(n: usize, values: usize) -> bool
     ensures { λ r. ⌜ r ≡ statesFit n values ⌝ }
@@ -140,43 +192,36 @@ pub fn tables_fit(
 }
 
 // Lengths of the model and of both satellites' states and accelerometer values.
-pub fn lists_fit(
+pub fn inputs_fit<'a>(
     degree: usize,
-    field: &[f64],
-    a: &[f64],
-    b: &[f64],
-    times: &[f64],
-    added: &[f64],
-    ckeys: &[i64],
-    cstates: &[f64],
-    dkeys: &[i64],
-    dstates: &[f64],
-    cacckeys: &[i64],
-    caccs: &[f64],
-    dacckeys: &[i64],
-    daccs: &[f64],
+    model: Model<'a>,
+    keys: Keys<'a>,
+    states: Rows<'a>,
+    acckeys: Keys<'a>,
+    accs: Rows<'a>,
 ) -> bool
-    ensures { λ r. ⌜ r ≡ modelFits degree (length (now (times .entry))) (length (now (field .entry))) (length (now (added .entry))) (length (now (a .entry))) (length (now (b .entry))) && tablesFit (length (now (ckeys .entry))) (length (now (cstates .entry))) (length (now (dkeys .entry))) (length (now (dstates .entry))) (length (now (cacckeys .entry))) (length (now (caccs .entry))) (length (now (dacckeys .entry))) (length (now (daccs .entry))) ⌝ }
+    ensures { λ r. ⌜ r ≡ inputsFit (inputs (modelOf degree (model .entry)) (pairOf (keys .entry) (states .entry)) (pairOf (acckeys .entry) (accs .entry))) ⌝ }
 {
-    let model = model_fits(
-        degree,
-        times.len(),
-        field.len(),
-        added.len(),
-        a.len(),
-        b.len(),
-    );
+    let lists = model_sized(degree, model);
+    let c = keys[C];
+    let cstates = states[C];
+    let d = keys[D];
+    let dstates = states[D];
+    let cacc = acckeys[C];
+    let caccs = accs[C];
+    let dacc = acckeys[D];
+    let daccs = accs[D];
     let tables = tables_fit(
-        ckeys.len(),
+        c.len(),
         cstates.len(),
-        dkeys.len(),
+        d.len(),
         dstates.len(),
-        cacckeys.len(),
+        cacc.len(),
         caccs.len(),
-        dacckeys.len(),
+        dacc.len(),
         daccs.len(),
     );
-    slices::both(model, tables)
+    slices::both(lists, tables)
 }
 
 fn least_scratch(degree: usize, fields: usize, count: usize) -> usize
@@ -218,6 +263,26 @@ pub fn lengths_fit(
     slices::both(model, scratch_fits(degree, fields, 0, scratch))
 }
 
+// The same of a model that is lent.
+pub fn sizes_fit<'a>(degree: usize, model: Model<'a>, scratch: usize) -> bool
+    ensures { λ r. ⌜ r ≡ sizesFit (modelOf degree (model .entry)) scratch ⌝ }
+{
+    let field = model[STATIC];
+    let a = model[TABLE_A];
+    let b = model[TABLE_B];
+    let times = model[FIELD_TIMES];
+    let added = model[ADDED];
+    lengths_fit(
+        degree,
+        times.len(),
+        field.len(),
+        added.len(),
+        a.len(),
+        b.len(),
+        scratch,
+    )
+}
+
 fn whole_scratch(degree: usize, fields: usize, nodes: usize, count: usize) -> usize
     requires { ⌜ (degree ≤ 180) × (fields ≤ 32) × (nodes ≤ 64) × (count ≤ 100000) ⌝ }
     ensures { λ r. ⌜ r ≡ leastScratch degree fields count + windowRoom * (nodes - 1) ⌝ }
@@ -254,13 +319,22 @@ pub fn whole_scratch_fits(
     whole_scratch(degree, fields, nodes, count) <= scratch
 }
 
-// The model's numbers and times.
-pub fn model_fine(field: &[f64], a: &[f64], b: &[f64], times: &[f64], added: &[f64]) -> bool
-    ensures { λ r. ⌜ r ≡ modelFine (now (field .entry)) (now (a .entry)) (now (b .entry)) (now (times .entry)) (now (added .entry)) ⌝ }
+// The model's numbers and times, whatever its degree.
+pub fn model_fine<'a>(model: Model<'a>) -> bool
+    ensures { λ r. ⌜ ((N : ℕ) → r ≡ modelFine (modelOf N (model .entry))) ⌝ }
 {
-    let fields = slices::both(slices::all_finite(field), slices::all_finite(added));
-    let tables = slices::both(slices::all_finite(a), slices::all_finite(b));
-    slices::both(fields, slices::both(slices::all_times(times), tables))
+    let fields = slices::both(
+        slices::all_finite(model[STATIC]),
+        slices::all_finite(model[ADDED]),
+    );
+    let tables = slices::both(
+        slices::all_finite(model[TABLE_A]),
+        slices::all_finite(model[TABLE_B]),
+    );
+    slices::both(
+        fields,
+        slices::both(slices::all_times(model[FIELD_TIMES]), tables),
+    )
 }
 
 pub fn keyed_fine(keys: &[i64], values: &[f64]) -> bool
@@ -269,29 +343,53 @@ pub fn keyed_fine(keys: &[i64], values: &[f64]) -> bool
     slices::both(slices::all_keys(keys), slices::all_finite(values))
 }
 
-// Both satellites' states and accelerometer values.
-pub fn rows_fine(
-    ckeys: &[i64],
-    cstates: &[f64],
-    dkeys: &[i64],
-    dstates: &[f64],
-    cacckeys: &[i64],
-    caccs: &[f64],
-    dacckeys: &[i64],
-    daccs: &[f64],
-) -> bool
-    ensures { λ r. ⌜ r ≡ (keyedFine (now (ckeys .entry)) (now (cstates .entry)) && keyedFine (now (dkeys .entry)) (now (dstates .entry))) && (keyedFine (now (cacckeys .entry)) (now (caccs .entry)) && keyedFine (now (dacckeys .entry)) (now (daccs .entry))) ⌝ }
+// The keys of both satellites and what belongs to them.
+pub fn pair_fine<'a>(keys: Keys<'a>, rows: Rows<'a>) -> bool
+    ensures { λ r. ⌜ r ≡ pairFine (pairOf (keys .entry) (rows .entry)) ⌝ }
 {
-    let states = slices::both(keyed_fine(ckeys, cstates), keyed_fine(dkeys, dstates));
-    let accs = slices::both(keyed_fine(cacckeys, caccs), keyed_fine(dacckeys, daccs));
-    slices::both(states, accs)
+    slices::both(keyed_fine(keys[C], rows[C]), keyed_fine(keys[D], rows[D]))
 }
 
-// The field times and the keys of C and D.
-pub fn rise(times: &[f64], c: &[i64], d: &[i64], cacc: &[i64], dacc: &[i64]) -> bool
-    ensures { λ r. ⌜ r ≡ riseOf (now (times .entry)) (now (c .entry)) (now (d .entry)) (now (cacc .entry)) (now (dacc .entry)) ⌝ }
+// Numbers and times of all, whatever the degree.
+pub fn inputs_fine<'a>(
+    model: Model<'a>,
+    keys: Keys<'a>,
+    states: Rows<'a>,
+    acckeys: Keys<'a>,
+    accs: Rows<'a>,
+) -> bool
+    ensures { λ r. ⌜ ((N : ℕ) → r ≡ inputsFine
+        (inputs (modelOf N (model .entry)) (pairOf (keys .entry) (states .entry)) (pairOf (acckeys .entry) (accs .entry)))) ⌝ }
 {
-    let states = slices::both(slices::rising_keys(c), slices::rising_keys(d));
-    let accs = slices::both(slices::rising_keys(cacc), slices::rising_keys(dacc));
-    slices::both(slices::rising(times), slices::both(states, accs))
+    let rows = slices::both(pair_fine(keys, states), pair_fine(acckeys, accs));
+    slices::both(model_fine(model), rows)
+}
+
+// How many fields, states and accelerometer values there are.
+pub fn inputs_counted<'a>(model: Model<'a>, keys: Keys<'a>, acckeys: Keys<'a>) -> bool
+    ensures { λ r. ⌜ r ≡ countsFine (length (lentList (model .entry) 3)) (length (lentList (keys .entry) 0)) (length (lentList (keys .entry) 1))
+        (length (lentList (acckeys .entry) 0)) (length (lentList (acckeys .entry) 1)) ⌝ }
+{
+    let times = model[FIELD_TIMES];
+    let c = keys[C];
+    let d = keys[D];
+    let cacc = acckeys[C];
+    let dacc = acckeys[D];
+    counts_fine(times.len(), c.len(), d.len(), cacc.len(), dacc.len())
+}
+
+// The field times and the keys of both satellites.
+pub fn inputs_rise<'a>(model: Model<'a>, keys: Keys<'a>, acckeys: Keys<'a>) -> bool
+    ensures { λ r. ⌜ r ≡ rise (lentList (model .entry) 3) (lentList (keys .entry) 0) (lentList (keys .entry) 1) (lentList (acckeys .entry) 0)
+        (lentList (acckeys .entry) 1) ⌝ }
+{
+    let states = slices::both(slices::rising_keys(keys[C]), slices::rising_keys(keys[D]));
+    let accs = slices::both(
+        slices::rising_keys(acckeys[C]),
+        slices::rising_keys(acckeys[D]),
+    );
+    slices::both(
+        slices::rising(model[FIELD_TIMES]),
+        slices::both(states, accs),
+    )
 }

@@ -4,7 +4,8 @@ use lib.Ieee.{add, sub, mul, div, neg, lt, le, eq, ofBits, ofInt, isNan, toBits,
 use Rattle.laws.specs.WholeNumbers.{number}
 use Rattle.laws.specs.Times.{end}
 use Rattle.root.specs.Root.{sqrt, rootOfUnits, isqrt, digits}
-use Rattle.numbers.specs.Numbers.{magnitude, power, powerIn, horner, hornerFrom, alternating, factorial, sines, cosines, odds, near, rounded, quarter, sineNear, cosineNear, rest, sineAt, cosineAt, sine, cosine, angleNear, angle, eighth, left, below, arctangent}
+use Rattle.numbers.specs.Numbers.{magnitude, carriedIn, carried, horner, hornerFrom, alternating, factorial, sines, cosines, odds, near, rounded, quarter, sineNear, cosineNear, rest}
+use Rattle.numbers.specs.Numbers.{sineAt, cosineAt, sine, cosine, angleNear, angle, eighth, left, below, arctangent}
 use Rattle.model.specs.Model.{bracket, weight}
 use Rattle.finality.specs.Brackets.{covers}
 use Rattle.fields.proofs.Instances.{index-2-1, index-180-180}
@@ -22,11 +23,12 @@ unfolding sqrt rootOfUnits isqrt digits size units number ofInt ofBits toBits
 roots-hold = (tt, (tt, (tt, tt)))
 
 angles-hold : Every angles
-unfolding near horner hornerFrom alternating factorial sines cosines odds magnitude rounded quarter sineNear cosineNear rest sineAt cosineAt sine cosine angleNear angle eighth left below arctangent number add sub mul div neg lt le eq ofBits ofInt isNan toBits
+unfolding near horner hornerFrom alternating factorial sines cosines odds magnitude rounded quarter sineNear cosineNear rest sineAt cosineAt sine cosine angleNear angle eighth left below arctangent
+    number add sub mul div neg lt le eq ofBits ofInt isNan toBits
 angles-hold = (tt, (tt, (tt, (tt, tt))))
 
 powers-hold : Every powers
-unfolding power powerIn number mul ofBits ofInt toBits
+unfolding carried carriedIn number mul ofBits ofInt toBits
 powers-hold = (tt, (index-2-1, (index-180-180, tt)))
 
 brackets-hold : Every brackets

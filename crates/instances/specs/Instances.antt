@@ -21,9 +21,8 @@ use Rattle.model.specs.Model.{bracket, weight}
 use Rattle.filter.specs.Filter.{pass}
 use Rattle.least_squares.specs.Calls.{leastSquaresCall}
 use Rattle.finality.specs.Brackets.{covers}
-use Rattle.finality.specs.Kernels.{stagesOf}
 use Rattle.finality.specs.Sheet.{Submission, horizon}
-use Rattle.finality.specs.Toy.{toy}
+use Rattle.finality.specs.Toy.{toyStages}
 
 -- a double has these bits; a whole number is this one; a test passes; a statement holds that a module proves
 pub data Instance : Type 1 where
@@ -62,7 +61,7 @@ angles =
 -- 2 to the 10th: 1,024; index (2, 1) is 4, (180, 180) is 16,470
 abbrev pub powers : List Instance
 powers =
-    gives (power (number 2) 10 one64) 0x4090_0000_0000_0000
+    gives (power (number 2) 10) 0x4090_0000_0000_0000
     ∷ states (indexOf 2 1 ≡ At 4)
     ∷ states (indexOf 180 180 ≡ At 16470)
     ∷ []
@@ -91,12 +90,14 @@ filtered =
 -- least squares of rows 1, 1 on 2, 4: 3, with the residuals −1 and 1; a zero column: refused 9
 abbrev pub solutions : List Instance
 solutions =
-    states (leastSquaresCall (one64 ∷ one64 ∷ []) (two64 ∷ bits 0x4010000000000000 ∷ []) 1 (zero64 ∷ []) (zero64 ∷ zero64 ∷ []) ≡ left Accepted ((bits 0x4008000000000000 ∷ []) ∷ (bits 0xbff0000000000000 ∷ one64 ∷ []) ∷ []) [])
-    ∷ states (leastSquaresCall (zero64 ∷ zero64 ∷ []) (two64 ∷ bits 0x4010000000000000 ∷ []) 1 (one64 ∷ []) (one64 ∷ one64 ∷ []) ≡ left (Refused 9) ((zero64 ∷ []) ∷ (zero64 ∷ zero64 ∷ []) ∷ []) [])
+    states (leastSquaresCall (one64 ∷ one64 ∷ []) (two64 ∷ bits 0x4010000000000000 ∷ []) 1 (zero64 ∷ []) (zero64 ∷ zero64 ∷ [])
+    ≡ left Accepted ((bits 0x4008000000000000 ∷ []) ∷ (bits 0xbff0000000000000 ∷ one64 ∷ []) ∷ []) [])
+    ∷ states (leastSquaresCall (zero64 ∷ zero64 ∷ []) (two64 ∷ bits 0x4010000000000000 ∷ []) 1 (one64 ∷ []) (one64 ∷ one64 ∷ [])
+    ≡ left (Refused 9) ((zero64 ∷ []) ∷ (zero64 ∷ zero64 ∷ []) ∷ []) [])
     ∷ []
 
 -- nodes 10000 and 15000, and every other list ends at second k, as a time t; of the toy's stages, since a horizon looks at times alone
-abbrev pub ending : ℕ → Float → Submission (stagesOf toy)
+abbrev pub ending : ℕ → Float → Submission toyStages
 ending k t =
     record {
       fields = (t, t) ∷ [];
@@ -111,8 +112,8 @@ ending k t =
 -- all last times 16804 give z = 15000, all 16803 give 10000
 abbrev pub horizons : List Instance
 horizons =
-    states (horizon (stagesOf toy) (ending 16804 (bits 0x40d0690000000000)) ≡ some (bits 0x40cd4c0000000000))
-    ∷ states (horizon (stagesOf toy) (ending 16803 (bits 0x40d068c000000000)) ≡ some (bits 0x40c3880000000000))
+    states (horizon toyStages (ending 16804 (bits 0x40d0690000000000)) ≡ some (bits 0x40cd4c0000000000))
+    ∷ states (horizon toyStages (ending 16803 (bits 0x40d068c000000000)) ≡ some (bits 0x40c3880000000000))
     ∷ []
 
 abbrev pub instances : List Instance

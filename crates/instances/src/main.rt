@@ -1,4 +1,5 @@
-// What the compiled code gives at document 01's instances, a word a line in the order of the list; the expected output has the document's bits. The last two lines are counts.
+// What the compiled code gives at document 01's instances, a word a line in the order of the list; the expected output has the document's bits. The last
+// two lines are counts.
 ghost use mathlib.Core.Path.{_≡_};
 ghost use Prim.Native.Nat.{_+_, _≤_};
 ghost use lib.ListN.{length};
@@ -71,6 +72,6 @@ fn epochs() {
 fn main() {
     roots();
     angles();
-    replay::say_float(numbers::power(2.0, 10, 1.0));
+    replay::say_float(numbers::power(2.0, 10));
     epochs();
 }

@@ -18,12 +18,12 @@ use Rattle.slices.specs.Calls.{left}
 use Rattle.slices.specs.declared.Outcome.the-variants.{Accepted, Refused}
 use Rattle.slices.proofs.Calls.{call-refused, call-handed}
 use Rattle.slices.proofs.Laws.{copied-all}
-use Rattle.inputs.specs.Inputs.{fitRoom, fieldsFine, lengthsFit, modelFine, frontSize, Front}
-use Rattle.inputs.proofs.Passed.{all-pass, degree-passes, lengths-room}
+use Rattle.inputs.specs.Inputs.{Model, fitRoom, fieldsFine, sizesFit, modelFine, frontSize, Front}
+use Rattle.inputs.proofs.Passed.{all-pass, degree-passes, sizes-room}
 use Rattle.integrate.specs.declared.kernel.Arc.{Arc}
 use Rattle.integrate.specs.declared.kernel.Force.{Force}
 use Rattle.integrate.specs.Room.{runSize, Run, Orbit, six, flat}
-use Rattle.integrate.specs.Force.{model, attractionOf, runOf, runFits}
+use Rattle.integrate.specs.Force.{attractionOf, runOf, runFits}
 use Rattle.integrate.specs.Work.{Ran, Listed}
 use Rattle.integrate.specs.Calls.{isStart, outFits, arcFits, refusal, integrateCall}
 
@@ -55,19 +55,14 @@ pub record Passed (N : ℕ) (arc : Arc) (out scratch : ℕ) : Type 0 where
   pub room : frontSize N + fitRoom ≤ scratch
   pub each : out ≡ 6 * (arc .steps + 1)
 
-pub passes : (N : ℕ) (field a b ts fs : List Float) (arc : Arc) (p : List Float) (out scratch : ℕ) → refusal N field a b ts fs arc p out scratch ≡ 0 → Passed N arc out scratch
+pub passes : (M : Model) (arc : Arc) (p : List Float) (out scratch : ℕ) → refusal M arc p out scratch ≡ 0 → Passed (M .fixed .degree) arc out scratch
 unfolding refusal
-passes N field a b ts fs arc q out scratch h =
-    let p = all-pass (degreeFine N) (fieldsFine (length ts) && leb (arc .steps) 5302) (lengthsFit N (length ts) (length field) (length fs) (length a) (length b) scratch && outFits (arc .steps) out)
-    (modelFine field a b ts fs && (arcFits arc && all finite q)) (rising ts) h in
-    let l = both-true (lengthsFit N (length ts) (length field) (length fs) (length a) (length b) scratch) (outFits (arc .steps) out) (p .lengths) in
+passes M arc q out scratch h =
+    let p = all-pass (degreeFine (M .fixed .degree)) (fieldsFine (length (M .fields .fieldTimes)) && leb (arc .steps) 5302) (sizesFit M scratch && outFits (arc .steps) out)
+    (modelFine M && (arcFits arc && all finite q)) (rising (M .fields .fieldTimes)) 0 h in
+    let l = both-true (sizesFit M scratch) (outFits (arc .steps) out) (p .lengths) in
     let o = out-passes (arc .steps) out (l .1) in
-    record {
-      degree = degree-passes N (p .degree);
-      few = o .0;
-      room = lengths-room N (length ts) (length field) (length fs) (length a) (length b) scratch (l .0);
-      each = o .1;
-    }
+    record { degree = degree-passes (M .fixed .degree) (p .degree); few = o .0; room = sizes-room M scratch (l .0); each = o .1 }
 
 -- ---- the states of a run as a list
 
@@ -104,7 +99,8 @@ flat-part w at run (suc n) o h =
     ∙ take-add (6 * n) 6 (drop at w)
     ∙ (λ i. flat-part w at run n less (omega arith) i ++ (ap (take 6) (drop-drop (6 * n) at w) ∙ six-part w at run n o h) i)
 
-pub ran-long : (N steps : ℕ) (w w' : List Float) (run : Run) → N ≤ 180 → steps ≤ 5302 → frontSize N + runSize ≤ length w → Ran (runFits N steps (length w)) w w' (frontSize N) steps run → length w' ≡ length w
+pub ran-long : (N steps : ℕ) (w w' : List Float) (run : Run) → N ≤ 180 → steps ≤ 5302 → frontSize N + runSize ≤ length w → Ran (runFits N steps (length w)) w w' (frontSize N) steps run
+    → length w' ≡ length w
 unfolding runFits
 ran-long N steps w w' run h k l r = r .flown (simp (le-leb N 180 h, le-leb steps 5302 k, le-leb (frontSize N + runSize) (length w) l)) .only .long
 
@@ -125,33 +121,33 @@ states-are N steps base w w' out out' run h k l q r e c =
 
 -- ---- the call
 
-module _ (force : Force) (N : ℕ) (field a b ts fs : List Float) (arc : Arc) (p out scratch : List Float) (n : ℕ) (en : n ≡ refusal N field a b ts fs arc p (length out) (length scratch)) where
-  pub integrate-refused : (n ≡ 0 → ⊥) → left (Refused n) (out ∷ []) scratch ≡ integrateCall force N field a b ts fs arc p out scratch
+module _ (force : Force) (M : Model) (arc : Arc) (p out scratch : List Float) (n : ℕ) (en : n ≡ refusal M arc p (length out) (length scratch)) where
+  pub integrate-refused : (n ≡ 0 → ⊥) → left (Refused n) (out ∷ []) scratch ≡ integrateCall force M arc p out scratch
   unfolding integrateCall
   integrate-refused h = call-refused Accepted Refused _ _ _ n _ _ en h
 
-  pub passed-here : n ≡ 0 → Passed N arc (length out) (length scratch)
-  passed-here h = passes N field a b ts fs arc p (length out) (length scratch) (sym en ∙ h)
+  pub passed-here : n ≡ 0 → Passed (M .fixed .degree) arc (length out) (length scratch)
+  passed-here h = passes M arc p (length out) (length scratch) (sym en ∙ h)
 
   module _ (h : n ≡ 0) (out' scratch' scratch'' : List Float)
-      (eo : Listed (runOf (attractionOf force (model N field ts fs) a b) arc p) (arc .steps + 1) out' scratch scratch') (es : scratch'' ≡ cleared scratch') (t : Bool) (et : t ≡ all finite out') where
+      (eo : Listed (runOf (attractionOf force M) arc p) (arc .steps + 1) out' scratch scratch') (es : scratch'' ≡ cleared scratch') (t : Bool) (et : t ≡ all finite out') where
     clear-is : scratch'' ≡ cleared scratch
     clear-is = let l = eo .long in es ∙ rw l
 
-    finite-is : t ≡ all (all finite) (flat (runOf (attractionOf force (model N field ts fs) a b) arc p) (arc .steps + 1) ∷ [])
-    finite-is = et ∙ ap (all finite) (eo .states) ∙ sym (and-true (all finite (flat (runOf (attractionOf force (model N field ts fs) a b) arc p) (arc .steps + 1))))
+    finite-is : t ≡ all (all finite) (flat (runOf (attractionOf force M) arc p) (arc .steps + 1) ∷ [])
+    finite-is = et ∙ ap (all finite) (eo .states) ∙ sym (and-true (all finite (flat (runOf (attractionOf force M) arc p) (arc .steps + 1))))
 
-    pub integrate-accepted : t ≡ true → left Accepted (out' ∷ []) scratch'' ≡ integrateCall force N field a b ts fs arc p out scratch
+    pub integrate-accepted : t ≡ true → left Accepted (out' ∷ []) scratch'' ≡ integrateCall force M arc p out scratch
     unfolding integrateCall
     integrate-accepted q =
         (λ i. left Accepted (eo .states i ∷ []) (clear-is i))
-        ∙ call-handed Accepted Refused (flat (runOf (attractionOf force (model N field ts fs) a b) arc p) (arc .steps + 1) ∷ []) (out ∷ []) scratch true _ 0 (sym h ∙ en) refl (sym q ∙ finite-is)
+        ∙ call-handed Accepted Refused (flat (runOf (attractionOf force M) arc p) (arc .steps + 1) ∷ []) (out ∷ []) scratch true _ 0 (sym h ∙ en) refl (sym q ∙ finite-is)
 
-    pub integrate-unfit : t ≡ false → (out'' : List Float) → out'' ≡ cleared out' → left (Refused 10) (out'' ∷ []) scratch'' ≡ integrateCall force N field a b ts fs arc p out scratch
+    pub integrate-unfit : t ≡ false → (out'' : List Float) → out'' ≡ cleared out' → left (Refused 10) (out'' ∷ []) scratch'' ≡ integrateCall force M arc p out scratch
     unfolding integrateCall
     integrate-unfit q out'' e =
         (λ i. left (Refused 10) ((e ∙ same (ap length (eo .states) ∙ flat-length _ (arc .steps + 1) ∙ sym (passed-here h .each))) i ∷ []) (clear-is i))
-        ∙ call-handed Accepted Refused (flat (runOf (attractionOf force (model N field ts fs) a b) arc p) (arc .steps + 1) ∷ []) (out ∷ []) scratch false _ 0 (sym h ∙ en) refl (sym q ∙ finite-is)
+        ∙ call-handed Accepted Refused (flat (runOf (attractionOf force M) arc p) (arc .steps + 1) ∷ []) (out ∷ []) scratch false _ 0 (sym h ∙ en) refl (sym q ∙ finite-is)
       where
         same : length out' ≡ length out → cleared out' ≡ cleared out
         same l = rw l

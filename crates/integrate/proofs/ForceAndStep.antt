@@ -12,7 +12,7 @@ use lib.ListN.{length, take, getD, replicate}
 use borrow.Rule.Slice.PartMut.{midOf, putMid}
 use lib.Seq.{length-take-le}
 use borrow.Author.Tests.{le-leb, lt-leb, leb-true}
-use Rattle.inputs.specs.Inputs.{frontSize}
+use Rattle.inputs.specs.Inputs.{Model, frontSize}
 use Rattle.laws.specs.Floats.{_⊕_, _⊘_, two64, zero64}
 use Rattle.laws.specs.Loops.{cleared}
 use Rattle.laws.specs.WholeNumbers.{number}
@@ -32,48 +32,45 @@ use Rattle.integrate.specs.declared.kernel.Force.the-variants.{Full, J2}
 use Rattle.legendre.specs.Prepared.{prepared}
 use Rattle.forces.specs.Forces.{gravityWith}
 use Rattle.integrate.specs.Steps.{Acceleration, alongOf, weighedOf, stepOf, stateAt}
-use Rattle.integrate.specs.Force.{Model, model, frontAt, fullForce, attractionOf, argumentOf, accelerationOf, strengthsOf, runOf, runFits}
+use Rattle.integrate.specs.Force.{gravityAt, fullForce, attractionOf, argumentOf, accelerationOf, strengthsOf, runOf, runFits}
 use Rattle.integrate.specs.Room.{runSize, stateIn, Run, Only, Holds3, Orbit}
-use Rattle.integrate.specs.Work.{Ready, ReadyFor, Refreshed, Pulled, Pushed, Moved, Stored, Advanced, Begun, Flown, Fitting, Ran}
+use Rattle.integrate.specs.Work.{frontAt, Ready, ReadyFor, Refreshed, Pulled, Pushed, Moved, Stored, Advanced, Begun, Flown, Fitting, Ran}
 use Rattle.integrate.proofs.Places.{only-same, only-then, orbit-first}
-use Rattle.integrate.proofs.Front.{at-length, at-again, front-length, put-front, put-only, take-only}
+use Rattle.integrate.proofs.Front.{at-length, at-again, front-length, front-gravity, put-front, put-only, take-only}
 
 -- ---- the instant
 
 front-part : (n : ℕ) (w : List Float) → n ≤ length w → midOf 0 (n - 0) w ≡ take n w
 front-part n w h = let e : n - 0 ≡ n = omega arith in ap (λ (k : ℕ). take k w) e
 
-pub opened : (N base : ℕ) (field ts fs w y : List Float) (t : Float) (m : Moment) → base ≡ frontSize N → base ≤ length w →
-    y ≡ atLeft N field ts fs t (prepared N (cleared (midOf 0 (base - 0) w))) → m ≡ momentOf t →
-    Ready (model N field ts fs) (putMid 0 (base - 0) w y) (record { time = t; moment = m }) × Only 0 (frontSize N) w (putMid 0 (base - 0) w y)
+pub opened : (M : Model) (base : ℕ) (w y : List Float) (t : Float) (m : Moment) → base ≡ frontSize (M .fixed .degree) → base ≤ length w →
+    y ≡ atLeft M t (prepared (M .fixed .degree) (cleared (midOf 0 (base - 0) w))) → m ≡ momentOf t →
+    Ready M (putMid 0 (base - 0) w y) (record { time = t; moment = m }) × Only 0 (frontSize (M .fixed .degree)) w (putMid 0 (base - 0) w y)
 unfolding frontAt
-opened N base field ts fs w y t m e h ey em =
-    let n : ℕ = frontSize N in
-    let part : length (midOf 0 (base - 0) w) ≡ n = ap length (front-part base w h) ∙ length-take-le base w h ∙ e in
-    let is : y ≡ frontAt (model N field ts fs) t = ey ∙ ap (λ (k : ℕ). atLeft N field ts fs t (prepared N (replicate k zero64))) part in
-    let long : length y ≡ base = ap length is ∙ front-length (model N field ts fs) t ∙ sym e in (
-      record { front = subst (λ (k : ℕ). take k (putMid 0 (base - 0) w y) ≡ frontAt (model N field ts fs) t) e (put-front base w y h long ∙ is); sky = em },
+opened M base w y t m e h ey em =
+    let part : length (midOf 0 (base - 0) w) ≡ frontSize (M .fixed .degree) = ap length (front-part base w h) ∙ length-take-le base w h ∙ e in
+    let is : y ≡ frontAt M t = ey ∙ ap (λ (k : ℕ). atLeft M t (prepared (M .fixed .degree) (replicate k zero64))) part in
+    let long : length y ≡ base = ap length is ∙ front-length M t ∙ sym e in (
+      record { front = subst (λ (k : ℕ). take k (putMid 0 (base - 0) w y) ≡ frontAt M t) e (put-front base w y h long ∙ is); sky = em },
       subst (λ (k : ℕ). Only 0 k w (putMid 0 (base - 0) w y)) e (put-only base w y h long),
     )
 
-pub kept-instant : (N base : ℕ) (field ts fs w : List Float) (known : Instant) (t : Float) (b : Bool) → (b ≡ true → known .time ≡ t) → b ≡ true →
-    Refreshed (model N field ts fs) w w known t known
-kept-instant N base field ts fs w known t b f h = record { ready = λ r. r; time = f h; only = only-same 0 (frontSize N) w }
+pub kept-instant : (M : Model) (w : List Float) (known : Instant) (t : Float) (b : Bool) → (b ≡ true → known .time ≡ t) → b ≡ true → Refreshed M w w known t known
+kept-instant M w known t b f h = record { ready = λ r. r; time = f h; only = only-same 0 (frontSize (M .fixed .degree)) w }
 
-pub new-instant : (N base : ℕ) (field ts fs w y : List Float) (known : Instant) (t : Float) (m : Moment) → base ≡ frontSize N → base ≤ length w →
-    y ≡ atLeft N field ts fs t (midOf 0 (base - 0) w) → m ≡ momentOf t →
-    Refreshed (model N field ts fs) w (putMid 0 (base - 0) w y) known t (record { time = t; moment = m })
+pub new-instant : (M : Model) (base : ℕ) (w y : List Float) (known : Instant) (t : Float) (m : Moment) → base ≡ frontSize (M .fixed .degree) → base ≤ length w →
+    y ≡ atLeft M t (midOf 0 (base - 0) w) → m ≡ momentOf t →
+    Refreshed M w (putMid 0 (base - 0) w y) known t (record { time = t; moment = m })
 unfolding frontAt
-new-instant N base field ts fs w y known t m e h ey em =
-    let n : ℕ = frontSize N in
+new-instant M base w y known t m e h ey em =
     let whole : List Float = putMid 0 (base - 0) w y in
-    let long : length y ≡ base = ap length ey ∙ at-length N field ts fs t (midOf 0 (base - 0) w) ∙ ap length (front-part base w h) ∙ length-take-le base w h in
+    let long : length y ≡ base = ap length ey ∙ at-length M t (midOf 0 (base - 0) w) ∙ ap length (front-part base w h) ∙ length-take-le base w h in
     record {
       ready = λ r.
-          let old : midOf 0 (base - 0) w ≡ frontAt (model N field ts fs) (known .time) = front-part base w h ∙ ap (λ (k : ℕ). take k w) e ∙ r .front in
+          let old : midOf 0 (base - 0) w ≡ frontAt M (known .time) = front-part base w h ∙ ap (λ (k : ℕ). take k w) e ∙ r .front in
           record {
-            front = ap (λ (k : ℕ). take k whole) (sym e) ∙ put-front base w y h long ∙ ey ∙ ap (atLeft N field ts fs t) old
-                ∙ at-again N field ts fs t (known .time) (prepared N (replicate n zero64));
+            front = ap (λ (k : ℕ). take k whole) (sym e) ∙ put-front base w y h long ∙ ey ∙ ap (atLeft M t) old
+                ∙ at-again M t (known .time) (prepared (M .fixed .degree) (replicate (frontSize (M .fixed .degree)) zero64));
             sky = em;
           };
       time = refl;
@@ -82,45 +79,44 @@ new-instant N base field ts fs w y known t m e h ey em =
 
 -- ---- the force
 
-pub pulled : (N base : ℕ) (field a b ts fs w w' : List Float) (known here : Instant) (t : Float) (x g s p : Vector) (gm radius : Float) → base ≡ frontSize N → base ≤ length w' →
-    Refreshed (model N field ts fs) w w' known t here → gm ≡ getD field 0 nan → radius ≡ getD field 1 nan →
-    g ≡ gravityWith N gm radius a b (midOf 0 (base - 0) w') x → s ≡ tidesAt (here .moment) x → p ≡ plus g s →
-    Pulled (model N field ts fs) a b w w' known t x (record { known = here; pull = p })
+pub pulled : (M : Model) (base : ℕ) (w w' : List Float) (known here : Instant) (t : Float) (x g s p : Vector) (gm radius : Float) → base ≡ frontSize (M .fixed .degree) → base ≤ length w' →
+    Refreshed M w w' known t here → gm ≡ getD (M .fixed .static) 0 nan → radius ≡ getD (M .fixed .static) 1 nan →
+    g ≡ gravityWith (M .fixed .degree) gm radius (M .fixed .a) (M .fixed .b) (midOf 0 (base - 0) w') x → s ≡ tidesAt (here .moment) x → p ≡ plus g s →
+    Pulled M w w' known t x (record { known = here; pull = p })
 unfolding fullForce tidesOf
-pulled N base field a b ts fs w w' known here t x g s p gm radius e h f em er eg es ep =
-    let M : Model = model N field ts fs in
-    record {
-      ready = f .ready;
-      pull = λ r.
-          let r' : Ready M w' here = f .ready r in
-          let part : midOf 0 (base - 0) w' ≡ frontAt M t = front-part base w' h ∙ ap (λ (k : ℕ). take k w') e ∙ r' .front ∙ ap (frontAt M) (f .time) in
-          let sky : here .moment ≡ momentOf t = r' .sky ∙ ap momentOf (f .time) in
-          ep ∙ simp (eg, em, er, part, es, sky);
-      only = f .only;
-    }
+pulled M base w w' known here t x g s p gm radius e h f em er eg es ep = record {
+  ready = f .ready;
+  pull = λ r.
+      let r' : Ready M w' here = f .ready r in
+      let part : midOf 0 (base - 0) w' ≡ frontAt M t = front-part base w' h ∙ ap (λ (k : ℕ). take k w') e ∙ r' .front ∙ ap (frontAt M) (f .time) in
+      let sky : here .moment ≡ momentOf t = r' .sky ∙ ap momentOf (f .time) in
+      let field : g ≡ gravityAt M t x = eg ∙ (λ i. gravityWith (M .fixed .degree) (em i) (er i) (M .fixed .a) (M .fixed .b) (part i) x) ∙ front-gravity M t x in
+      ep ∙ (λ i. plus (field i) ((es ∙ ap (λ (m : Moment). tidesAt m x) sky) i));
+  only = f .only;
+}
 
-module _ (M : Model) (a b w w' : List Float) (known : Instant) (t : Float) (x : Vector) (force : Force) where
-  pub full-chosen : (r : Push) → force ≡ Full → Pulled M a b w w' known t x r → Pushed force M w w' known (attractionOf force M a b t x) r
+module _ (M : Model) (w w' : List Float) (known : Instant) (t : Float) (x : Vector) (force : Force) where
+  pub full-chosen : (r : Push) → force ≡ Full → Pulled M w w' known t x r → Pushed force M w w' known (attractionOf force M t x) r
   unfolding attractionOf
   full-chosen r e f = record {
     ready = λ g _. f .ready (g e);
-    pull = λ g. f .pull (g e) ∙ sym (ap (λ (c : Force). attractionOf c M a b t x) e);
+    pull = λ g. f .pull (g e) ∙ sym (ap (λ (c : Force). attractionOf c M t x) e);
     only = f .only;
   }
 
-  pub j2-chosen : (p : Vector) → force ≡ J2 → p ≡ j2Of x → Pushed force M w w known (attractionOf force M a b t x) (record { known = known; pull = p })
+  pub j2-chosen : (p : Vector) → force ≡ J2 → p ≡ j2Of x → Pushed force M w w known (attractionOf force M t x) (record { known = known; pull = p })
   unfolding attractionOf
   j2-chosen p e f = record {
     ready = λ g. g;
-    pull = λ g. f ∙ sym (ap (λ (c : Force). attractionOf c M a b t x) e);
-    only = only-same 0 (frontSize (M .degree)) w;
+    pull = λ g. f ∙ sym (ap (λ (c : Force). attractionOf c M t x) e);
+    only = only-same 0 (frontSize (M .fixed .degree)) w;
   }
 
-pub accelerated : (force : Force) (M : Model) (a b w w' : List Float) (known : Instant) (arc : Arc) (e : List Float) (t u : Float) (x v f p i s : Vector) (g : Push) →
-    Pushed force M w w' known (attractionOf force M a b t x) g → f ≡ fictitiousOf x v → u ≡ argumentOf arc t → p ≡ empiricalOf x v u e → i ≡ plus f p → s ≡ plus (g .pull) i →
-    Pushed force M w w' known (accelerationOf (attractionOf force M a b) arc e t x v) (record { known = g .known; pull = s })
+pub accelerated : (force : Force) (M : Model) (w w' : List Float) (known : Instant) (arc : Arc) (e : List Float) (t u : Float) (x v f p i s : Vector) (g : Push) →
+    Pushed force M w w' known (attractionOf force M t x) g → f ≡ fictitiousOf x v → u ≡ argumentOf arc t → p ≡ empiricalOf x v u e → i ≡ plus f p → s ≡ plus (g .pull) i →
+    Pushed force M w w' known (accelerationOf (attractionOf force M) arc e t x v) (record { known = g .known; pull = s })
 unfolding accelerationOf
-accelerated force M a b w w' known arc e t u x v f p i s g h ef eu ep ei es = record {
+accelerated force M w w' known arc e t u x v f p i s g h ef eu ep ei es = record {
   ready = h .ready;
   pull = λ r. es ∙ simp (h .pull r, ei, ef, ep, eu);
   only = h .only;
@@ -149,7 +145,8 @@ rk a t s a1 x2 v2 a2 x3 v3 a3 x4 v4 a4 dx position dv velocity e1 e2 e3 e4 e5 e6
     simp (e14, e13, e12, e11, e10, e9, e8, e7, e6, e5, e4, e3, e2, e1)
 
 -- four pushes of the lent numbers, one after the other
-pub stepped : (force : Force) (M : Model) (w w1 w2 w3 w4 : List Float) (known : Instant) (a : Acceleration) (t : Float) (s : State) (p1 p2 p3 p4 : Push) (x2 v2 x3 v3 x4 v4 dx position dv velocity : Vector) →
+pub stepped : (force : Force) (M : Model) (w w1 w2 w3 w4 : List Float) (known : Instant) (a : Acceleration) (t : Float) (s : State) (p1 p2 p3 p4 : Push)
+    (x2 v2 x3 v3 x4 v4 dx position dv velocity : Vector) →
     Pushed force M w w1 known (a t (s .position) (s .velocity)) p1 →
     x2 ≡ alongOf (s .position) (s .velocity) (step ⊘ two64) →
     v2 ≡ alongOf (s .velocity) (p1 .pull) (step ⊘ two64) →
@@ -166,7 +163,7 @@ pub stepped : (force : Force) (M : Model) (w w1 w2 w3 w4 : List Float) (known : 
     velocity ≡ alongOf (s .velocity) dv (step ⊘ number 6) →
     Moved force M w w4 known (stepOf a t s) (record { known = p4 .known; state = record { position = position; velocity = velocity } })
 stepped force M w w1 w2 w3 w4 known a t s p1 p2 p3 p4 x2 v2 x3 v3 x4 v4 dx position dv velocity q1 e2 e3 q2 e5 e6 q3 e8 e9 q4 e11 e12 e13 e14 =
-    let n : ℕ = frontSize (M .degree) in
+    let n : ℕ = frontSize (M .fixed .degree) in
     record {
       ready = λ r. q4 .ready (q3 .ready (q2 .ready (q1 .ready r)));
       state = λ r.
@@ -182,11 +179,12 @@ stepped force M w w1 w2 w3 w4 known a t s p1 p2 p3 p4 x2 v2 x3 v3 x4 v4 dx posit
 
 -- ---- a run
 
-ready-kept : (M : Model) (a e : ℕ) (w w' : List Float) (known : Instant) → Only a e w w' → frontSize (M .degree) ≤ a → frontSize (M .degree) ≤ length w → Ready M w known → Ready M w' known
-ready-kept M a e w w' known o h l r = record { front = take-only (frontSize (M .degree)) a e w w' o h l ∙ r .front; sky = r .sky }
+ready-kept : (M : Model) (a e : ℕ) (w w' : List Float) (known : Instant) → Only a e w w' → frontSize (M .fixed .degree) ≤ a → frontSize (M .fixed .degree) ≤ length w → Ready M w known
+    → Ready M w' known
+ready-kept M a e w w' known o h l r = record { front = take-only (frontSize (M .fixed .degree)) a e w w' o h l ∙ r .front; sky = r .sky }
 
 pub advanced : (force : Force) (M : Model) (w w1 w2 : List Float) (base k : ℕ) (known : Instant) (a : Acceleration) (t0 t : Float) (s : State) (r : Stepped) →
-    k < 5302 → base ≡ frontSize (M .degree) → base + runSize ≤ length w → t ≡ stepTime t0 k → Moved force M w w1 known (stepOf a t s) r → Stored w1 w2 (base + 6 * (k + 1)) (r .state) →
+    k < 5302 → base ≡ frontSize (M .fixed .degree) → base + runSize ≤ length w → t ≡ stepTime t0 k → Moved force M w w1 known (stepOf a t s) r → Stored w1 w2 (base + 6 * (k + 1)) (r .state) →
     Advanced force M w w2 base k known (stepOf a (stepTime t0 k) s) r
 advanced force M w w1 w2 base k known a t0 t s r lk eb lw et m p =
     record {
@@ -195,12 +193,13 @@ advanced force M w w1 w2 base k known a t0 t s r lk eb lw et m p =
       position = p .position (omega (arith, m .only .long));
       velocity = p .velocity (omega (arith, m .only .long));
       states = λ i l h. p .only .same i (λ q z. omega arith) ∙ m .only .same i (λ q z. omega arith);
-      only = only-then 0 (base + runSize) 0 (frontSize (M .degree)) (base + 6 * (k + 1)) (base + 6 * (k + 1) + 6) w w1 w2 (m .only) (p .only) (omega arith) (omega arith) (omega arith) (omega arith);
+      only = only-then 0 (base + runSize) 0 (frontSize (M .fixed .degree)) (base + 6 * (k + 1)) (base + 6 * (k + 1) + 6) w w1 w2 (m .only) (p .only) (omega arith) (omega arith) (omega arith)
+          (omega arith);
     }
 
 module _ (force : Force) (M : Model) (w w' : List Float) where
   pub begun-j2 : (r : Instant) → force ≡ J2 → Begun force M w w r
-  begun-j2 r e = record { ready = λ f. absurd (other (sym e ∙ f)); only = only-same 0 (frontSize (M .degree)) w }
+  begun-j2 r e = record { ready = λ f. absurd (other (sym e ∙ f)); only = only-same 0 (frontSize (M .fixed .degree)) w }
     where
       other : J2 ≡ Full → ⊥
       other q = let z : _≡_ {A = ℕ} 0 1 = cc in omega arith
@@ -210,12 +209,12 @@ holds-kept : (w w' : List Float) (at : ℕ) (v : Vector) → ((i : ℕ) → at �
 holds-kept w w' at v f h = record { x = f at (omega arith) (omega arith) ∙ h .x; y = f (at + 1) (omega arith) (omega arith) ∙ h .y; z = f (at + 2) (omega arith) (omega arith) ∙ h .z }
 
 pub flown-first : (force : Force) (M : Model) (w w1 w2 : List Float) (base : ℕ) (known : Instant) (a : Acceleration) (t0 : Float) (start : State) →
-    base ≡ frontSize (M .degree) → base + runSize ≤ length w → Begun force M w w1 known → Stored w1 w2 base start →
+    base ≡ frontSize (M .fixed .degree) → base + runSize ≤ length w → Begun force M w w1 known → Stored w1 w2 base start →
     Orbit w2 base (stateAt a t0 start) 1 × Only 0 (base + runSize) w w2 × ReadyFor force M w2 known
 unfolding stateAt
 flown-first force M w w1 w2 base known a t0 start eb lw g p = (
   orbit-first w1 w2 base (stateAt a t0 start) start (omega (arith, g .only .long)) p refl,
-  only-then 0 (base + runSize) 0 (frontSize (M .degree)) base (base + 6) w w1 w2 (g .only) (p .only) (omega arith) (omega arith) (omega arith) (omega arith),
+  only-then 0 (base + runSize) 0 (frontSize (M .fixed .degree)) base (base + 6) w w1 w2 (g .only) (p .only) (omega arith) (omega arith) (omega arith) (omega arith),
   λ f. ready-kept M base (base + 6) w1 w2 known (p .only) (omega arith) (omega (arith, g .only .long)) (g .ready f),
 )
 
@@ -229,11 +228,13 @@ flown-more force M w w' base k known a t0 start s r es o g h =
       e,
       record {
         position = λ i l. elim (decLe (k + 1) i) [
-          | yes q ↦ let j : k + 1 ≡ i = omega arith in subst (λ (n : ℕ). Holds3 w' (base + 6 * n) (run n .position)) j (subst (λ (x : State). Holds3 w' (base + 6 * (k + 1)) (x .position)) e (h .position))
+          | yes q ↦ let j : k + 1 ≡ i = omega arith in subst (λ (n : ℕ). Holds3 w' (base + 6 * n) (run n .position)) j
+              (subst (λ (x : State). Holds3 w' (base + 6 * (k + 1)) (x .position)) e (h .position))
           | no q ↦ holds-kept w w' (base + 6 * i) (run i .position) (λ n u v. h .states n (omega arith) (omega arith)) (o .position i (omega arith))
         ];
         velocity = λ i l. elim (decLe (k + 1) i) [
-          | yes q ↦ let j : k + 1 ≡ i = omega arith in subst (λ (n : ℕ). Holds3 w' (base + 6 * n + 3) (run n .velocity)) j (subst (λ (x : State). Holds3 w' (base + 6 * (k + 1) + 3) (x .velocity)) e (h .velocity))
+          | yes q ↦ let j : k + 1 ≡ i = omega arith in subst (λ (n : ℕ). Holds3 w' (base + 6 * n + 3) (run n .velocity)) j
+              (subst (λ (x : State). Holds3 w' (base + 6 * (k + 1) + 3) (x .velocity)) e (h .velocity))
           | no q ↦ holds-kept w w' (base + 6 * i + 3) (run i .velocity) (λ n u v. h .states n (omega arith) (omega arith)) (o .velocity i (omega arith))
         ];
       },
@@ -259,17 +260,17 @@ fits-room N steps room base g h e = record {
   enough = λ q. subst (λ (n : ℕ). n + runSize ≤ room) e (leb-true (base + runSize) room q);
 }
 
-module _ (force : Force) (N : ℕ) (field ts fs a b p w w' : List Float) (arc : Arc) (base : ℕ) (t : Bool) (g : Fitting N (arc .steps) (length w) t) where
-  pub ran : (e : List Float) (s : State) → t ≡ true → base ≡ frontSize N → e ≡ strengthsOf p → s ≡ stateIn p 0 →
-      Flown w w' base (arc .steps) (stateAt (accelerationOf (attractionOf force (model N field ts fs) a b) arc e) (arc .t0) s) →
-      Ran (runFits N (arc .steps) (length w)) w w' (frontSize N) (arc .steps) (runOf (attractionOf force (model N field ts fs) a b) arc p)
+module _ (force : Force) (M : Model) (p w w' : List Float) (arc : Arc) (base : ℕ) (t : Bool) (g : Fitting (M .fixed .degree) (arc .steps) (length w) t) where
+  pub ran : (e : List Float) (s : State) → t ≡ true → base ≡ frontSize (M .fixed .degree) → e ≡ strengthsOf p → s ≡ stateIn p 0 →
+      Flown w w' base (arc .steps) (stateAt (accelerationOf (attractionOf force M) arc e) (arc .t0) s) →
+      Ran (runFits (M .fixed .degree) (arc .steps) (length w)) w w' (frontSize (M .fixed .degree)) (arc .steps) (runOf (attractionOf force M) arc p)
   unfolding runOf
   ran e s h eb ee es f = record {
-    flown = λ _. subst (λ (x : List Float). Flown w w' (frontSize N) (arc .steps) (stateAt (accelerationOf (attractionOf force (model N field ts fs) a b) arc x) (arc .t0) (stateIn p 0))) ee
-        (subst (λ (x : State). Flown w w' (frontSize N) (arc .steps) (stateAt (accelerationOf (attractionOf force (model N field ts fs) a b) arc e) (arc .t0) x)) es
-        (subst (λ (n : ℕ). Flown w w' n (arc .steps) (stateAt (accelerationOf (attractionOf force (model N field ts fs) a b) arc e) (arc .t0) s)) eb f));
+    flown = λ _. subst (λ (x : List Float). Flown w w' (frontSize (M .fixed .degree)) (arc .steps) (stateAt (accelerationOf (attractionOf force M) arc x) (arc .t0) (stateIn p 0))) ee
+        (subst (λ (x : State). Flown w w' (frontSize (M .fixed .degree)) (arc .steps) (stateAt (accelerationOf (attractionOf force M) arc e) (arc .t0) x)) es
+        (subst (λ (n : ℕ). Flown w w' n (arc .steps) (stateAt (accelerationOf (attractionOf force M) arc e) (arc .t0) s)) eb f));
     kept = λ q. absurd (false≢true (sym q ∙ sym (g .says) ∙ h));
   }
 
-  pub not-ran : t ≡ false → Ran (runFits N (arc .steps) (length w)) w w (frontSize N) (arc .steps) (runOf (attractionOf force (model N field ts fs) a b) arc p)
+  pub not-ran : t ≡ false → Ran (runFits (M .fixed .degree) (arc .steps) (length w)) w w (frontSize (M .fixed .degree)) (arc .steps) (runOf (attractionOf force M) arc p)
   not-ran h = record { flown = λ q. absurd (false≢true (sym h ∙ g .says ∙ q)); kept = λ _. refl }

@@ -1,5 +1,5 @@
--- Laws of the numbers before the states: the field at a time, written over that of another. Assumes nothing.
-use mathlib.Core.Path.{_≡_, sym, ap, _∙_}
+-- Laws of the numbers before the states: the field at a time, written over that of another, and the gravity of the field that they hold. Assumes nothing.
+use mathlib.Core.Path.{_≡_, refl, sym, ap, _∙_}
 use mathlib.Core.Bool.{Bool, true, false, not, _&&_, false≢true}
 use mathlib.Core.List.{List, _++_}
 use Prim.Native.Nat.{ℕ, _+_, _*_, _-_, _/_, _≤_, _<_}
@@ -7,22 +7,27 @@ use native.Mathlib.Decide.{decLe}
 use native.Mathlib.Omega.{arith}
 use lib.Dec.{T, leb, eqb}
 use lib.Ieee.{Float, nan, inf, fin, eq, isNan}
-use lib.ListN.{length, take, drop, getD, replicate, length-append, length-drop, length-replicate}
+use lib.ListN.{length, take, drop, getD, replicate, length-append, length-drop, length-replicate, replicate-append-replicate, take-append-drop}
 use lib.Seq.{take-at, drop-at, getD-append-add, getD-drop, getD-take, ext-getD, length-take-le}
-use borrow.Author.Tests.{leb-true}
+use borrow.Author.Tests.{leb-true, le-leb}
 use borrow.Rule.Slice.PartMut.{putMid}
-use Rattle.inputs.specs.Inputs.{fieldSize, frontSize}
+use Rattle.inputs.specs.Inputs.{Model, kind, fieldSize, frontSize}
 use Rattle.laws.specs.Floats.{zero64}
+use Rattle.laws.specs.Loops.{cleared}
 use Rattle.laws.specs.Tables.{tri}
 use Rattle.laws.specs.Bools.{by, left-true, right-true}
-use Rattle.model.specs.Field.{cosines, sines}
+use Rattle.vectors.specs.declared.Vector.{Vector}
+use Rattle.forces.specs.Forces.{gravityLent, gravityWith}
+use Rattle.forces.proofs.Published.{front-lent}
+use Rattle.model.specs.Field.{gm, radius, cosines, sines}
 use Rattle.model.specs.Model.{fieldAt, kindAt}
-use Rattle.model.specs.Calls.{atFits, atLeft}
+use Rattle.model.specs.Calls.{atFits, sized, atLeft}
 use Rattle.model.proofs.Checks.{kind-long}
 use Rattle.legendre.specs.Prepared.{prepared}
-use Rattle.legendre.proofs.Published.{prepared-length as long}
-use Rattle.integrate.specs.Force.{Model, frontAt}
+use Rattle.legendre.proofs.Published.{prepared-length as long, prepared-field, prepared-prepared}
+use Rattle.integrate.specs.Force.{coefficientsAt, gravityAt}
 use Rattle.integrate.specs.Room.{Only}
+use Rattle.integrate.specs.Work.{frontAt}
 
 -- a number that equals itself is none
 pub eq-no-nan : (x : Float) → eq x x ≡ true → T (not (isNan x))
@@ -37,41 +42,38 @@ fits-room : (N f n a o : ℕ) → atFits N f n a o ≡ true → 2 * tri (N + 1) 
 unfolding atFits
 fits-room N f n a o h = leb-true (2 * tri (N + 1)) o (right-true (leb N 180 && eqb f (fieldSize N) && leb 2 n && leb n (a / fieldSize N)) (leb (2 * tri (N + 1)) o) h)
 
-field-length : (N : ℕ) (field ts fs : List Float) (t : Float) → length (fieldAt N field ts fs t) ≡ 2 * tri (N + 1)
-field-length N field ts fs t =
-    length-append (kindAt N cosines field ts fs t) (kindAt N (sines N) field ts fs t)
-    ∙ omega (arith, kind-long N cosines field ts fs t, kind-long N (sines N) field ts fs t)
+field-length : (M : Model) (t : Float) → length (fieldAt M t) ≡ 2 * tri (M .fixed .degree + 1)
+field-length M t =
+    let N : ℕ = M .fixed .degree in
+    length-append (kindAt cosines M t) (kindAt (sines N) M t)
+    ∙ omega (arith, kind-long cosines M t, kind-long (sines N) M t)
 
-module _ (N : ℕ) (field ts fs : List Float) where
-  abbrev pub fits : List Float → Bool
-  fits out = atFits N (length field) (length ts) (length fs) (length out)
-
-  pub fitting : (t : Float) (out : List Float) → fits out ≡ true → atLeft N field ts fs t out ≡ fieldAt N field ts fs t ++ drop (2 * tri (N + 1)) out
+module _ (M : Model) where
+  pub fitting : (t : Float) (out : List Float) → sized M (length out) ≡ true → atLeft M t out ≡ fieldAt M t ++ drop (2 * tri (M .fixed .degree + 1)) out
   unfolding atLeft
   fitting t out h = simp h
 
-  unfitting : (t : Float) (out : List Float) → fits out ≡ false → atLeft N field ts fs t out ≡ out
+  unfitting : (t : Float) (out : List Float) → sized M (length out) ≡ false → atLeft M t out ≡ out
   unfolding atLeft
   unfitting t out h = simp h
 
-  pub at-length : (t : Float) (out : List Float) → length (atLeft N field ts fs t out) ≡ length out
+  pub at-length : (t : Float) (out : List Float) → length (atLeft M t out) ≡ length out
   at-length t out =
-      by (fits out)
-      (λ h. ap length (fitting t out h) ∙ length-append (fieldAt N field ts fs t) (drop (2 * tri (N + 1)) out)
-      ∙ omega (arith, field-length N field ts fs t, length-drop (2 * tri (N + 1)) out, fits-room N _ _ _ _ h))
+      by (sized M (length out))
+      (λ h. ap length (fitting t out h) ∙ length-append (fieldAt M t) (drop (2 * tri (M .fixed .degree + 1)) out)
+      ∙ omega (arith, field-length M t, length-drop (2 * tri (M .fixed .degree + 1)) out, fits-room (M .fixed .degree) _ _ _ _ h))
       (λ h. ap length (unfitting t out h))
 
   -- the later of two stays
-  pub at-again : (t t' : Float) (out : List Float) → atLeft N field ts fs t (atLeft N field ts fs t' out) ≡ atLeft N field ts fs t out
+  pub at-again : (t t' : Float) (out : List Float) → atLeft M t (atLeft M t' out) ≡ atLeft M t out
   at-again t t' out =
-      let old : List Float = atLeft N field ts fs t' out in
-      let same : fits old ≡ fits out = ap (atFits N (length field) (length ts) (length fs)) (at-length t' out) in
-      by (fits out)
-      (λ h. fitting t old (same ∙ h)
-      ∙ ap (λ (l : List Float). fieldAt N field ts fs t ++ l) (ap (drop (2 * tri (N + 1))) (fitting t' out h)
-      ∙ drop-at (fieldAt N field ts fs t') (drop (2 * tri (N + 1)) out) (2 * tri (N + 1)) (field-length N field ts fs t'))
+      let n : ℕ = 2 * tri (M .fixed .degree + 1) in
+      let old : List Float = atLeft M t' out in
+      by (sized M (length out))
+      (λ h. fitting t old (ap (sized M) (at-length t' out) ∙ h)
+      ∙ ap (λ (l : List Float). fieldAt M t ++ l) (ap (drop n) (fitting t' out h) ∙ drop-at (fieldAt M t') (drop n out) n (field-length M t'))
       ∙ sym (fitting t out h))
-      (λ h. ap (atLeft N field ts fs t) (unfitting t' out h))
+      (λ h. ap (atLeft M t) (unfitting t' out h))
 
 -- ---- the part before the states
 
@@ -82,11 +84,84 @@ prepared-length N w =
     (λ h. long N w (leb-true N 180 (left-true (leb N 180) _ h)) (leb-true (8 * tri (N + 1)) (length w) (right-true (leb N 180) _ h)))
     (λ h. simp h)
 
-pub front-length : (M : Model) (t : Float) → length (frontAt M t) ≡ frontSize (M .degree)
+pub front-length : (M : Model) (t : Float) → length (frontAt M t) ≡ frontSize (M .fixed .degree)
 unfolding frontAt
 front-length M t =
-    at-length (M .degree) (M .field) (M .times) (M .added) t (prepared (M .degree) (replicate (frontSize (M .degree)) zero64))
-    ∙ prepared-length (M .degree) (replicate (frontSize (M .degree)) zero64) ∙ length-replicate (frontSize (M .degree)) zero64
+    at-length M t (prepared (M .fixed .degree) (replicate (frontSize (M .fixed .degree)) zero64))
+    ∙ prepared-length (M .fixed .degree) (replicate (frontSize (M .fixed .degree)) zero64) ∙ length-replicate (frontSize (M .fixed .degree)) zero64
+
+-- ---- the numbers before the states hold the field
+
+-- the first numbers of a slice are kept where it is prepared
+prepared-first : (N : ℕ) (w : List Float) → take (2 * tri (N + 1)) (prepared N w) ≡ take (2 * tri (N + 1)) w
+unfolding prepared
+prepared-first N w =
+    by (leb N 180 && leb (8 * tri (N + 1)) (length w))
+    (λ h. prepared-field N w (leb-true N 180 (left-true (leb N 180) _ h)) (leb-true (8 * tri (N + 1)) (length w) (right-true (leb N 180) _ h)))
+    (λ h. simp h)
+
+-- k of n or more zeros
+some-zeros : (n k : ℕ) → k ≤ n → take k (replicate n zero64) ≡ replicate k zero64
+some-zeros n k h =
+    let e : n ≡ k + (n - k) = omega arith in
+    ap (λ (m : ℕ). take k (replicate m zero64)) e ∙ ap (take k) (sym (replicate-append-replicate k (n - k) zero64))
+    ∙ take-at (replicate k zero64) (replicate (n - k) zero64) k (length-replicate k zero64)
+
+module _ (M : Model) (t : Float) where
+  abbrev start : List Float
+  start = prepared (M .fixed .degree) (replicate (frontSize (M .fixed .degree)) zero64)
+
+  start-length : length start ≡ frontSize (M .fixed .degree)
+  start-length = prepared-length (M .fixed .degree) (replicate (frontSize (M .fixed .degree)) zero64) ∙ length-replicate (frontSize (M .fixed .degree)) zero64
+
+  -- there is room for the field
+  start-fits : sized M (length start) ≡ sized M (2 * kind (M .fixed .degree))
+  unfolding atFits
+  start-fits =
+      let n : ℕ = 2 * kind (M .fixed .degree) in
+      ap (sized M) start-length ∙ rw (le-leb n (frontSize (M .fixed .degree)) (omega arith), le-leb n n (omega arith)) refl
+
+  coefficients-length : (k : ℕ) → length (coefficientsAt k M t) ≡ tri (M .fixed .degree + 1)
+  unfolding coefficientsAt
+  coefficients-length k =
+      let long = kind-long k M t in
+      by (sized M (2 * kind (M .fixed .degree))) (λ h. rw h long) (λ h. rw h (length-replicate _ zero64 ∙ long))
+
+  fit-coefficients : (k : ℕ) → sized M (2 * kind (M .fixed .degree)) ≡ true → coefficientsAt k M t ≡ kindAt k M t
+  unfolding coefficientsAt
+  fit-coefficients k h = simp h
+
+  unfit-coefficients : (k : ℕ) → sized M (2 * kind (M .fixed .degree)) ≡ false → coefficientsAt k M t ≡ replicate (tri (M .fixed .degree + 1)) zero64
+  unfolding coefficientsAt
+  unfit-coefficients k h = rw h (ap (λ (n : ℕ). replicate n zero64) (kind-long k M t))
+
+  -- the coefficients of both kinds, before the tables
+  front-holds : frontAt M t ≡ (coefficientsAt cosines M t ++ coefficientsAt (sines (M .fixed .degree)) M t) ++ drop (2 * tri (M .fixed .degree + 1)) start
+  unfolding frontAt
+  front-holds =
+      let n : ℕ = tri (M .fixed .degree + 1) in
+      let two : n + n ≡ 2 * n = omega arith in
+      by (sized M (2 * kind (M .fixed .degree)))
+      (λ h. fitting M t start (start-fits ∙ h)
+      ∙ (λ i. (sym (fit-coefficients cosines h) i ++ sym (fit-coefficients (sines (M .fixed .degree)) h) i) ++ drop (2 * n) start))
+      (λ h. unfitting M t start (start-fits ∙ h)
+      ∙ sym (take-append-drop (2 * n) start)
+      ∙ ap (λ (l : List Float). l ++ drop (2 * n) start)
+      (prepared-first (M .fixed .degree) (replicate (frontSize (M .fixed .degree)) zero64) ∙ some-zeros (frontSize (M .fixed .degree)) (2 * n) (omega arith)
+      ∙ ap (λ (m : ℕ). replicate m zero64) (sym two) ∙ sym (replicate-append-replicate n n zero64)
+      ∙ (λ i. sym (unfit-coefficients cosines h) i ++ sym (unfit-coefficients (sines (M .fixed .degree)) h) i)))
+
+  -- so the kernel's gravity is that of the field at t
+  pub front-gravity : (x : Vector) → gravityWith (M .fixed .degree) (gm (M .fixed .static)) (radius (M .fixed .static)) (M .fixed .a) (M .fixed .b) (frontAt M t) x ≡ gravityAt M t x
+  unfolding gravityAt
+  front-gravity x =
+      let N : ℕ = M .fixed .degree in
+      ap (λ (w : List Float). gravityWith N (gm (M .fixed .static)) (radius (M .fixed .static)) (M .fixed .a) (M .fixed .b) w x) front-holds
+      ∙ front-lent N (coefficientsAt cosines M t) (coefficientsAt (sines N) M t) start (coefficients-length cosines) (coefficients-length (sines N))
+      (λ h. prepared-prepared N (replicate (frontSize N) zero64) h (omega (arith, length-replicate (frontSize N) zero64)))
+      (gm (M .fixed .static)) (radius (M .fixed .static)) (M .fixed .a) (M .fixed .b) x
+
+-- ---- the part before the states, written anew
 
 module _ (n : ℕ) (w y : List Float) (h : n ≤ length w) (l : length y ≡ n) where
   zero-off : n - 0 ≡ n

@@ -70,7 +70,8 @@ pub not-stored : (s : List Float) (at : ℕ) (state : State) → length s ≤ at
 not-stored s at state h = record { position = λ e. absurd (omega arith); velocity = λ e. absurd (omega arith); only = only-same at (at + 6) s }
 
 -- one state more
-pub orbit-more : (s s' : List Float) (at : ℕ) (run : Run) (n : ℕ) (state : State) → Orbit s at run n → at + 6 * n + 6 ≤ length s → Stored s s' (at + 6 * n) state → state ≡ run n → Orbit s' at run (n + 1)
+pub orbit-more : (s s' : List Float) (at : ℕ) (run : Run) (n : ℕ) (state : State) → Orbit s at run n → at + 6 * n + 6 ≤ length s → Stored s s' (at + 6 * n) state → state ≡ run n
+    → Orbit s' at run (n + 1)
 orbit-more s s' at run n state o room w e = record {
   position = λ k h. by (eqb k n)
       (λ t. subst (λ (m : ℕ). Holds3 s' (at + 6 * m) (run m .position)) (sym (eqb-true k n t)) (subst (λ (x : State). Holds3 s' (at + 6 * n) (x .position)) e (w .position room)))
@@ -97,4 +98,11 @@ past l i k h e = List·getD-eq-default l nan h ∙ sym (List·getD-eq-default l 
 
 pub state-past : (l : List Float) (i : ℕ) → length l ≤ i → stateIn l (length l) ≡ stateIn l i
 unfolding stateIn
-state-past l i h = rw (past l (length l) i (omega arith) h, past l (length l + 1) (i + 1) (omega arith) (omega arith), past l (length l + 2) (i + 2) (omega arith) (omega arith), past l (length l + 3) (i + 3) (omega arith) (omega arith), past l (length l + 4) (i + 4) (omega arith) (omega arith), past l (length l + 5) (i + 5) (omega arith) (omega arith))
+state-past l i h = rw (
+  past l (length l) i (omega arith) h,
+  past l (length l + 1) (i + 1) (omega arith) (omega arith),
+  past l (length l + 2) (i + 2) (omega arith) (omega arith),
+  past l (length l + 3) (i + 3) (omega arith) (omega arith),
+  past l (length l + 4) (i + 4) (omega arith) (omega arith),
+  past l (length l + 5) (i + 5) (omega arith) (omega arith),
+)

@@ -1,53 +1,53 @@
--- The force that a run integrates (document 01, module 4; the closure of the source's `fit_orbit`): the attraction, by the full model with tides or by point mass and J₂,
--- then the fictitious and the empirical accelerations. Assumes nothing.
-use Prim.Native.Nat.{ℕ, _+_}
-use mathlib.Core.Bool.{Bool, _&&_}
+-- The force that a run integrates (document 01, module 4; the closure of the source's `fit_orbit`): the attraction, by the full model with tides or by point
+-- mass and J₂, then the fictitious and the empirical accelerations. Assumes nothing.
+use Prim.Native.Nat.{ℕ, _+_, _*_}
+use mathlib.Core.Bool.{Bool, cond, _&&_}
 use mathlib.Core.List.{List}
 use lib.Dec.{leb}
 use lib.Ieee.{Float, nan}
-use lib.ListN.{getD, replicate}
-use Rattle.inputs.specs.Inputs.{frontSize}
-use Rattle.laws.specs.Floats.{zero64}
+use lib.ListN.{getD}
+use Rattle.inputs.specs.Inputs.{Model, kind, frontSize}
+use Rattle.laws.specs.Loops.{cleared}
 use Rattle.laws.specs.Tables.{row}
 use Rattle.numbers.specs.Constants.{angleFrom}
 use Rattle.vectors.specs.Vector.{plus}
 use Rattle.vectors.specs.declared.Vector.{Vector}
-use Rattle.forces.specs.Forces.{j2Of, fictitiousOf, empiricalOf, tidesOf}
-use Rattle.model.specs.Field.{gm, radius}
-use Rattle.model.specs.Calls.{atLeft}
-use Rattle.legendre.specs.Prepared.{prepared}
-use Rattle.forces.specs.Forces.{gravityWith}
+use Rattle.forces.specs.Forces.{gravityLent, j2Of, fictitiousOf, empiricalOf, tidesOf}
+use Rattle.model.specs.Field.{gm, radius, cosines, sines}
+use Rattle.model.specs.Model.{kindAt}
+use Rattle.model.specs.Calls.{sized}
 use Rattle.integrate.specs.Steps.{Acceleration, stateAt}
 use Rattle.integrate.specs.Room.{runSize, Run, stateIn}
 use Rattle.integrate.specs.declared.kernel.Arc.{Arc}
 use Rattle.integrate.specs.declared.kernel.Force.{Force}
 use Rattle.integrate.specs.declared.kernel.Force.the-variants.{Full, J2}
 
--- the time-variable model: degree, static field, times of the added fields, these end to end
-pub record Model : Type 0 where
-  pub degree : ℕ
-  pub field : List Float
-  pub times : List Float
-  pub added : List Float
+-- the coefficients of one kind of the field at t, covered or not; all +0.0 where the model's lists are not those of its degree
+unfoldable pub coefficientsAt : ℕ → Model → Float → List Float
+coefficientsAt k M t =
+    let c = kindAt k M t in
+    cond (sized M (2 * kind (M .fixed .degree))) c (cleared c)
 
-abbrev pub model : ℕ → List Float → List Float → List Float → Model
-model N field times added = record { degree = N; field = field; times = times; added = added }
+-- the gravity of the field at t: with the Legendre tables that `Legendre::new` fills, that of the published series (proofs/Published)
+unfoldable pub gravityAt : Model → Float → Vector → Vector
+gravityAt M t x =
+    gravityLent (M .fixed .degree) (gm (M .fixed .static)) (radius (M .fixed .static)) (M .fixed .a) (M .fixed .b) (coefficientsAt cosines M t)
+    (coefficientsAt (sines (M .fixed .degree)) M t) x
 
--- the numbers before the states of a run at time t, covered or not
-unfoldable pub frontAt : Model → Float → List Float
-frontAt M t = atLeft (M .degree) (M .field) (M .times) (M .added) t (prepared (M .degree) (replicate (frontSize (M .degree)) zero64))
+-- with the tides: the full attraction, the field's gravity being a function of the time and the place
+abbrev pub fullBy : (Float → Vector → Vector) → Float → Vector → Vector
+fullBy gravity t x = plus (gravity t x) (tidesOf t x)
 
--- the gravity of the field at t, with the Legendre tables a and b: with those that `Legendre::new` fills, that of the published series (proofs/Published)
-abbrev pub gravityAt : Model → List Float → List Float → Float → Vector → Vector
-gravityAt M a b t x = gravityWith (M .degree) (gm (M .field)) (radius (M .field)) a b (frontAt M t) x
+unfoldable pub fullForce : Model → Float → Vector → Vector
+fullForce M t x = fullBy (gravityAt M) t x
 
--- with the tides
-unfoldable pub fullForce : Model → List Float → List Float → Float → Vector → Vector
-fullForce M a b t x = plus (gravityAt M a b t x) (tidesOf t x)
+-- the force chosen: the full attraction, or point mass and J₂
+abbrev pub attractionBy : Force → (Float → Vector → Vector) → Float → Vector → Vector
+attractionBy Full full t x = full t x
+attractionBy J2 full t x = j2Of x
 
-unfoldable pub attractionOf : Force → Model → List Float → List Float → Float → Vector → Vector
-attractionOf Full M a b t x = fullForce M a b t x
-attractionOf J2 M a b t x = j2Of x
+unfoldable pub attractionOf : Force → Model → Float → Vector → Vector
+attractionOf force M t x = attractionBy force (fullForce M) t x
 
 -- the angle from the node at a time
 unfoldable pub argumentOf : Arc → Float → Float

@@ -1,4 +1,5 @@
--- The classical Runge–Kutta rule for ẍ = a(t, x, v) in steps of 2 s (document 01, module 4; the source's `integrate`), and the state after k steps. Assumes nothing.
+-- The classical Runge–Kutta rule for ẍ = a(t, x, v) in steps of 2 s (document 01, module 4; the source's `integrate`), and the state after k steps.
+-- Assumes nothing.
 use Prim.Native.Nat.{ℕ, zero, suc}
 use lib.Ieee.{Float}
 use Rattle.laws.specs.Floats.{_⊕_, _⊘_, two64}

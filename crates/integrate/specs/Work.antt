@@ -4,9 +4,12 @@ use mathlib.Core.Bool.{Bool, true, false}
 use mathlib.Core.List.{List}
 use Prim.Native.Nat.{ℕ, _+_, _*_, _≤_, _<_}
 use lib.Ieee.{Float, nan}
-use lib.ListN.{length, take, getD}
-use Rattle.inputs.specs.Inputs.{frontSize}
+use lib.ListN.{length, take, getD, replicate}
+use Rattle.inputs.specs.Inputs.{Model, frontSize}
+use Rattle.laws.specs.Floats.{zero64}
 use Rattle.vectors.specs.declared.Vector.{Vector}
+use Rattle.legendre.specs.Prepared.{prepared}
+use Rattle.model.specs.Calls.{atLeft}
 use Rattle.forces.specs.Forces.{momentOf}
 use Rattle.integrate.specs.declared.kernel.State.{State}
 use Rattle.integrate.specs.declared.kernel.Instant.{Instant}
@@ -14,12 +17,16 @@ use Rattle.integrate.specs.declared.kernel.Push.{Push}
 use Rattle.integrate.specs.declared.kernel.Stepped.{Stepped}
 use Rattle.integrate.specs.declared.kernel.Force.{Force}
 use Rattle.integrate.specs.declared.kernel.Force.the-variants.{Full}
-use Rattle.integrate.specs.Force.{Model, frontAt, fullForce, runFits}
+use Rattle.integrate.specs.Force.{fullForce, runFits}
 use Rattle.integrate.specs.Room.{runSize, Run, Only, Holds3, Orbit, flat}
+
+-- the numbers before the states of a run at time t: the field's coefficients, and the tables that the degree alone gives
+unfoldable pub frontAt : Model → Float → List Float
+frontAt M t = atLeft M t (prepared (M .fixed .degree) (replicate (frontSize (M .fixed .degree)) zero64))
 
 -- the numbers before the states are those of an instant, and so are Sun, Moon and tide
 pub record Ready (M : Model) (w : List Float) (known : Instant) : Type 0 where
-  pub front : take (frontSize (M .degree)) w ≡ frontAt M (known .time)
+  pub front : take (frontSize (M .fixed .degree)) w ≡ frontAt M (known .time)
   pub sky : known .moment ≡ momentOf (known .time)
 
 -- needed for the full force only
@@ -30,25 +37,25 @@ ReadyFor force M w known = force ≡ Full → Ready M w known
 pub record Refreshed (M : Model) (w w' : List Float) (known : Instant) (t : Float) (r : Instant) : Type 0 where
   pub ready : Ready M w known → Ready M w' r
   pub time : r .time ≡ t
-  pub only : Only 0 (frontSize (M .degree)) w w'
+  pub only : Only 0 (frontSize (M .fixed .degree)) w w'
 
 -- the full attraction at t
-pub record Pulled (M : Model) (a b : List Float) (w w' : List Float) (known : Instant) (t : Float) (x : Vector) (r : Push) : Type 0 where
+pub record Pulled (M : Model) (w w' : List Float) (known : Instant) (t : Float) (x : Vector) (r : Push) : Type 0 where
   pub ready : Ready M w known → Ready M w' (r .known)
-  pub pull : Ready M w known → r .pull ≡ fullForce M a b t x
-  pub only : Only 0 (frontSize (M .degree)) w w'
+  pub pull : Ready M w known → r .pull ≡ fullForce M t x
+  pub only : Only 0 (frontSize (M .fixed .degree)) w w'
 
 -- an acceleration, by the force chosen
 pub record Pushed (force : Force) (M : Model) (w w' : List Float) (known : Instant) (value : Vector) (r : Push) : Type 0 where
   pub ready : ReadyFor force M w known → ReadyFor force M w' (r .known)
   pub pull : ReadyFor force M w known → r .pull ≡ value
-  pub only : Only 0 (frontSize (M .degree)) w w'
+  pub only : Only 0 (frontSize (M .fixed .degree)) w w'
 
 -- one step
 pub record Moved (force : Force) (M : Model) (w w' : List Float) (known : Instant) (value : State) (r : Stepped) : Type 0 where
   pub ready : ReadyFor force M w known → ReadyFor force M w' (r .known)
   pub state : ReadyFor force M w known → r .state ≡ value
-  pub only : Only 0 (frontSize (M .degree)) w w'
+  pub only : Only 0 (frontSize (M .fixed .degree)) w w'
 
 -- three numbers were put at a place, if they have room there
 pub record Placed (s s' : List Float) (at : ℕ) (v : Vector) : Type 0 where
@@ -73,7 +80,7 @@ pub record Advanced (force : Force) (M : Model) (w w' : List Float) (base k : �
 -- the first instant of a run
 pub record Begun (force : Force) (M : Model) (w w' : List Float) (r : Instant) : Type 0 where
   pub ready : ReadyFor force M w' r
-  pub only : Only 0 (frontSize (M .degree)) w w'
+  pub only : Only 0 (frontSize (M .fixed .degree)) w w'
 
 -- a run of so many steps
 pub record Flown (w w' : List Float) (base steps : ℕ) (run : Run) : Type 0 where

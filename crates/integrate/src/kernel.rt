@@ -11,8 +11,8 @@ ghost use Rattle.forces.specs.Forces.{momentOf};
 ghost use Rattle.model.specs.Calls.{atLeft};
 ghost use Rattle.legendre.specs.Prepared.{prepared};
 ghost use Rattle.integrate.specs.Steps.{alongOf, weighedOf, stepOf, stateAt};
-ghost use Rattle.inputs.specs.Inputs.{frontSize};
-ghost use Rattle.integrate.specs.Force.{model, attractionOf, argumentOf, accelerationOf, strengthsOf, runOf, runFits};
+ghost use Rattle.inputs.specs.Inputs.{frontSize, modelOf};
+ghost use Rattle.integrate.specs.Force.{attractionOf, argumentOf, accelerationOf, strengthsOf, runOf, runFits};
 ghost use Rattle.integrate.specs.Room.{runSize, stateIn, Only};
 ghost use Rattle.integrate.specs.Work.{Ready, Refreshed, Pulled, Pushed, Moved, Placed, Stored, Advanced, Begun, Flown, Fitting, Ran};
 
@@ -78,28 +78,20 @@ fn same_bits(a: f64, b: f64) -> bool
 }
 
 // The field at t and what the degree gives, over whatever stood there.
-fn fill(degree: usize, field: &[f64], times: &[f64], added: &[f64], t: f64, front: &mut [f64])
-    ensures { λ _. ⌜ now (front .exit) ≡ atLeft degree (now (field .entry)) (now (times .entry)) (now (added .entry)) t (prepared degree (cleared (now (front .entry)))) ⌝ }
+fn fill<'a>(degree: usize, model: inputs::Model<'a>, t: f64, front: &mut [f64])
+    ensures { λ _. ⌜ now (front .exit) ≡ atLeft (modelOf degree (model .entry)) t (prepared degree (cleared (now (front .entry)))) ⌝ }
 {
     slices::clear(front);
     fields::kernel::prepare(degree, front);
-    model::kernel::at(degree, field, times, added, t, front);
+    model::kernel::at(degree, model, t, front);
 }
 
 // The first instant of a run.
-fn open(
-    degree: usize,
-    field: &[f64],
-    times: &[f64],
-    added: &[f64],
-    t: f64,
-    base: usize,
-    w: &mut [f64],
-) -> Instant
+fn open<'a>(degree: usize, model: inputs::Model<'a>, t: f64, base: usize, w: &mut [f64]) -> Instant
     requires { ⌜ (base ≡ frontSize degree) × (base ≤ length (now w)) ⌝ }
-    ensures { λ r. ⌜ Ready (model degree (now (field .entry)) (now (times .entry)) (now (added .entry))) (now (w .exit)) r × Only 0 (frontSize degree) (now (w .entry)) (now (w .exit)) ⌝ }
+    ensures { λ r. ⌜ Ready (modelOf degree (model .entry)) (now (w .exit)) r × Only 0 (frontSize degree) (now (w .entry)) (now (w .exit)) ⌝ }
 {
-    fill(degree, field, times, added, t, &mut w[0..base]);
+    fill(degree, model, t, &mut w[0..base]);
     Instant {
         time: t,
         moment: forces::kernel::sky_at(t),
@@ -107,23 +99,21 @@ fn open(
 }
 
 // The instant of t; what is known stays where t is the same to the bit.
-fn refresh(
+fn refresh<'a>(
     degree: usize,
-    field: &[f64],
-    times: &[f64],
-    added: &[f64],
+    model: inputs::Model<'a>,
     known: Instant,
     t: f64,
     base: usize,
     w: &mut [f64],
 ) -> Instant
     requires { ⌜ (base ≡ frontSize degree) × (base ≤ length (now w)) ⌝ }
-    ensures { λ r. ⌜ Refreshed (model degree (now (field .entry)) (now (times .entry)) (now (added .entry))) (now (w .entry)) (now (w .exit)) known t r ⌝ }
+    ensures { λ r. ⌜ Refreshed (modelOf degree (model .entry)) (now (w .entry)) (now (w .exit)) known t r ⌝ }
 {
     if same_bits(known.time, t) {
         return known;
     }
-    model::kernel::at(degree, field, times, added, t, &mut w[0..base]);
+    model::kernel::at(degree, model, t, &mut w[0..base]);
     Instant {
         time: t,
         moment: forces::kernel::sky_at(t),
@@ -131,13 +121,9 @@ fn refresh(
 }
 
 // The full model's attraction with the tides.
-fn full_pull(
+fn full_pull<'a>(
     degree: usize,
-    field: &[f64],
-    a: &[f64],
-    b: &[f64],
-    times: &[f64],
-    added: &[f64],
+    model: inputs::Model<'a>,
     known: Instant,
     t: f64,
     x: vectors::Vector,
@@ -145,15 +131,16 @@ fn full_pull(
     w: &mut [f64],
 ) -> Push
     requires { ⌜ (base ≡ frontSize degree) × (base ≤ length (now w)) ⌝ }
-    ensures { λ r. ⌜ Pulled (model degree (now (field .entry)) (now (times .entry)) (now (added .entry))) (now (a .entry)) (now (b .entry)) (now (w .entry)) (now (w .exit)) known t x r ⌝ }
+    ensures { λ r. ⌜ Pulled (modelOf degree (model .entry)) (now (w .entry)) (now (w .exit)) known t x r ⌝ }
 {
-    let here = refresh(degree, field, times, added, known, t, base, w);
+    let here = refresh(degree, model, known, t, base, w);
+    let field = model[inputs::STATIC];
     let g = forces::kernel::gravity(
         degree,
         element(field, 0),
         element(field, 1),
-        a,
-        b,
+        model[inputs::TABLE_A],
+        model[inputs::TABLE_B],
         &w[0..base],
         x,
     );
@@ -162,14 +149,10 @@ fn full_pull(
     Push { known: here, pull }
 }
 
-fn attraction(
+fn attraction<'a>(
     force: Force,
     degree: usize,
-    field: &[f64],
-    a: &[f64],
-    b: &[f64],
-    times: &[f64],
-    added: &[f64],
+    model: inputs::Model<'a>,
     known: Instant,
     t: f64,
     x: vectors::Vector,
@@ -177,10 +160,11 @@ fn attraction(
     w: &mut [f64],
 ) -> Push
     requires { ⌜ (base ≡ frontSize degree) × (base ≤ length (now w)) ⌝ }
-    ensures { λ r. ⌜ Pushed force (model degree (now (field .entry)) (now (times .entry)) (now (added .entry))) (now (w .entry)) (now (w .exit)) known (attractionOf force (model degree (now (field .entry)) (now (times .entry)) (now (added .entry))) (now (a .entry)) (now (b .entry)) t x) r ⌝ }
+    ensures { λ r. ⌜ Pushed force (modelOf degree (model .entry)) (now (w .entry)) (now (w .exit)) known
+        (attractionOf force (modelOf degree (model .entry)) t x) r ⌝ }
 {
     match force {
-        Force::Full => full_pull(degree, field, a, b, times, added, known, t, x, base, w),
+        Force::Full => full_pull(degree, model, known, t, x, base, w),
         Force::J2 => {
             let pull = forces::kernel::j2_gravity(x);
             Push { known, pull }
@@ -195,14 +179,10 @@ fn argument(arc: Arc, t: f64) -> f64
     2.0 * PI * (t - arc.node) / arc.period
 }
 
-fn acceleration(
+fn acceleration<'a>(
     force: Force,
     degree: usize,
-    field: &[f64],
-    a: &[f64],
-    b: &[f64],
-    times: &[f64],
-    added: &[f64],
+    model: inputs::Model<'a>,
     arc: Arc,
     e: [f64; 9],
     known: Instant,
@@ -213,22 +193,10 @@ fn acceleration(
     w: &mut [f64],
 ) -> Push
     requires { ⌜ (base ≡ frontSize degree) × (base ≤ length (now w)) ⌝ }
-    ensures { λ r. ⌜ Pushed force (model degree (now (field .entry)) (now (times .entry)) (now (added .entry))) (now (w .entry)) (now (w .exit)) known (accelerationOf (attractionOf force (model degree (now (field .entry)) (now (times .entry)) (now (added .entry))) (now (a .entry)) (now (b .entry))) arc e t x v) r ⌝ }
+    ensures { λ r. ⌜ Pushed force (modelOf degree (model .entry)) (now (w .entry)) (now (w .exit)) known
+        (accelerationOf (attractionOf force (modelOf degree (model .entry))) arc e t x v) r ⌝ }
 {
-    let g = attraction(
-        force,
-        degree,
-        field,
-        a,
-        b,
-        times,
-        added,
-        known,
-        t,
-        x,
-        base,
-        w,
-    );
+    let g = attraction(force, degree, model, known, t, x, base, w);
     let f = forces::kernel::fictitious(x, v);
     let p = forces::kernel::empirical(x, v, argument(arc, t), e);
     let here = g.known;
@@ -259,14 +227,10 @@ fn weighed(
 }
 
 // One step by the classical Runge-Kutta rule.
-fn step(
+fn step<'a>(
     force: Force,
     degree: usize,
-    field: &[f64],
-    a: &[f64],
-    b: &[f64],
-    times: &[f64],
-    added: &[f64],
+    model: inputs::Model<'a>,
     arc: Arc,
     e: [f64; 9],
     known: Instant,
@@ -276,28 +240,13 @@ fn step(
     w: &mut [f64],
 ) -> Stepped
     requires { ⌜ (base ≡ frontSize degree) × (base ≤ length (now w)) ⌝ }
-    ensures { λ r. ⌜ Moved force (model degree (now (field .entry)) (now (times .entry)) (now (added .entry))) (now (w .entry)) (now (w .exit)) known (stepOf (accelerationOf (attractionOf force (model degree (now (field .entry)) (now (times .entry)) (now (added .entry))) (now (a .entry)) (now (b .entry))) arc e) t s) r ⌝ }
+    ensures { λ r. ⌜ Moved force (modelOf degree (model .entry)) (now (w .entry)) (now (w .exit)) known
+        (stepOf (accelerationOf (attractionOf force (modelOf degree (model .entry))) arc e) t s) r ⌝ }
 {
     let h = STEP;
     let x = s.position;
     let v = s.velocity;
-    let p1 = acceleration(
-        force,
-        degree,
-        field,
-        a,
-        b,
-        times,
-        added,
-        arc,
-        e,
-        known,
-        t,
-        x,
-        v,
-        base,
-        w,
-    );
+    let p1 = acceleration(force, degree, model, arc, e, known, t, x, v, base, w);
     let a1 = p1.pull;
     let x2 = along(x, v, h / 2.0);
     let v2 = along(v, a1, h / 2.0);
@@ -305,11 +254,7 @@ fn step(
     let p2 = acceleration(
         force,
         degree,
-        field,
-        a,
-        b,
-        times,
-        added,
+        model,
         arc,
         e,
         k1,
@@ -326,11 +271,7 @@ fn step(
     let p3 = acceleration(
         force,
         degree,
-        field,
-        a,
-        b,
-        times,
-        added,
+        model,
         arc,
         e,
         k2,
@@ -344,23 +285,7 @@ fn step(
     let x4 = along(x, v3, h);
     let v4 = along(v, a3, h);
     let k3 = p3.known;
-    let p4 = acceleration(
-        force,
-        degree,
-        field,
-        a,
-        b,
-        times,
-        added,
-        arc,
-        e,
-        k3,
-        t + h,
-        x4,
-        v4,
-        base,
-        w,
-    );
+    let p4 = acceleration(force, degree, model, arc, e, k3, t + h, x4, v4, base, w);
     let a4 = p4.pull;
     let position = along(x, weighed(v, v2, v3, v4), h / 6.0);
     let velocity = along(v, weighed(a1, a2, a3, a4), h / 6.0);
@@ -431,14 +356,10 @@ pub fn put_state(w: &mut [f64], at: usize, s: State)
 }
 
 // Step k of a run: the next state, stored at its place.
-fn advance(
+fn advance<'a>(
     force: Force,
     degree: usize,
-    field: &[f64],
-    a: &[f64],
-    b: &[f64],
-    times: &[f64],
-    added: &[f64],
+    model: inputs::Model<'a>,
     arc: Arc,
     e: [f64; 9],
     known: Instant,
@@ -448,46 +369,30 @@ fn advance(
     w: &mut [f64],
 ) -> Stepped
     requires { ⌜ (k < 5302) × (base ≡ frontSize degree) × (base ≤ 131768) × (base + runSize ≤ length (now w)) ⌝ }
-    ensures { λ r. ⌜ Advanced force (model degree (now (field .entry)) (now (times .entry)) (now (added .entry))) (now (w .entry)) (now (w .exit)) base k known (stepOf (accelerationOf (attractionOf force (model degree (now (field .entry)) (now (times .entry)) (now (added .entry))) (now (a .entry)) (now (b .entry))) arc e) (stepTime (arc .t0) k) s) r ⌝ }
+    ensures { λ r. ⌜ Advanced force (modelOf degree (model .entry)) (now (w .entry)) (now (w .exit)) base k known
+        (stepOf (accelerationOf (attractionOf force (modelOf degree (model .entry))) arc e) (stepTime (arc .t0) k) s) r ⌝ }
 {
     let t = time(arc.t0, k);
-    let next = step(
-        force,
-        degree,
-        field,
-        a,
-        b,
-        times,
-        added,
-        arc,
-        e,
-        known,
-        t,
-        s,
-        base,
-        w,
-    );
+    let next = step(force, degree, model, arc, e, known, t, s, base, w);
     let state = next.state;
     put_state(w, base + 6 * (k + 1), state);
     next
 }
 
 // The instant that a run begins with; the force without a model needs none.
-fn begin(
+fn begin<'a>(
     force: Force,
     degree: usize,
-    field: &[f64],
-    times: &[f64],
-    added: &[f64],
+    model: inputs::Model<'a>,
     t: f64,
     base: usize,
     w: &mut [f64],
 ) -> Instant
     requires { ⌜ (base ≡ frontSize degree) × (base ≤ length (now w)) ⌝ }
-    ensures { λ r. ⌜ Begun force (model degree (now (field .entry)) (now (times .entry)) (now (added .entry))) (now (w .entry)) (now (w .exit)) r ⌝ }
+    ensures { λ r. ⌜ Begun force (modelOf degree (model .entry)) (now (w .entry)) (now (w .exit)) r ⌝ }
 {
     match force {
-        Force::Full => open(degree, field, times, added, t, base, w),
+        Force::Full => open(degree, model, t, base, w),
         Force::J2 => Instant {
             time: t,
             moment: forces::kernel::sky_at(t),
@@ -495,14 +400,10 @@ fn begin(
     }
 }
 
-fn run_from(
+fn run_from<'a>(
     force: Force,
     degree: usize,
-    field: &[f64],
-    a: &[f64],
-    b: &[f64],
-    times: &[f64],
-    added: &[f64],
+    model: inputs::Model<'a>,
     arc: Arc,
     e: [f64; 9],
     start: State,
@@ -510,28 +411,14 @@ fn run_from(
     w: &mut [f64],
 )
     requires { ⌜ (arc .steps ≤ 5302) × (base ≡ frontSize degree) × (base ≤ 131768) × (base + runSize ≤ length (now w)) ⌝ }
-    ensures { λ _. ⌜ Flown (now (w .entry)) (now (w .exit)) base (arc .steps) (stateAt (accelerationOf (attractionOf force (model degree (now (field .entry)) (now (times .entry)) (now (added .entry))) (now (a .entry)) (now (b .entry))) arc e) (arc .t0) start) ⌝ }
+    ensures { λ _. ⌜ Flown (now (w .entry)) (now (w .exit)) base (arc .steps)
+        (stateAt (accelerationOf (attractionOf force (modelOf degree (model .entry))) arc e) (arc .t0) start) ⌝ }
 {
-    let mut known = begin(force, degree, field, times, added, arc.t0, base, w);
+    let mut known = begin(force, degree, model, arc.t0, base, w);
     let mut state = start;
     put_state(w, base, state);
     for k in 0..arc.steps {
-        let next = advance(
-            force,
-            degree,
-            field,
-            a,
-            b,
-            times,
-            added,
-            arc,
-            e,
-            known,
-            k,
-            state,
-            base,
-            w,
-        );
+        let next = advance(force, degree, model, arc, e, known, k, state, base, w);
         known = next.known;
         state = next.state;
     }
@@ -567,37 +454,21 @@ fn run_fits(degree: usize, steps: usize, room: usize) -> bool
 }
 
 // The states of a run from the first six parameters, behind the numbers before them; nothing is done where they do not fit.
-pub fn run(
+pub fn run<'a>(
     force: Force,
     degree: usize,
-    field: &[f64],
-    a: &[f64],
-    b: &[f64],
-    times: &[f64],
-    added: &[f64],
+    model: inputs::Model<'a>,
     arc: Arc,
     parameters: [f64; 15],
     w: &mut [f64],
 )
-    ensures { λ _. ⌜ Ran (runFits degree (arc .steps) (length (now (w .entry)))) (now (w .entry)) (now (w .exit)) (frontSize degree) (arc .steps) (runOf (attractionOf force (model degree (now (field .entry)) (now (times .entry)) (now (added .entry))) (now (a .entry)) (now (b .entry))) arc parameters) ⌝ }
+    ensures { λ _. ⌜ Ran (runFits degree (arc .steps) (length (now (w .entry)))) (now (w .entry)) (now (w .exit)) (frontSize degree) (arc .steps)
+        (runOf (attractionOf force (modelOf degree (model .entry))) arc parameters) ⌝ }
 {
     if run_fits(degree, arc.steps, w.len()) {
         let base = base_of(degree);
         let e = strengths(parameters);
         let start = state_in(&parameters, 0);
-        run_from(
-            force,
-            degree,
-            field,
-            a,
-            b,
-            times,
-            added,
-            arc,
-            e,
-            start,
-            base,
-            w,
-        );
+        run_from(force, degree, model, arc, e, start, base, w);
     }
 }

@@ -7,8 +7,8 @@ ghost use Prim.Native.Nat.{_+_, _*_, _≤_};
 ghost use lib.ListN.{length};
 ghost use Rattle.slices.specs.Calls.{left};
 ghost use Rattle.integrate.specs.Work.{Listed};
-ghost use Rattle.inputs.specs.Inputs.{frontSize};
-ghost use Rattle.integrate.specs.Force.{model, attractionOf, runOf};
+ghost use Rattle.inputs.specs.Inputs.{frontSize, modelOf};
+ghost use Rattle.integrate.specs.Force.{attractionOf, runOf};
 ghost use Rattle.integrate.specs.Room.{runSize};
 ghost use Rattle.integrate.specs.Calls.{isStart, outFits, arcFits, refusal as refusalOf, integrateCall};
 
@@ -41,110 +41,70 @@ pub fn arc_fine(arc: kernel::Arc) -> bool
     slices::both(times, numbers::is_finite(arc.period))
 }
 
-fn refusal(
+fn refusal<'a>(
     degree: usize,
-    field: &[f64],
-    a: &[f64],
-    b: &[f64],
-    times: &[f64],
-    added: &[f64],
+    model: inputs::Model<'a>,
     arc: kernel::Arc,
     p: [f64; 15],
     out: usize,
     scratch: usize,
 ) -> u8
-    ensures { λ r. ⌜ r ≡ refusalOf degree (now (field .entry)) (now (a .entry)) (now (b .entry)) (now (times .entry)) (now (added .entry)) arc p out scratch ⌝ }
+    ensures { λ r. ⌜ r ≡ refusalOf (modelOf degree (model .entry)) arc p out scratch ⌝ }
 {
-    let fields = times.len();
-    let counts = slices::both(inputs::fields_fine(fields), arc.steps <= 5302);
-    let lists = inputs::lengths_fit(
-        degree,
-        fields,
-        field.len(),
-        added.len(),
-        a.len(),
-        b.len(),
-        scratch,
-    );
+    let times = model[inputs::FIELD_TIMES];
+    let counts = slices::both(inputs::fields_fine(times.len()), arc.steps <= 5302);
+    let lists = inputs::sizes_fit(degree, model, scratch);
     let lengths = slices::both(lists, out_fits(arc.steps, out));
     let numbers = slices::both(arc_fine(arc), slices::all_finite(&p));
-    let values = slices::both(inputs::model_fine(field, a, b, times, added), numbers);
+    let values = slices::both(inputs::model_fine(model), numbers);
     inputs::first_of(
         inputs::degree_fine(degree),
         counts,
         lengths,
         values,
         slices::rising(times),
+        0,
     )
 }
 
 // The states of the run, six numbers each, into out.
-fn states_of(
+fn states_of<'a>(
     force: kernel::Force,
     degree: usize,
-    field: &[f64],
-    a: &[f64],
-    b: &[f64],
-    times: &[f64],
-    added: &[f64],
+    model: inputs::Model<'a>,
     arc: kernel::Arc,
     p: [f64; 15],
     out: &mut [f64],
     scratch: &mut [f64],
 )
     requires { ⌜ (degree ≤ 180) × (arc .steps ≤ 5302) × (frontSize degree + runSize ≤ length (now scratch)) × (length (now out) ≡ 6 * (arc .steps + 1)) ⌝ }
-    ensures { λ _. ⌜ Listed (runOf (attractionOf force (model degree (now (field .entry)) (now (times .entry)) (now (added .entry))) (now (a .entry)) (now (b .entry))) arc p) (arc .steps + 1) (now (out .exit)) (now (scratch .entry)) (now (scratch .exit)) ⌝ }
+    ensures { λ _. ⌜ Listed (runOf (attractionOf force (modelOf degree (model .entry))) arc p) (arc .steps + 1) (now (out .exit)) (now (scratch .entry))
+        (now (scratch .exit)) ⌝ }
 {
-    kernel::run(force, degree, field, a, b, times, added, arc, p, scratch);
+    kernel::run(force, degree, model, arc, p, scratch);
     let base = inputs::front_size(degree);
     let end = base + 6 * (arc.steps + 1);
     slices::copy(&scratch[base..end], out);
 }
 
 // The states at t0, t0 + 2 s and so on, under the force chosen: position, velocity, from the first six parameters; the other nine are the empirical ones.
-pub fn integrate(
+pub fn integrate<'a>(
     force: kernel::Force,
     degree: usize,
-    field: &[f64],
-    a: &[f64],
-    b: &[f64],
-    times: &[f64],
-    added: &[f64],
+    model: inputs::Model<'a>,
     arc: kernel::Arc,
     p: [f64; 15],
     out: &mut [f64],
     scratch: &mut [f64],
 ) -> slices::Outcome
-    ensures { λ r. ⌜ left r (now (out .exit) ∷ []) (now (scratch .exit)) ≡ integrateCall force degree (now (field .entry)) (now (a .entry)) (now (b .entry)) (now (times .entry)) (now (added .entry)) arc p (now (out .entry)) (now (scratch .entry)) ⌝ }
+    ensures { λ r. ⌜ left r (now (out .exit) ∷ []) (now (scratch .exit)) ≡ integrateCall force (modelOf degree (model .entry)) arc p (now (out .entry))
+        (now (scratch .entry)) ⌝ }
 {
-    let refused = refusal(
-        degree,
-        field,
-        a,
-        b,
-        times,
-        added,
-        arc,
-        p,
-        out.len(),
-        scratch.len(),
-    );
+    let refused = refusal(degree, model, arc, p, out.len(), scratch.len());
     if refused != 0 {
         return slices::Outcome::Refused(refused);
     }
-    states_of(
-        force,
-        degree,
-        field,
-        a,
-        b,
-        times,
-        added,
-        arc,
-        p,
-        out,
-        scratch,
-    );
+    states_of(force, degree, model, arc, p, out, scratch);
     slices::clear(scratch);
     if slices::all_finite(&out[..]) {
         return slices::Outcome::Accepted;

@@ -25,7 +25,8 @@ front-test N r room e = by (leb N 180) (λ h. ap (λ (k : ℕ). leb N 180 && leb
 
 module _ (N : ℕ) (p q : List ℤ) (ts : List Float) (values good outtimes outraws room : ℕ) where
   pub serves-all : (r : ℕ) (b1 k1 k2 b2 b3 b4 b5 b6 t1 b7 b8 : Bool) → (N ≤ 180 → r ≡ frontSize N) → b1 ≡ (leb N 180 && leb r room) → k1 ≡ risingSeconds p → k2 ≡ risingSeconds q → b2 ≡ (k1 && k2) →
-      b3 ≡ (eqb values (length ts) && eqb good (length ts)) → b4 ≡ (eqb outtimes (length ts) && eqb outraws (length ts)) → b5 ≡ (b3 && b4) → b6 ≡ (b1 && b2) → t1 ≡ all isTime ts → b7 ≡ (t1 && b5) → b8 ≡ (b6 && b7) →
+      b3 ≡ (eqb values (length ts) && eqb good (length ts)) → b4 ≡ (eqb outtimes (length ts) && eqb outraws (length ts)) → b5 ≡ (b3 && b4) → b6 ≡ (b1 && b2) → t1 ≡ all isTime ts → b7 ≡ (t1 && b5)
+      → b8 ≡ (b6 && b7) →
       b8 ≡ gatherServes N p q ts values good outtimes outraws room
   unfolding gatherServes
   serves-all r b1 k1 k2 b2 b3 b4 b5 b6 t1 b7 b8 er e1 f1 f2 e2 e3 e4 e5 e6 et e7 e8 =
@@ -42,7 +43,8 @@ pub record Serving (N : ℕ) (p q : List ℤ) (ts : List Float) (v b o w n : ℕ
   pub outtimes : o ≡ length ts
   pub outraws : w ≡ length ts
 
-pub serving : (N : ℕ) (p q : List ℤ) (ts : List Float) (values good outtimes outraws room : ℕ) → gatherServes N p q ts values good outtimes outraws room ≡ true → Serving N p q ts values good outtimes outraws room
+pub serving : (N : ℕ) (p q : List ℤ) (ts : List Float) (values good outtimes outraws room : ℕ) → gatherServes N p q ts values good outtimes outraws room ≡ true
+    → Serving N p q ts values good outtimes outraws room
 unfolding gatherServes
 serving N p q ts values good outtimes outraws room h =
     let m : ℕ = length ts in
@@ -69,15 +71,17 @@ serving N p q ts values good outtimes outraws room h =
 -- ---- the work
 
 module _ (g : Given) (ts rs s : List Float) (base : ℕ)
-    (h : gatherServes (g .model .degree) (g .accC .keys) (g .accD .keys) (g .times) (length (g .values)) (length (g .good)) (length ts) (length rs) (length s) ≡ true)
-    (eb : Front (g .model .degree) base) where
-  serve : Serving (g .model .degree) (g .accC .keys) (g .accD .keys) (g .times) (length (g .values)) (length (g .good)) (length ts) (length rs) (length s)
-  serve = serving (g .model .degree) (g .accC .keys) (g .accD .keys) (g .times) (length (g .values)) (length (g .good)) (length ts) (length rs) (length s) h
+    (h : gatherServes (g .model .fixed .degree) (g .accs .c .keys) (g .accs .d .keys) (g .observed .obsTimes) (length (g .observed .values)) (length (g .observed .good)) (length ts) (length rs)
+    (length s) ≡ true)
+    (eb : Front (g .model .fixed .degree) base) where
+  serve : Serving (g .model .fixed .degree) (g .accs .c .keys) (g .accs .d .keys) (g .observed .obsTimes) (length (g .observed .values)) (length (g .observed .good)) (length ts) (length rs) (length s)
+  serve = serving (g .model .fixed .degree) (g .accs .c .keys) (g .accs .d .keys) (g .observed .obsTimes) (length (g .observed .values)) (length (g .observed .good)) (length ts) (length rs) (length s)
+      h
 
-  base-is : base ≡ frontSize (g .model .degree)
+  base-is : base ≡ frontSize (g .model .fixed .degree)
   base-is = eb .0 (serve .degree)
 
-  pub started : (ts' rs' s' : List Float) → ts' ≡ replicate (length ts) zero64 → rs' ≡ replicate (length rs) zero64 → Opened (g .model .degree) base s s' → SoFar g base 0 s' ts' rs' s' 0
+  pub started : (ts' rs' s' : List Float) → ts' ≡ replicate (length ts) zero64 → rs' ≡ replicate (length rs) zero64 → Opened (g .model .fixed .degree) base s s' → SoFar g base 0 s' ts' rs' s' 0
   started ts' rs' s' et er o =
       let room : base ≤ length s = omega (arith, base-is, serve .room) in
       begins g base ts' rs' s' (length ts) (length rs)
@@ -91,11 +95,11 @@ module _ (g : Given) (ts rs s : List Float) (base : ℕ)
         outraws = ap length er ∙ length-replicate (length rs) zero64 ∙ serve .outraws;
         small = eb .1;
         room = omega (arith, room, o .only .long);
-        usable = o .usable base-is room (g .model .field) (g .model .times) (g .model .added);
+        usable = o .usable base-is room (g .model) refl;
       })
       (serve .outtimes) (serve .outraws) et er
 
-  pub finished : (s₁ s₂ ts' rs' : List Float) (r : ℕ) → Opened (g .model .degree) base s s₁ → Done g base s₁ s₂ ts' rs' r → Done g (frontSize (g .model .degree)) s s₂ ts' rs' r
+  pub finished : (s₁ s₂ ts' rs' : List Float) (r : ℕ) → Opened (g .model .fixed .degree) base s s₁ → Done g base s₁ s₂ ts' rs' r → Done g (frontSize (g .model .fixed .degree)) s s₂ ts' rs' r
   finished s₁ s₂ ts' rs' r o d =
       subst (λ (b : ℕ). Done g b s s₂ ts' rs' r) base-is
       (record { long = d .long ∙ o .only .long; is = λ x y st. d .is x y (stand-stays g base s s₁ x y (o .only) st) })
@@ -103,7 +107,7 @@ module _ (g : Given) (ts rs s : List Float) (base : ℕ)
 -- ---- the call
 
 module _ (g : Given) (ok serves : Bool) (e : ok ≡ serves) (ts rs s : List Float) where
-  pub gathered : (ts' rs' s' : List Float) (r : ℕ) → ok ≡ true → Done g (frontSize (g .model .degree)) s s' ts' rs' r → Gathered g serves ts rs s ts' rs' s' r
+  pub gathered : (ts' rs' s' : List Float) (r : ℕ) → ok ≡ true → Done g (frontSize (g .model .fixed .degree)) s s' ts' rs' r → Gathered g serves ts rs s ts' rs' s' r
   gathered ts' rs' s' r h d = record {
     long = d .long;
     is = λ k x y sc sd. d .is x y (record { ofC = sc; ofD = sd });

@@ -21,13 +21,13 @@ use Rattle.windows.specs.Stage.{heldOf}
 use Rattle.windows.specs.Windows.{slotAt}
 use Rattle.windows.proofs.Filling.{slot-same}
 use Rattle.slots.specs.LookUp.{joined, Shelved, Looked}
-use Rattle.epoch.specs.Kept.{Keyed, numbers}
+use Rattle.epoch.specs.Kept.{numbers}
 use Rattle.epoch.specs.Work.{givenState, givenNumber, sightingFrom}
 use Rattle.epoch.specs.declared.StateFound.{StateFound}
 use Rattle.epoch.specs.declared.NumberFound.{NumberFound}
 use Rattle.epoch.specs.declared.Sighting.{Sighting}
 use Rattle.kept_epochs.specs.KeptEpochs.{Given, Stand, foundOf, Found}
-use Rattle.inputs.specs.Inputs.{windowRoom, slotRoom, fitRoom}
+use Rattle.inputs.specs.Inputs.{windowRoom, slotRoom, fitRoom, Pair}
 
 -- ---- the whole second of a time is a key
 
@@ -56,16 +56,17 @@ held-found : (o : Option State) → foundOf (heldOf o) ≡ givenState o
 held-found none = refl
 held-found (some x) = refl
 
-module _ (first windows : ℕ) (accC accD : Keyed) (s : List Float) (t : Float) (k : ℤ) (ek : k ≡ wholeSecond t) where
-  state-found : (at : ℕ) (h : Held) (x : StateFound) → Looked s at windows k h → x ≡ foundOf h → isTime t ≡ true → (c : ℕ → Table State) → Shelved s at c windows → x ≡ givenState (find (wholeSecond t) (joined c windows))
+module _ (first windows : ℕ) (accs : Pair) (s : List Float) (t : Float) (k : ℤ) (ek : k ≡ wholeSecond t) where
+  state-found : (at : ℕ) (h : Held) (x : StateFound) → Looked s at windows k h → x ≡ foundOf h → isTime t ≡ true → (c : ℕ → Table State) → Shelved s at c windows
+      → x ≡ givenState (find (wholeSecond t) (joined c windows))
   state-found at h x l e tm c st =
       e ∙ ap foundOf (l .is c (ap isKey ek ∙ key-second t tm) st) ∙ held-found (find k (joined c windows)) ∙ ap (λ (k : ℤ). givenState (find k (joined c windows))) ek
 
   pub found : (h₁ h₂ : Held) (x y : StateFound) (p q : NumberFound) (r : Sighting) → Looked s first windows k h₁ → x ≡ foundOf h₁ → Looked s (first + slotRoom) windows k h₂ → y ≡ foundOf h₂ →
-      p ≡ givenNumber (find k (numbers accC)) → q ≡ givenNumber (find k (numbers accD)) → r ≡ sightingFrom x y p q → Found first windows accC accD s t r
+      p ≡ givenNumber (find k (numbers (accs .c))) → q ≡ givenNumber (find k (numbers (accs .d))) → r ≡ sightingFrom x y p q → Found first windows accs s t r
   found h₁ h₂ x y p q r l₁ e₁ l₂ e₂ ep eq er = record {
     is = λ tm c d sc sd. er ∙ (λ i. sightingFrom (state-found first h₁ x l₁ e₁ tm c sc i) (state-found (first + slotRoom) h₂ y l₂ e₂ tm d sd i)
-        ((ep ∙ ap (λ (k : ℤ). givenNumber (find k (numbers accC))) ek) i) ((eq ∙ ap (λ (k : ℤ). givenNumber (find k (numbers accD))) ek) i));
+        ((ep ∙ ap (λ (k : ℤ). givenNumber (find k (numbers (accs .c)))) ek) i) ((eq ∙ ap (λ (k : ℤ). givenNumber (find k (numbers (accs .d)))) ek) i));
   }
 
 -- ---- slots behind a change stay
@@ -84,8 +85,10 @@ stand-stays g base s s' c d o st = record {
 }
 
 -- the first slots, as the code has them
-pub stand-found : (g : Given) (base : ℕ) (s : List Float) (t : Float) (r : Sighting) (c d : ℕ → Table State) → Found (base + fitRoom) (g .windows) (g .accC) (g .accD) s t r → isTime t ≡ true → Stand g base s c d →
-    r ≡ sightingFrom (givenState (find (wholeSecond t) (joined c (g .windows)))) (givenState (find (wholeSecond t) (joined d (g .windows)))) (givenNumber (find (wholeSecond t) (numbers (g .accC)))) (givenNumber (find (wholeSecond t) (numbers (g .accD))))
+pub stand-found : (g : Given) (base : ℕ) (s : List Float) (t : Float) (r : Sighting) (c d : ℕ → Table State) → Found (base + fitRoom) (g .windows) (g .accs) s t r → isTime t ≡ true
+    → Stand g base s c d →
+    r ≡ sightingFrom (givenState (find (wholeSecond t) (joined c (g .windows)))) (givenState (find (wholeSecond t) (joined d (g .windows)))) (givenNumber (find (wholeSecond t) (numbers (g .accs .c))))
+    (givenNumber (find (wholeSecond t) (numbers (g .accs .d))))
 stand-found g base s t r c d f tm st =
     let ec : slotAt base 0 0 ≡ base + fitRoom = omega arith in
     let ed : slotAt base 1 0 ≡ base + fitRoom + slotRoom = omega arith in

@@ -65,21 +65,21 @@ module _ (made : Made) (count r : ℕ) (ts rs ts' rs' : List Float) (ad : Added 
 
 -- ---- a turn
 
-pub room-left : (g : Given) (base i count : ℕ) (ts rs s : List Float) → Able g base ts rs s → i < length (g .times) → count ≤ i → (count < length ts) × (count < length rs)
+pub room-left : (g : Given) (base i count : ℕ) (ts rs s : List Float) → Able g base ts rs s → i < length (g .observed .obsTimes) → count ≤ i → (count < length ts) × (count < length rs)
 room-left g base i count ts rs s a h k = (omega (arith, a .outtimes), omega (arith, a .outraws))
 
-module _ (g : Given) (base i count : ℕ) (ts rs s : List Float) (hi : i < length (g .times)) (t v : Float) (byte : ℕ)
-    (et : t ≡ getD (g .times) i nan) (ev : v ≡ getD (g .values) i nan) (eb : byte ≡ getD (g .good) i 0)
-    (r : Sighting) (f : Found (base + fitRoom) (g .windows) (g .accC) (g .accD) s t r) (made : Made) (s' : List Float)
-    (tried : Tried (g .model) (g .a) (g .b) (observation t v byte) base r s s' made) (room : base ≤ length s) where
+module _ (g : Given) (base i count : ℕ) (ts rs s : List Float) (hi : i < length (g .observed .obsTimes)) (t v : Float) (byte : ℕ)
+    (et : t ≡ getD (g .observed .obsTimes) i nan) (ev : v ≡ getD (g .observed .values) i nan) (eb : byte ≡ getD (g .observed .good) i 0)
+    (r : Sighting) (f : Found (base + fitRoom) (g .windows) (g .accs) s t r) (made : Made) (s' : List Float)
+    (tried : Tried (g .model) (observation t v byte) base r s s' made) (room : base ≤ length s) where
   abbrev observed : Observation
-  observed = seen (g .times) (g .values) (g .good) i
+  observed = seen (g .observed .obsTimes) (g .observed .values) (g .observed .good) i
 
   -- what was made is the epoch that is kept, or none
   made-is : Able g base ts rs s → (c d : ℕ → Table State) → Stand g base s c d → made ≡ madeOf (epochIn g c d observed)
   unfolding epochBy
   made-is a c d st =
-      let tm : isTime t ≡ true = ap isTime et ∙ time-at (g .times) i (a .times) hi in
+      let tm : isTime t ≡ true = ap isTime et ∙ time-at (g .observed .obsTimes) i (a .times) hi in
       tried .is room (a .usable) _ _ _ _ (stand-found g base s t r c d f tm st)
       ∙ (λ j. madeOf (epochIn g c d (observation (et j) (ev j) (eb j))))
 
@@ -102,32 +102,36 @@ module _ (g : Given) (base i count : ℕ) (ts rs s : List Float) (hi : i < lengt
         few = omega (arith, added-few made count n ts rs ts' rs' ad, so .few);
         only = record { long = tried .only .long ∙ so .only .long; same = λ k h. tried .only .same k h ∙ so .only .same k h };
         is = λ c d st.
-            let es : List Epoch = keptUpTo (epochIn g c d) (g .times) (g .values) (g .good) i in
-            let few : length es ≤ i = kept-few (epochIn g c d) (g .times) (g .values) (g .good) (a .values) (a .good) i (omega arith) in
-            advance made count n ts rs ts' rs' ad (length (g .times)) es _ (omega arith) (so .is c d st) (epochIn g c d observed)
-            (kept-more (epochIn g c d) (g .times) (g .values) (g .good) (a .values) (a .good) i hi)
+            let es : List Epoch = keptUpTo (epochIn g c d) (g .observed .obsTimes) (g .observed .values) (g .observed .good) i in
+            let few : length es ≤ i = kept-few (epochIn g c d) (g .observed .obsTimes) (g .observed .values) (g .observed .good) (a .values) (a .good) i (omega arith) in
+            advance made count n ts rs ts' rs' ad (length (g .observed .obsTimes)) es _ (omega arith) (so .is c d st) (epochIn g c d observed)
+            (kept-more (epochIn g c d) (g .observed .obsTimes) (g .observed .values) (g .observed .good) (a .values) (a .good) i hi)
             (made-is a c d (stand-stays g base s₀ s c d (so .only) st));
       }
 
 -- ---- the beginning and the end
 
-pub begins : (g : Given) (base : ℕ) (ts rs s : List Float) (n m : ℕ) → Able g base ts rs s → n ≡ length (g .times) → m ≡ length (g .times) → ts ≡ replicate n zero64 → rs ≡ replicate m zero64 → SoFar g base 0 s ts rs s 0
+pub begins : (g : Given) (base : ℕ) (ts rs s : List Float) (n m : ℕ) → Able g base ts rs s → n ≡ length (g .observed .obsTimes) → m ≡ length (g .observed .obsTimes) → ts ≡ replicate n zero64
+    → rs ≡ replicate m zero64 → SoFar g base 0 s ts rs s 0
 begins g base ts rs s n m a en em et er = record {
   able = a;
   few = omega arith;
   only = only-same 0 base s;
-  is = λ c d st. subst (λ (es : List Epoch). Listed (length (g .times)) es ts rs 0) (sym (kept-none (epochIn g c d) (g .times) (g .values) (g .good))) (record {
-    count = refl;
-    times = et ∙ filled-none zero64 n (length (g .times)) en;
-    raws = er ∙ filled-none zero64 m (length (g .times)) em;
-  });
+  is = λ c d st. subst (λ (es : List Epoch). Listed (length (g .observed .obsTimes)) es ts rs 0) (sym (kept-none (epochIn g c d) (g .observed .obsTimes) (g .observed .values) (g .observed .good)))
+      (record {
+        count = refl;
+        times = et ∙ filled-none zero64 n (length (g .observed .obsTimes)) en;
+        raws = er ∙ filled-none zero64 m (length (g .observed .obsTimes)) em;
+      });
 }
 
-pub ends : (g : Given) (base i : ℕ) (s₀ ts rs s : List Float) (count : ℕ) → i ≤ length (g .times) → length (g .times) ≤ i → SoFar g base i s₀ ts rs s count → Done g base s₀ s ts rs count
+pub ends : (g : Given) (base i : ℕ) (s₀ ts rs s : List Float) (count : ℕ) → i ≤ length (g .observed .obsTimes) → length (g .observed .obsTimes) ≤ i → SoFar g base i s₀ ts rs s count
+    → Done g base s₀ s ts rs count
 ends g base i s₀ ts rs s count h k so =
-    let e : i ≡ length (g .times) = omega arith in
+    let e : i ≡ length (g .observed .obsTimes) = omega arith in
     record {
       long = so .only .long;
-      is = λ c d st. subst (λ (es : List Epoch). Listed (length (g .times)) es ts rs count)
-          (ap (keptUpTo (epochIn g c d) (g .times) (g .values) (g .good)) e ∙ kept-all (epochIn g c d) (g .times) (g .values) (g .good) (so .able .values) (so .able .good)) (so .is c d st);
+      is = λ c d st. subst (λ (es : List Epoch). Listed (length (g .observed .obsTimes)) es ts rs count)
+          (ap (keptUpTo (epochIn g c d) (g .observed .obsTimes) (g .observed .values) (g .observed .good)) e
+          ∙ kept-all (epochIn g c d) (g .observed .obsTimes) (g .observed .values) (g .observed .good) (so .able .values) (so .able .good)) (so .is c d st);
     }

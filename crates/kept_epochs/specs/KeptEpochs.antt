@@ -1,4 +1,5 @@
--- The kept epochs of the whole path (document 01, modules 5 and 8): both satellites' fitted states stand in their slots, and of each epoch that is kept time and residual are listed.
+-- The kept epochs of the whole path (document 01, modules 5 and 8): both satellites' fitted states stand in their slots, and of each epoch that is kept
+-- time and residual are listed.
 -- Assumes nothing.
 use mathlib.Core.Path.{_≡_}
 use mathlib.Core.Bool.{Bool, true, false, _&&_}
@@ -9,51 +10,45 @@ use lib.Dec.{leb, eqb}
 use lib.IntN.{ℤ}
 use lib.Ieee.{Float}
 use lib.ListN.{length, take, set}
-use Rattle.inputs.specs.Inputs.{slotRoom, frontSize}
+use Rattle.inputs.specs.Inputs.{Model, slotRoom, frontSize, Pair, Observed}
 use Rattle.laws.specs.Checks.{all, isTime, risingSeconds}
 use Rattle.numbers.specs.Seconds.{wholeSecond}
 use Rattle.finality.specs.Tables.{Table, find}
 use Rattle.finality.specs.Sheet.{Observation, published, keptOf}
 use Rattle.epoch_record.specs.EpochRecord.{time, residual}
 use Rattle.epoch_record.specs.declared.Epoch.{Epoch}
-use Rattle.integrate.specs.Force.{Model}
 use Rattle.integrate.specs.Room.{Only}
 use Rattle.integrate.specs.declared.kernel.State.{State}
 use Rattle.fit.specs.declared.kernel.Held.{Held}
 use Rattle.fit.specs.declared.kernel.Held.the-variants.{Known, Missing}
 use Rattle.windows.specs.Windows.{slotAt}
 use Rattle.slots.specs.LookUp.{joined, Shelved}
-use Rattle.epoch.specs.Kept.{Keyed, numbers, epochBy, observations}
+use Rattle.epoch.specs.Kept.{numbers, epochBy, observations}
 use Rattle.epoch.specs.Work.{givenState, sightingOf, Usable}
 use Rattle.epoch.specs.declared.StateFound.{StateFound}
 use Rattle.epoch.specs.declared.Sighting.{Sighting}
 use Rattle.epoch.specs.declared.Made.{Made}
 
--- what is read: the model, the Legendre tables a and b, the accelerometer values of the satellites C and D, how many windows there are, and the observations
+-- what is read: the model, the accelerometer values of the satellites C and D, how many windows there are, and the observations
 pub record Given : Type 0 where
   pub model : Model
-  pub a : List Float
-  pub b : List Float
-  pub accC : Keyed
-  pub accD : Keyed
+  pub accs : Pair
   pub windows : ℕ
-  pub times : List Float
-  pub values : List Float
-  pub good : List ℕ
+  pub observed : Observed
 
-abbrev pub given : Model → List Float → List Float → Keyed → Keyed → ℕ → List Float → List Float → List ℕ → Given
-given m a b accC accD windows times values good =
-    record { model = m; a = a; b = b; accC = accC; accD = accD; windows = windows; times = times; values = values; good = good }
+abbrev pub given : Model → Pair → ℕ → Observed → Given
+given M accs windows obs = record { model = M; accs = accs; windows = windows; observed = obs }
 
 -- an epoch with the states of all windows
 abbrev pub epochIn : Given → (ℕ → Table State) → (ℕ → Table State) → Observation → Option Epoch
-epochIn g c d = epochBy (g .model) (g .a) (g .b) (joined c (g .windows)) (joined d (g .windows)) (numbers (g .accC)) (numbers (g .accD))
+epochIn g c d = epochBy (g .model) (joined c (g .windows)) (joined d (g .windows)) (numbers (g .accs .c)) (numbers (g .accs .d))
 
 -- the epochs that are kept
 abbrev pub keptIn : Given → (ℕ → Table State) → (ℕ → Table State) → List Epoch
-keptIn g c d = keptOf (epochIn g c d) (observations (g .times) (g .values) (g .good))
+keptIn g c d = keptOf (epochIn g c d) (observations (g .observed .obsTimes) (g .observed .values) (g .observed .good))
 
--- whether the slices serve: room for the field at a time, accelerometer keys that rise, times that are times, one number for each observation and a place in each output
+-- whether the slices serve: room for the field at a time, accelerometer keys that rise, times that are times, one number for each observation and a place
+-- in each output
 unfoldable pub gatherServes : ℕ → List ℤ → List ℤ → List Float → ℕ → ℕ → ℕ → ℕ → ℕ → Bool
 gatherServes N accKeysC accKeysD times values good outtimes outraws room =
     ((leb N 180 && leb (frontSize N) room) && (risingSeconds accKeysC && risingSeconds accKeysD))
@@ -73,8 +68,9 @@ pub record Listed (m : ℕ) (es : List Epoch) (ts rs : List Float) (n : ℕ) : T
 -- `gather`: the kept epochs are listed, whatever states the slots hold; nothing is done where the slices do not serve
 pub record Gathered (g : Given) (serves : Bool) (outtimes outraws s outtimes' outraws' s' : List Float) (r : ℕ) : Type 0 where
   pub long : length s' ≡ length s
-  pub is : serves ≡ true → (c d : ℕ → Table State) → Shelved s (slotAt (frontSize (g .model .degree)) 0 0) c (g .windows) → Shelved s (slotAt (frontSize (g .model .degree)) 1 0) d (g .windows) →
-      Listed (length (g .times)) (keptIn g c d) outtimes' outraws' r
+  pub is : serves ≡ true → (c d : ℕ → Table State) → Shelved s (slotAt (frontSize (g .model .fixed .degree)) 0 0) c (g .windows)
+      → Shelved s (slotAt (frontSize (g .model .fixed .degree)) 1 0) d (g .windows) →
+      Listed (length (g .observed .obsTimes)) (keptIn g c d) outtimes' outraws' r
   pub unfit : serves ≡ false → (r ≡ 0) × (outtimes' ≡ outtimes) × (outraws' ≡ outraws) × (s' ≡ s)
 
 -- ---- between the parts of the code
@@ -84,9 +80,10 @@ foundOf (Known state) = givenState (some state)
 foundOf Missing = givenState none
 
 -- both satellites' states and accelerometer values at the whole part of a time; C's first slot stands at a place, D's behind it
-pub record Found (first windows : ℕ) (accC accD : Keyed) (s : List Float) (t : Float) (r : Sighting) : Type 0 where
+pub record Found (first windows : ℕ) (accs : Pair) (s : List Float) (t : Float) (r : Sighting) : Type 0 where
   pub is : isTime t ≡ true → (c d : ℕ → Table State) → Shelved s first c windows → Shelved s (first + slotRoom) d windows →
-      r ≡ sightingOf (find (wholeSecond t) (joined c windows)) (find (wholeSecond t) (joined d windows)) (find (wholeSecond t) (numbers accC)) (find (wholeSecond t) (numbers accD))
+      r ≡ sightingOf (find (wholeSecond t) (joined c windows)) (find (wholeSecond t) (joined d windows)) (find (wholeSecond t) (numbers (accs .c)))
+      (find (wholeSecond t) (numbers (accs .d)))
 
 -- what was made is stored and counted, where it is kept
 pub record Added (m : Made) (count r : ℕ) (times raws times' raws' : List Float) : Type 0 where
@@ -97,13 +94,13 @@ pub record Added (m : Made) (count r : ℕ) (times raws times' raws' : List Floa
 
 -- all that a turn needs of the lists and of the work slice
 pub record Able (g : Given) (base : ℕ) (ts rs s : List Float) : Type 0 where
-  pub accC : risingSeconds (g .accC .keys) ≡ true
-  pub accD : risingSeconds (g .accD .keys) ≡ true
-  pub times : all isTime (g .times) ≡ true
-  pub values : length (g .values) ≡ length (g .times)
-  pub good : length (g .good) ≡ length (g .times)
-  pub outtimes : length ts ≡ length (g .times)
-  pub outraws : length rs ≡ length (g .times)
+  pub accC : risingSeconds (g .accs .c .keys) ≡ true
+  pub accD : risingSeconds (g .accs .d .keys) ≡ true
+  pub times : all isTime (g .observed .obsTimes) ≡ true
+  pub values : length (g .observed .values) ≡ length (g .observed .obsTimes)
+  pub good : length (g .observed .good) ≡ length (g .observed .obsTimes)
+  pub outtimes : length ts ≡ length (g .observed .obsTimes)
+  pub outraws : length rs ≡ length (g .observed .obsTimes)
   pub small : base ≤ 131768
   pub room : base ≤ length s
   pub usable : Usable (g .model) (take base s)
@@ -113,9 +110,11 @@ pub record SoFar (g : Given) (base i : ℕ) (s₀ outtimes outraws s : List Floa
   pub able : Able g base outtimes outraws s
   pub few : count ≤ i
   pub only : Only 0 base s₀ s
-  pub is : (c d : ℕ → Table State) → Stand g base s₀ c d → Listed (length (g .times)) (keptOf (epochIn g c d) (take i (observations (g .times) (g .values) (g .good)))) outtimes outraws count
+  pub is : (c d : ℕ → Table State) → Stand g base s₀ c d
+      → Listed (length (g .observed .obsTimes))
+      (keptOf (epochIn g c d) (take i (observations (g .observed .obsTimes) (g .observed .values) (g .observed .good)))) outtimes outraws count
 
 -- all of them
 pub record Done (g : Given) (base : ℕ) (s s' outtimes outraws : List Float) (r : ℕ) : Type 0 where
   pub long : length s' ≡ length s
-  pub is : (c d : ℕ → Table State) → Stand g base s c d → Listed (length (g .times)) (keptIn g c d) outtimes outraws r
+  pub is : (c d : ℕ → Table State) → Stand g base s c d → Listed (length (g .observed .obsTimes)) (keptIn g c d) outtimes outraws r

@@ -6,9 +6,7 @@ ghost use Prim.Native.Nat.{_+_, _≤_, _<_};
 ghost use lib.Ieee.{Float};
 ghost use lib.ListN.{length};
 ghost use Rattle.laws.specs.Checks.{risingSeconds};
-ghost use Rattle.inputs.specs.Inputs.{frontSize};
-ghost use Rattle.integrate.specs.Force.{model};
-ghost use Rattle.epoch.specs.Kept.{keyed};
+ghost use Rattle.inputs.specs.Inputs.{modelOf, frontSize, lentList, pairOf, observedOf};
 ghost use Rattle.kept_epochs.specs.KeptEpochs.{given, gatherServes, foundOf, Found, Added, Able, SoFar, Done, Gathered};
 
 fn state_of(held: fit::kernel::Held) -> epoch::StateFound
@@ -21,24 +19,22 @@ fn state_of(held: fit::kernel::Held) -> epoch::StateFound
 }
 
 // Both satellites' states and accelerometer values at the whole part of t; `first` is the slot of C's first window.
-fn look(
+fn look<'a>(
     s: &[f64],
     first: usize,
     windows: usize,
-    cacckeys: &[i64],
-    caccs: &[f64],
-    dacckeys: &[i64],
-    daccs: &[f64],
+    acckeys: inputs::Keys<'a>,
+    accs: inputs::Rows<'a>,
     t: f64,
 ) -> epoch::Sighting
-    requires { ⌜ (first ≤ 281768) × (risingSeconds (now cacckeys) ≡ true) × (risingSeconds (now dacckeys) ≡ true) ⌝ }
-    ensures { λ r. ⌜ Found first windows (keyed (now (cacckeys .entry)) (now (caccs .entry))) (keyed (now (dacckeys .entry)) (now (daccs .entry))) (now (s .entry)) t r ⌝ }
+    requires { ⌜ (first ≤ 281768) × (risingSeconds (lentList acckeys 0) ≡ true) × (risingSeconds (lentList acckeys 1) ≡ true) ⌝ }
+    ensures { λ r. ⌜ Found first windows (pairOf (acckeys .entry) (accs .entry)) (now (s .entry)) t r ⌝ }
 {
     let second = numbers::whole_second(numbers::GpsTime(t));
     let c = state_of(slots::held(s, first, windows, second));
     let d = state_of(slots::held(s, first + inputs::SLOT_ROOM, windows, second));
-    let axc = epoch::number_at(cacckeys, caccs, second);
-    let axd = epoch::number_at(dacckeys, daccs, second);
+    let axc = epoch::number_at(acckeys[inputs::C], accs[inputs::C], second);
+    let axd = epoch::number_at(acckeys[inputs::D], accs[inputs::D], second);
     epoch::sighted(c, d, axc, axd)
 }
 
@@ -57,17 +53,11 @@ fn add(made: epoch::Made, count: usize, outtimes: &mut [f64], outraws: &mut [f64
 }
 
 // Observation i.
-fn turn(
+fn turn<'a>(
     degree: usize,
-    field: &[f64],
-    a: &[f64],
-    b: &[f64],
-    times: &[f64],
-    added: &[f64],
-    cacckeys: &[i64],
-    caccs: &[f64],
-    dacckeys: &[i64],
-    daccs: &[f64],
+    model: inputs::Model<'a>,
+    acckeys: inputs::Keys<'a>,
+    accs: inputs::Rows<'a>,
     windows: usize,
     obstimes: &[f64],
     obsvalues: &[f64],
@@ -79,51 +69,29 @@ fn turn(
     outraws: &mut [f64],
     s: &mut [f64],
 ) -> usize
-    requires { ⌜ Able (given (model degree (now field) (now times) (now added)) (now a) (now b) (keyed (now cacckeys) (now caccs)) (keyed (now dacckeys) (now daccs)) windows (now obstimes) (now obsvalues) (now good)) base (now outtimes) (now outraws) (now s) × (i < length (now obstimes)) × (count ≤ i) ⌝ }
-    ensures { λ r. ⌜ ((s₀ : List Float) → SoFar (given (model degree (now (field .entry)) (now (times .entry)) (now (added .entry))) (now (a .entry)) (now (b .entry)) (keyed (now (cacckeys .entry)) (now (caccs .entry))) (keyed (now (dacckeys .entry)) (now (daccs .entry))) windows (now (obstimes .entry)) (now (obsvalues .entry)) (now (good .entry))) base i s₀ (now (outtimes .entry)) (now (outraws .entry)) (now (s .entry)) count → SoFar (given (model degree (now (field .entry)) (now (times .entry)) (now (added .entry))) (now (a .entry)) (now (b .entry)) (keyed (now (cacckeys .entry)) (now (caccs .entry))) (keyed (now (dacckeys .entry)) (now (daccs .entry))) windows (now (obstimes .entry)) (now (obsvalues .entry)) (now (good .entry))) base (i + 1) s₀ (now (outtimes .exit)) (now (outraws .exit)) (now (s .exit)) r) ⌝ }
+    requires { ⌜ Able (given (modelOf degree model) (pairOf acckeys accs) windows (observedOf (now obstimes) (now obsvalues) (now good))) base (now outtimes)
+        (now outraws) (now s) × (i < length (now obstimes)) × (count ≤ i) ⌝ }
+    ensures { λ r. ⌜ ((s₀ : List Float) → SoFar
+        (given (modelOf degree (model .entry)) (pairOf (acckeys .entry) (accs .entry)) windows
+        (observedOf (now (obstimes .entry)) (now (obsvalues .entry)) (now (good .entry)))) base i s₀ (now (outtimes .entry)) (now (outraws .entry))
+        (now (s .entry)) count → SoFar (given (modelOf degree (model .entry)) (pairOf (acckeys .entry) (accs .entry)) windows
+        (observedOf (now (obstimes .entry)) (now (obsvalues .entry)) (now (good .entry)))) base (i + 1) s₀ (now (outtimes .exit)) (now (outraws .exit))
+        (now (s .exit)) r) ⌝ }
 {
     let t = integrate::kernel::element(obstimes, i);
     let observed = integrate::kernel::element(obsvalues, i);
     let byte = good[i];
-    let found = look(
-        &s[..],
-        base + inputs::FIT_ROOM,
-        windows,
-        cacckeys,
-        caccs,
-        dacckeys,
-        daccs,
-        t,
-    );
-    let made = epoch::try_seen(
-        degree,
-        field,
-        a,
-        b,
-        times,
-        added,
-        found,
-        t,
-        observed,
-        byte,
-        base,
-        s,
-    );
+    let found = look(&s[..], base + inputs::FIT_ROOM, windows, acckeys, accs, t);
+    let made = epoch::try_seen(degree, model, found, t, observed, byte, base, s);
     add(made, count, outtimes, outraws)
 }
 
 // From an empty beginning.
-fn gather_from(
+fn gather_from<'a>(
     degree: usize,
-    field: &[f64],
-    a: &[f64],
-    b: &[f64],
-    times: &[f64],
-    added: &[f64],
-    cacckeys: &[i64],
-    caccs: &[f64],
-    dacckeys: &[i64],
-    daccs: &[f64],
+    model: inputs::Model<'a>,
+    acckeys: inputs::Keys<'a>,
+    accs: inputs::Rows<'a>,
     windows: usize,
     obstimes: &[f64],
     obsvalues: &[f64],
@@ -133,23 +101,20 @@ fn gather_from(
     outraws: &mut [f64],
     s: &mut [f64],
 ) -> usize
-    requires { ⌜ SoFar (given (model degree (now field) (now times) (now added)) (now a) (now b) (keyed (now cacckeys) (now caccs)) (keyed (now dacckeys) (now daccs)) windows (now obstimes) (now obsvalues) (now good)) base 0 (now s) (now outtimes) (now outraws) (now s) 0 ⌝ }
-    ensures { λ r. ⌜ Done (given (model degree (now (field .entry)) (now (times .entry)) (now (added .entry))) (now (a .entry)) (now (b .entry)) (keyed (now (cacckeys .entry)) (now (caccs .entry))) (keyed (now (dacckeys .entry)) (now (daccs .entry))) windows (now (obstimes .entry)) (now (obsvalues .entry)) (now (good .entry))) base (now (s .entry)) (now (s .exit)) (now (outtimes .exit)) (now (outraws .exit)) r ⌝ }
+    requires { ⌜ SoFar (given (modelOf degree model) (pairOf acckeys accs) windows (observedOf (now obstimes) (now obsvalues) (now good))) base 0 (now s)
+        (now outtimes) (now outraws) (now s) 0 ⌝ }
+    ensures { λ r. ⌜ Done (given (modelOf degree (model .entry)) (pairOf (acckeys .entry) (accs .entry)) windows
+        (observedOf (now (obstimes .entry)) (now (obsvalues .entry)) (now (good .entry)))) base (now (s .entry)) (now (s .exit)) (now (outtimes .exit))
+        (now (outraws .exit)) r ⌝ }
 {
     let mut count: usize = 0;
     let mut i: usize = 0;
     while i < obstimes.len() {
         count = turn(
             degree,
-            field,
-            a,
-            b,
-            times,
-            added,
-            cacckeys,
-            caccs,
-            dacckeys,
-            daccs,
+            model,
+            acckeys,
+            accs,
             windows,
             obstimes,
             obsvalues,
@@ -166,17 +131,11 @@ fn gather_from(
     count
 }
 
-fn gather_all(
+fn gather_all<'a>(
     degree: usize,
-    field: &[f64],
-    a: &[f64],
-    b: &[f64],
-    times: &[f64],
-    added: &[f64],
-    cacckeys: &[i64],
-    caccs: &[f64],
-    dacckeys: &[i64],
-    daccs: &[f64],
+    model: inputs::Model<'a>,
+    acckeys: inputs::Keys<'a>,
+    accs: inputs::Rows<'a>,
     windows: usize,
     obstimes: &[f64],
     obsvalues: &[f64],
@@ -185,8 +144,11 @@ fn gather_all(
     outraws: &mut [f64],
     s: &mut [f64],
 ) -> usize
-    requires { ⌜ gatherServes degree (now cacckeys) (now dacckeys) (now obstimes) (length (now obsvalues)) (length (now good)) (length (now outtimes)) (length (now outraws)) (length (now s)) ≡ true ⌝ }
-    ensures { λ r. ⌜ Done (given (model degree (now (field .entry)) (now (times .entry)) (now (added .entry))) (now (a .entry)) (now (b .entry)) (keyed (now (cacckeys .entry)) (now (caccs .entry))) (keyed (now (dacckeys .entry)) (now (daccs .entry))) windows (now (obstimes .entry)) (now (obsvalues .entry)) (now (good .entry))) (frontSize degree) (now (s .entry)) (now (s .exit)) (now (outtimes .exit)) (now (outraws .exit)) r ⌝ }
+    requires { ⌜ gatherServes degree (lentList acckeys 0) (lentList acckeys 1) (now obstimes) (length (now obsvalues)) (length (now good))
+        (length (now outtimes)) (length (now outraws)) (length (now s)) ≡ true ⌝ }
+    ensures { λ r. ⌜ Done (given (modelOf degree (model .entry)) (pairOf (acckeys .entry) (accs .entry)) windows
+        (observedOf (now (obstimes .entry)) (now (obsvalues .entry)) (now (good .entry)))) (frontSize degree) (now (s .entry)) (now (s .exit))
+        (now (outtimes .exit)) (now (outraws .exit)) r ⌝ }
 {
     let base = inputs::front_size(degree);
     slices::clear(outtimes);
@@ -194,15 +156,9 @@ fn gather_all(
     epoch::open(degree, base, s);
     gather_from(
         degree,
-        field,
-        a,
-        b,
-        times,
-        added,
-        cacckeys,
-        caccs,
-        dacckeys,
-        daccs,
+        model,
+        acckeys,
+        accs,
         windows,
         obstimes,
         obsvalues,
@@ -214,10 +170,9 @@ fn gather_all(
     )
 }
 
-fn serves(
+fn serves<'a>(
     degree: usize,
-    cacckeys: &[i64],
-    dacckeys: &[i64],
+    acckeys: inputs::Keys<'a>,
     obstimes: &[f64],
     values: usize,
     good: usize,
@@ -225,11 +180,15 @@ fn serves(
     outraws: usize,
     room: usize,
 ) -> bool
-    ensures { λ r. ⌜ r ≡ gatherServes degree (now (cacckeys .entry)) (now (dacckeys .entry)) (now (obstimes .entry)) values good outtimes outraws room ⌝ }
+    ensures { λ r. ⌜ r ≡ gatherServes degree (lentList (acckeys .entry) 0) (lentList (acckeys .entry) 1) (now (obstimes .entry)) values good outtimes outraws
+        room ⌝ }
 {
     let m = obstimes.len();
     let front = slices::both(degree <= 180, inputs::front_size(degree) <= room);
-    let keys = slices::both(slices::rising_keys(cacckeys), slices::rising_keys(dacckeys));
+    let keys = slices::both(
+        slices::rising_keys(acckeys[inputs::C]),
+        slices::rising_keys(acckeys[inputs::D]),
+    );
     let lengths = slices::both(
         slices::both(values == m, good == m),
         slices::both(outtimes == m, outraws == m),
@@ -241,17 +200,11 @@ fn serves(
 }
 
 // Times and residuals of the kept epochs, in order, +0.0 after the last, and how many there are. None, and nothing is done, where the slices do not serve.
-pub fn gather(
+pub fn gather<'a>(
     degree: usize,
-    field: &[f64],
-    a: &[f64],
-    b: &[f64],
-    times: &[f64],
-    added: &[f64],
-    cacckeys: &[i64],
-    caccs: &[f64],
-    dacckeys: &[i64],
-    daccs: &[f64],
+    model: inputs::Model<'a>,
+    acckeys: inputs::Keys<'a>,
+    accs: inputs::Rows<'a>,
     windows: usize,
     obstimes: &[f64],
     obsvalues: &[f64],
@@ -260,12 +213,15 @@ pub fn gather(
     outraws: &mut [f64],
     s: &mut [f64],
 ) -> usize
-    ensures { λ r. ⌜ Gathered (given (model degree (now (field .entry)) (now (times .entry)) (now (added .entry))) (now (a .entry)) (now (b .entry)) (keyed (now (cacckeys .entry)) (now (caccs .entry))) (keyed (now (dacckeys .entry)) (now (daccs .entry))) windows (now (obstimes .entry)) (now (obsvalues .entry)) (now (good .entry))) (gatherServes degree (now (cacckeys .entry)) (now (dacckeys .entry)) (now (obstimes .entry)) (length (now (obsvalues .entry))) (length (now (good .entry))) (length (now (outtimes .entry))) (length (now (outraws .entry))) (length (now (s .entry)))) (now (outtimes .entry)) (now (outraws .entry)) (now (s .entry)) (now (outtimes .exit)) (now (outraws .exit)) (now (s .exit)) r ⌝ }
+    ensures { λ r. ⌜ Gathered (given (modelOf degree (model .entry)) (pairOf (acckeys .entry) (accs .entry)) windows
+        (observedOf (now (obstimes .entry)) (now (obsvalues .entry)) (now (good .entry))))
+        (gatherServes degree (lentList (acckeys .entry) 0) (lentList (acckeys .entry) 1) (now (obstimes .entry)) (length (now (obsvalues .entry)))
+        (length (now (good .entry))) (length (now (outtimes .entry))) (length (now (outraws .entry))) (length (now (s .entry)))) (now (outtimes .entry))
+        (now (outraws .entry)) (now (s .entry)) (now (outtimes .exit)) (now (outraws .exit)) (now (s .exit)) r ⌝ }
 {
     let ok = serves(
         degree,
-        cacckeys,
-        dacckeys,
+        acckeys,
         obstimes,
         obsvalues.len(),
         good.len(),
@@ -276,15 +232,9 @@ pub fn gather(
     if ok {
         return gather_all(
             degree,
-            field,
-            a,
-            b,
-            times,
-            added,
-            cacckeys,
-            caccs,
-            dacckeys,
-            daccs,
+            model,
+            acckeys,
+            accs,
             windows,
             obstimes,
             obsvalues,

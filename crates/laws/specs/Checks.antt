@@ -66,15 +66,19 @@ time-says t h =
     record { is-finite = between zero⁺ t bound tt tt low high; from-zero = low; to-bound = high }
 
 pub times-say {ℓ} : {A : Type ℓ} (time : A → Float) (xs : List A) → T (all (λ x. isTime (time x)) xs) → All (λ x. Time (time x)) xs
-times-say {A = A} time xs h = all-map (λ (x : A). T (isTime (time x))) (λ (x : A). Time (time x)) xs (λ x k. time-says (time x) k) (all-says (λ (x : A). isTime (time x)) xs h)
+times-say {A = A} time xs h = all-map (λ (x : A). T (isTime (time x))) (λ (x : A). Time (time x)) xs (λ x k. time-says (time x) k)
+    (all-says (λ (x : A). isTime (time x)) xs h)
 
 pub rising-says : (ts : List Float) → T (all finite ts) → T (rising ts) → Rising ts
 rising-says [] f r = tt
 rising-says (t ∷ []) f r = (and-l (finite t) true f, tt, tt)
 rising-says (t ∷ u ∷ ts) f r =
     let tu = and-l (lt t u) (rising (u ∷ ts)) r in
-    let rest = rising-says (u ∷ ts) (and-r (finite t) (all finite (u ∷ ts)) f) (and-r (lt t u) (rising (u ∷ ts)) r) in
-    (and-l (finite t) (all finite (u ∷ ts)) f, (tu, all-map (λ (y : Float). T (lt u y)) (λ (y : Float). T (lt t y)) ts (λ y h. lt-tr t u y tu h) (rest .1)), rest)
+    let rest = rising-says (u ∷ ts) (and-r (finite t) (all finite (u ∷ ts)) f) (and-r (lt t u) (rising (u ∷ ts)) r) in (
+      and-l (finite t) (all finite (u ∷ ts)) f,
+      (tu, all-map (λ (y : Float). T (lt u y)) (λ (y : Float). T (lt t y)) ts (λ y h. lt-tr t u y tu h) (rest .1)),
+      rest,
+    )
 
 all-finite : (ts : List Float) → T (all isTime ts) → T (all finite ts)
 all-finite [] h = tt

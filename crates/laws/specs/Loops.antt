@@ -73,18 +73,23 @@ fill-turn {A = A} x rest rest' goal i y h inv e = turn (λ (l : List A). rest') 
 pub fill-done {ℓ} : {A : Type ℓ} (x rest goal : List A) (i : ℕ) → length x ≤ i → rest ≡ [] → take i x ++ rest ≡ goal → x ≡ goal
 fill-done x rest goal i h e inv = sym (turn-done x rest i h e) ∙ inv
 
-pub copy-turn {ℓ} : {A : Type ℓ} (d : A) (x out out₀ : List A) (k : ℕ) → length out ≡ length out₀ → length out₀ ≡ length x → k < length x → take k out ++ drop k x ≡ x →
+pub copy-turn {ℓ} : {A : Type ℓ} (d : A) (x out out₀ : List A) (k : ℕ) → length out ≡ length out₀ → length out₀ ≡ length x → k < length x
+    → take k out ++ drop k x ≡ x →
     take (k + 1) (set out k (getD x k d)) ++ drop (k + 1) x ≡ x
 copy-turn d x out out₀ k l l₀ h inv = fill-turn out (drop k x) (drop (k + 1) x) x k (getD x k d) (omega arith) inv (head-at x k d h)
 
-pub copy-done {ℓ} : {A : Type ℓ} (x out out₀ : List A) (k : ℕ) → length out ≡ length out₀ → length out₀ ≡ length x → length x ≤ k → take k out ++ drop k x ≡ x → out ≡ x
+pub copy-done {ℓ} : {A : Type ℓ} (x out out₀ : List A) (k : ℕ) → length out ≡ length out₀ → length out₀ ≡ length x → length x ≤ k → take k out ++ drop k x ≡ x
+    → out ≡ x
 copy-done x out out₀ k l l₀ h inv = fill-done out (drop k x) x k (omega arith) (drop-of-length-le x h) inv
 
-pub clear-turn {ℓ} : {A : Type ℓ} (z : A) (a a₀ : List A) (i : ℕ) → length a ≡ length a₀ → i < length a → take i a ++ replicate (length a₀ - i) z ≡ replicate (length a₀) z →
+pub clear-turn {ℓ} : {A : Type ℓ} (z : A) (a a₀ : List A) (i : ℕ) → length a ≡ length a₀ → i < length a
+    → take i a ++ replicate (length a₀ - i) z ≡ replicate (length a₀) z →
     take (i + 1) (set a i z) ++ replicate (length a₀ - (i + 1)) z ≡ replicate (length a₀) z
 clear-turn z a a₀ i l h inv = fill-turn a _ (replicate (length a₀ - (i + 1)) z) _ i z h inv (replicate-step (length a₀) i z (omega arith))
 
-pub clear-done {ℓ} : {A : Type ℓ} (z : A) (a a₀ : List A) (i : ℕ) → length a ≡ length a₀ → length a ≤ i → take i a ++ replicate (length a₀ - i) z ≡ replicate (length a₀) z → a ≡ replicate (length a₀) z
+pub clear-done {ℓ} : {A : Type ℓ} (z : A) (a a₀ : List A) (i : ℕ) → length a ≡ length a₀ → length a ≤ i
+    → take i a ++ replicate (length a₀ - i) z ≡ replicate (length a₀) z →
+    a ≡ replicate (length a₀) z
 clear-done z a a₀ i l h inv = fill-done a _ _ i h (replicate-none (length a₀) i z (omega arith)) inv
 
 -- ---- testing each element
@@ -92,10 +97,12 @@ clear-done z a a₀ i l h inv = fill-done a _ _ i h (replicate-none (length a₀
 all-at {ℓ} : {A : Type ℓ} (d : A) (p : A → Bool) (x : List A) (i : ℕ) → i < length x → all p (drop i x) ≡ (p (getD x i d) && all p (drop (i + 1) x))
 all-at d p x i h = rw (head-at x i d h)
 
-pub all-stops {ℓ} : {A : Type ℓ} (d : A) (p : A → Bool) (x : List A) (b g : Bool) (i : ℕ) → i < length x → b ≡ p (getD x i d) → not b ≡ true → all p (drop i x) ≡ g → false ≡ g
+pub all-stops {ℓ} : {A : Type ℓ} (d : A) (p : A → Bool) (x : List A) (b g : Bool) (i : ℕ) → i < length x → b ≡ p (getD x i d) → not b ≡ true
+    → all p (drop i x) ≡ g → false ≡ g
 all-stops d p x b g i h e f inv = sym (all-at d p x i h ∙ ap (λ (b : Bool). b && all p (drop (i + 1) x)) (sym e ∙ not-true b f)) ∙ inv
 
-pub all-goes {ℓ} : {A : Type ℓ} (d : A) (p : A → Bool) (x : List A) (b g : Bool) (i : ℕ) → i < length x → b ≡ p (getD x i d) → not b ≡ false → all p (drop i x) ≡ g → all p (drop (i + 1) x) ≡ g
+pub all-goes {ℓ} : {A : Type ℓ} (d : A) (p : A → Bool) (x : List A) (b g : Bool) (i : ℕ) → i < length x → b ≡ p (getD x i d) → not b ≡ false
+    → all p (drop i x) ≡ g → all p (drop (i + 1) x) ≡ g
 all-goes d p x b g i h e f inv = sym (all-at d p x i h ∙ ap (λ (b : Bool). b && all p (drop (i + 1) x)) (sym e ∙ not-false b f)) ∙ inv
 
 pub all-done {ℓ} : {A : Type ℓ} (p : A → Bool) (x : List A) (b : Bool) (i : ℕ) → length x ≤ i → all p (drop i x) ≡ b → true ≡ b
@@ -110,15 +117,18 @@ ascending-at {A = A} d below x i h =
     let s : drop (i + 1) x ≡ u ∷ drop (i + 1 + 1) x = head-at x (i + 1) d h in
     rw (head-at x i d (omega arith), s)
 
-pub ascending-goes {ℓ} : {A : Type ℓ} (d : A) (below : A → A → Bool) (x : List A) (g : Bool) (i : ℕ) → i + 1 < length x → below (getD x i d) (getD x (i + 1) d) ≡ true →
+pub ascending-goes {ℓ} : {A : Type ℓ} (d : A) (below : A → A → Bool) (x : List A) (g : Bool) (i : ℕ) → i + 1 < length x
+    → below (getD x i d) (getD x (i + 1) d) ≡ true →
     ascending below (drop i x) ≡ g → ascending below (drop (i + 1) x) ≡ g
 ascending-goes d below x g i h e inv = sym (ascending-at d below x i h ∙ ap (λ (b : Bool). b && ascending below (drop (i + 1) x)) e) ∙ inv
 
-pub ascending-stops {ℓ} : {A : Type ℓ} (d : A) (below : A → A → Bool) (x : List A) (g : Bool) (i : ℕ) → i + 1 < length x → below (getD x i d) (getD x (i + 1) d) ≡ false →
+pub ascending-stops {ℓ} : {A : Type ℓ} (d : A) (below : A → A → Bool) (x : List A) (g : Bool) (i : ℕ) → i + 1 < length x
+    → below (getD x i d) (getD x (i + 1) d) ≡ false →
     ascending below (drop i x) ≡ g → false ≡ g
 ascending-stops d below x g i h e inv = sym (ascending-at d below x i h ∙ ap (λ (b : Bool). b && ascending below (drop (i + 1) x)) e) ∙ inv
 
-pub ascending-done {ℓ} : {A : Type ℓ} (d : A) (below : A → A → Bool) (x : List A) (g : Bool) (i : ℕ) → i < length x → length x - i ≤ 1 → ascending below (drop i x) ≡ g → true ≡ g
+pub ascending-done {ℓ} : {A : Type ℓ} (d : A) (below : A → A → Bool) (x : List A) (g : Bool) (i : ℕ) → i < length x → length x - i ≤ 1
+    → ascending below (drop i x) ≡ g → true ≡ g
 ascending-done d below x g i h k inv = sym (rw (head-at x i d h, drop-of-length-le x {i = i + 1} (omega arith))) ∙ inv
 
 pub ascending-none {ℓ} : {A : Type ℓ} (below : A → A → Bool) (x : List A) → length x ≡ 0 → true ≡ ascending below x

@@ -80,7 +80,8 @@ rows-at f (suc k) n m h l =
           let e : k ≡ n = omega arith in
           ap (λ (i : ℕ). getD (rows f k ++ row (f k) (suc k)) i nan) (ap (λ (i : ℕ). tri i + m) (sym e) ∙ ap (λ (i : ℕ). i + m) (sym s))
           ∙ getD-append-add (rows f k) (row (f k) (suc k)) m nan ∙ row-at (f k) (suc k) m (omega arith) ∙ ap (λ (i : ℕ). f i m) e
-      | no g ↦ List·getD-append (rows f k) (row (f k) (suc k)) nan (tri n + m) (omega (arith, tri-next n, tri-mono (n + 1) k (omega arith))) ∙ rows-at f k n m (omega arith) l
+      | no g ↦ List·getD-append (rows f k) (row (f k) (suc k)) nan (tri n + m) (omega (arith, tri-next n, tri-mono (n + 1) k (omega arith)))
+          ∙ rows-at f k n m (omega arith) l
     ]
 
 -- tables of equal values are equal
@@ -111,7 +112,8 @@ row-turn g p out k m v inv h e =
 pub rows-turn : (f : ℕ → ℕ → Float) (out out' : List Float) (k n : ℕ) → take k out ≡ rows f n → take (k + (n + 1)) out' ≡ take k out ++ row (f n) (n + 1) →
     take (k + (n + 1)) out' ≡ rows f (n + 1)
 unfolding rows
-rows-turn f out out' k n inv e = e ∙ ap (λ (l : List Float). l ++ row (f n) (n + 1)) inv ∙ ap (λ (i : ℕ). rows f n ++ row (f n) i) (add-one n) ∙ ap (rows f) (sym (add-one n))
+rows-turn f out out' k n inv e = e ∙ ap (λ (l : List Float). l ++ row (f n) (n + 1)) inv ∙ ap (λ (i : ℕ). rows f n ++ row (f n) i) (add-one n)
+    ∙ ap (rows f) (sym (add-one n))
 
 pub rows-done : (f : ℕ → ℕ → Float) (out : List Float) (k n N : ℕ) → take k out ≡ rows f n → n ≡ N → length out ≤ k → out ≡ rows f N
 rows-done f out k n N inv e h = sym (take-all k out h) ∙ inv ∙ ap (rows f) e

@@ -2,7 +2,8 @@
 -- With monotone rounding (Order) this bounds a rounded expression without error terms: squeeze it between whole numbers. Assumes nothing.
 use mathlib.Core.Path.{_≡_, refl, sym, ap, _∙_, subst}
 use Prim.Native.Nat.{ℕ, suc, _+_, _-_, _*_, _/_, _^_, _≤_, _<_, min}
-use native.Mathlib.Nat.{le-trans, add-mul, mul-add, mul-one, one-mul, mul-comm, mul-assoc, mul-left-comm, mul-right-comm, mul-pos, mul-le-mul-right, le-of-suc-le-suc, div-lt-iff-lt-mul}
+use native.Mathlib.Nat.{le-trans, add-mul, mul-add, mul-one, one-mul, mul-comm, mul-assoc, mul-left-comm, mul-right-comm, mul-pos, mul-le-mul-right}
+use native.Mathlib.Nat.{le-of-suc-le-suc, div-lt-iff-lt-mul}
 use native.Mathlib.Omega.{arith}
 use mathlib.Core.Bool.{Bool, true, false, cond, true≢false}
 use lib.Dec.{T}
@@ -27,17 +28,24 @@ pub record Is (x : Float) (P N : ℕ) : Type 0 where
 
 pub is-le : (x y : Float) (P N Q M : ℕ) → Is x P N → Is y Q M → P + M ≤ Q + N → T (le x y)
 is-le x y P N Q M i j h =
-    let a : p x * d y + N * d x * d y ≡ P * d x * d y + n x * d y = simp (mul-assoc, mul-comm, mul-left-comm) (simp (add-mul, mul-assoc, mul-comm, mul-left-comm) at (ap (λ (k : ℕ). k * d y) (i .value))) in
-    let b : p y * d x + M * d x * d y ≡ Q * d x * d y + n y * d x = simp (mul-assoc, mul-comm, mul-left-comm) (simp (add-mul, mul-assoc, mul-comm, mul-left-comm) at (ap (λ (k : ℕ). k * d x) (j .value))) in
-    let c : P * d x * d y + M * d x * d y ≤ Q * d x * d y + N * d x * d y = simp (mul-assoc, mul-comm, mul-left-comm) (simp (add-mul, mul-assoc, mul-comm, mul-left-comm) at (mul-le-mul-right (d x * d y) h)) in
+    let a : p x * d y + N * d x * d y ≡ P * d x * d y + n x * d y = simp (mul-assoc, mul-comm, mul-left-comm)
+    (simp (add-mul, mul-assoc, mul-comm, mul-left-comm) at (ap (λ (k : ℕ). k * d y) (i .value))) in
+    let b : p y * d x + M * d x * d y ≡ Q * d x * d y + n y * d x = simp (mul-assoc, mul-comm, mul-left-comm)
+    (simp (add-mul, mul-assoc, mul-comm, mul-left-comm) at (ap (λ (k : ℕ). k * d x) (j .value))) in
+    let c : P * d x * d y + M * d x * d y ≤ Q * d x * d y + N * d x * d y = simp (mul-assoc, mul-comm, mul-left-comm)
+    (simp (add-mul, mul-assoc, mul-comm, mul-left-comm) at (mul-le-mul-right (d x * d y) h)) in
     le-of-order x y (i .is-finite) (j .is-finite) (omega arith)
 
 pub is-lt : (x y : Float) (P N Q M : ℕ) → Is x P N → Is y Q M → P + M < Q + N → T (lt x y)
 is-lt x y P N Q M i j h =
-    let a : p x * d y + N * d x * d y ≡ P * d x * d y + n x * d y = simp (mul-assoc, mul-comm, mul-left-comm) (simp (add-mul, mul-assoc, mul-comm, mul-left-comm) at (ap (λ (k : ℕ). k * d y) (i .value))) in
-    let b : p y * d x + M * d x * d y ≡ Q * d x * d y + n y * d x = simp (mul-assoc, mul-comm, mul-left-comm) (simp (add-mul, mul-assoc, mul-comm, mul-left-comm) at (ap (λ (k : ℕ). k * d x) (j .value))) in
+    let a : p x * d y + N * d x * d y ≡ P * d x * d y + n x * d y = simp (mul-assoc, mul-comm, mul-left-comm)
+    (simp (add-mul, mul-assoc, mul-comm, mul-left-comm) at (ap (λ (k : ℕ). k * d y) (i .value))) in
+    let b : p y * d x + M * d x * d y ≡ Q * d x * d y + n y * d x = simp (mul-assoc, mul-comm, mul-left-comm)
+    (simp (add-mul, mul-assoc, mul-comm, mul-left-comm) at (ap (λ (k : ℕ). k * d x) (j .value))) in
     let c : P * d x * d y + M * d x * d y < Q * d x * d y + N * d x * d y =
-    simp (mul-assoc, mul-comm, mul-left-comm) (simp (add-mul, mul-assoc, mul-comm, mul-left-comm) at (native.Mathlib.Nat.mul-lt-mul-of-pos-right {k = d x * d y} h (mul-pos (d-pos x) (d-pos y)))) in
+    simp (mul-assoc, mul-comm, mul-left-comm)
+    (simp (add-mul, mul-assoc, mul-comm, mul-left-comm) at (native.Mathlib.Nat.mul-lt-mul-of-pos-right {k = d x * d y} h (mul-pos (d-pos x) (d-pos y))))
+    in
     lt-of-strict x y (i .is-finite) (j .is-finite) (omega arith)
 
 -- ---- what `round` gives for a whole number
@@ -59,41 +67,38 @@ pub number-is : (k : ℕ) → k ≤ 2 ^ 53 → Is (number k) k 0
 unfolding number ofInt
 number-is k h = whole-is (round binary64 false k 1) false k (round-whole binary64 false k h)
 
+low-part : (k c P N : ℕ) → 0 < c → k + P * c ≡ N * c → P ≤ N
+low-part k c P N C h = native.Mathlib.Nat.le-of-mul-le-mul-right {k = c} (omega arith) C
+
+cancel : (k c P N : ℕ) → 0 < c → k + P * c ≡ N * c → k ≡ (N - P) * c
+cancel k c P N C h =
+    let g : (N - P) * c ≡ N * c - P * c =
+    mul-comm (N - P) c ∙ native.Mathlib.Nat.mul-sub c N P ∙ ap (λ (i : ℕ). i - c * P) (mul-comm c N) ∙ ap (λ (i : ℕ). N * c - i) (mul-comm c P) in
+    omega arith
+
 -- a fraction ±k / c that is the whole number P - N
 round-int : (s : Bool) (k c P N : ℕ) → 0 < c → plus s k + N * c ≡ minus s k + P * c → P ≤ 2 ^ 53 + N → N ≤ 2 ^ 53 + P → Is (round binary64 s k c) P N
 round-int true k c P N C h a b =
     let K = N - P in
     let e : k * 1 ≡ K * c = mul-one k ∙ cancel k c P N C (omega arith) in
     subst (λ (x : Float). Is x P N) (sym (round-same binary64 true k c K 1 C (omega arith) e))
-    (is-shift (round binary64 true K 1) 0 K P N (omega (arith, low-part k c P N C (omega arith))) (whole-is (round binary64 true K 1) true K (round-whole binary64 true K (omega arith))))
-  where
-    low-part : (k c P N : ℕ) → 0 < c → k + P * c ≡ N * c → P ≤ N
-    low-part k c P N C h = native.Mathlib.Nat.le-of-mul-le-mul-right {k = c} (omega arith) C
-
-    cancel : (k c P N : ℕ) → 0 < c → k + P * c ≡ N * c → k ≡ (N - P) * c
-    cancel k c P N C h =
-        let g : (N - P) * c ≡ N * c - P * c = mul-comm (N - P) c ∙ native.Mathlib.Nat.mul-sub c N P ∙ ap (λ (i : ℕ). i - c * P) (mul-comm c N) ∙ ap (λ (i : ℕ). N * c - i) (mul-comm c P) in
-        omega arith
+    (is-shift (round binary64 true K 1) 0 K P N (omega (arith, low-part k c P N C (omega arith)))
+    (whole-is (round binary64 true K 1) true K (round-whole binary64 true K (omega arith))))
 round-int false k c P N C h a b =
     let K = P - N in
     let e : k * 1 ≡ K * c = mul-one k ∙ cancel k c N P C (omega arith) in
     subst (λ (x : Float). Is x P N) (sym (round-same binary64 false k c K 1 C (omega arith) e))
-    (is-shift (round binary64 false K 1) K 0 P N (omega (arith, low-part k c N P C (omega arith))) (whole-is (round binary64 false K 1) false K (round-whole binary64 false K (omega arith))))
-  where
-    low-part : (k c P N : ℕ) → 0 < c → k + P * c ≡ N * c → P ≤ N
-    low-part k c P N C h = native.Mathlib.Nat.le-of-mul-le-mul-right {k = c} (omega arith) C
-
-    cancel : (k c P N : ℕ) → 0 < c → k + P * c ≡ N * c → k ≡ (N - P) * c
-    cancel k c P N C h =
-        let g : (N - P) * c ≡ N * c - P * c = mul-comm (N - P) c ∙ native.Mathlib.Nat.mul-sub c N P ∙ ap (λ (i : ℕ). i - c * P) (mul-comm c N) ∙ ap (λ (i : ℕ). N * c - i) (mul-comm c P) in
-        omega arith
+    (is-shift (round binary64 false K 1) K 0 P N (omega (arith, low-part k c N P C (omega arith)))
+    (whole-is (round binary64 false K 1) false K (round-whole binary64 false K (omega arith))))
 
 -- ---- sums and differences of whole numbers
 pub add-int : (x y : Float) (P N Q M : ℕ) → Is x P N → Is y Q M → P + Q ≤ 2 ^ 53 + (N + M) → N + M ≤ 2 ^ 53 + (P + Q) → Is (add binary64 x y) (P + Q) (N + M)
 add-int x y P N Q M i j h k =
     let g = add-is binary64 x y (i .is-finite) (j .is-finite) in
-    let a : p x * d y + N * (d x * d y) ≡ P * (d x * d y) + n x * d y = simp (mul-assoc, mul-comm, mul-left-comm) (simp (add-mul, mul-assoc, mul-comm, mul-left-comm) at (ap (λ (v : ℕ). v * d y) (i .value))) in
-    let b : p y * d x + M * (d x * d y) ≡ Q * (d x * d y) + n y * d x = simp (mul-assoc, mul-comm, mul-left-comm) (simp (add-mul, mul-assoc, mul-comm, mul-left-comm) at (ap (λ (v : ℕ). v * d x) (j .value))) in
+    let a : p x * d y + N * (d x * d y) ≡ P * (d x * d y) + n x * d y = simp (mul-assoc, mul-comm, mul-left-comm)
+    (simp (add-mul, mul-assoc, mul-comm, mul-left-comm) at (ap (λ (v : ℕ). v * d y) (i .value))) in
+    let b : p y * d x + M * (d x * d y) ≡ Q * (d x * d y) + n y * d x = simp (mul-assoc, mul-comm, mul-left-comm)
+    (simp (add-mul, mul-assoc, mul-comm, mul-left-comm) at (ap (λ (v : ℕ). v * d x) (j .value))) in
     let c1 = add-mul P Q (d x * d y) in
     let c2 = add-mul N M (d x * d y) in
     subst (λ (w : Float). Is w (P + Q) (N + M)) (sym (g .2))
@@ -139,8 +144,10 @@ pub half-int : (x : Float) (P N : ℕ) → Is x (P + P) (N + N) → P ≤ 2 ^ 53
 unfolding div ofBits
 half-int nan P N i h k = absurd (i .is-finite)
 half-int (inf s) P N i h k = absurd (i .is-finite)
-half-int (fin true m e) P N i h k = round-int true (m * up e * 1) (1 * 2 * down e) P N (mul-pos {m = 1 * 2} (omega arith) (down-pos e)) (omega (arith, i .value, twice P (down e), twice N (down e), add-mul P P (down e), add-mul N N (down e))) (omega arith) (omega arith)
-half-int (fin false m e) P N i h k = round-int false (m * up e * 1) (1 * 2 * down e) P N (mul-pos {m = 1 * 2} (omega arith) (down-pos e)) (omega (arith, i .value, twice P (down e), twice N (down e), add-mul P P (down e), add-mul N N (down e))) (omega arith) (omega arith)
+half-int (fin true m e) P N i h k = round-int true (m * up e * 1) (1 * 2 * down e) P N (mul-pos {m = 1 * 2} (omega arith) (down-pos e))
+    (omega (arith, i .value, twice P (down e), twice N (down e), add-mul P P (down e), add-mul N N (down e))) (omega arith) (omega arith)
+half-int (fin false m e) P N i h k = round-int false (m * up e * 1) (1 * 2 * down e) P N (mul-pos {m = 1 * 2} (omega arith) (down-pos e))
+    (omega (arith, i .value, twice P (down e), twice N (down e), add-mul P P (down e), add-mul N N (down e))) (omega arith) (omega arith)
 
 pub half-mono : (x y : Float) → T (finite x) → T (finite y) → T (le x y) → T (le (div binary64 x two64) (div binary64 y two64))
 unfolding div ofBits
@@ -148,16 +155,24 @@ half-mono nan y q r h = absurd q
 half-mono (inf s) y q r h = absurd q
 half-mono (fin s m e) nan q r h = absurd r
 half-mono (fin s m e) (inf t) q r h = absurd r
-half-mono (fin true m e) (fin true i j) q r h = round-signed binary64 true (m * up e * 1) (1 * 2 * down e) true (i * up j * 1) (1 * 2 * down j) (mul-pos {m = 1 * 2} (omega arith) (down-pos e)) (mul-pos {m = 1 * 2} (omega arith) (down-pos j)) (scaled (m * up e) (i * up j) (down e) (down j) (order-of-le (fin true m e) (fin true i j) tt tt h))
+half-mono (fin true m e) (fin true i j) q r h = round-signed binary64 true (m * up e * 1) (1 * 2 * down e) true (i * up j * 1) (1 * 2 * down j)
+    (mul-pos {m = 1 * 2} (omega arith) (down-pos e))
+    (mul-pos {m = 1 * 2} (omega arith) (down-pos j)) (scaled (m * up e) (i * up j) (down e) (down j) (order-of-le (fin true m e) (fin true i j) tt tt h))
   where
     scaled : (a b c g : ℕ) → 0 * g + b * c ≤ 0 * c + a * g → 0 * (1 * 2 * g) + b * 1 * (1 * 2 * c) ≤ 0 * (1 * 2 * c) + a * 1 * (1 * 2 * g)
     scaled a b c g h = rw (mul-one a, mul-one b) (omega (arith, twice b c, twice a g))
-half-mono (fin true m e) (fin false i j) q r h = round-signed binary64 true (m * up e * 1) (1 * 2 * down e) false (i * up j * 1) (1 * 2 * down j) (mul-pos {m = 1 * 2} (omega arith) (down-pos e)) (mul-pos {m = 1 * 2} (omega arith) (down-pos j)) (omega arith)
-half-mono (fin false m e) (fin true i j) q r h = round-signed binary64 false (m * up e * 1) (1 * 2 * down e) true (i * up j * 1) (1 * 2 * down j) (mul-pos {m = 1 * 2} (omega arith) (down-pos e)) (mul-pos {m = 1 * 2} (omega arith) (down-pos j)) (scaled (m * up e) (i * up j) (down e) (down j) (order-of-le (fin false m e) (fin true i j) tt tt h))
+half-mono (fin true m e) (fin false i j) q r h = round-signed binary64 true (m * up e * 1) (1 * 2 * down e) false (i * up j * 1) (1 * 2 * down j)
+    (mul-pos {m = 1 * 2} (omega arith) (down-pos e))
+    (mul-pos {m = 1 * 2} (omega arith) (down-pos j)) (omega arith)
+half-mono (fin false m e) (fin true i j) q r h = round-signed binary64 false (m * up e * 1) (1 * 2 * down e) true (i * up j * 1) (1 * 2 * down j)
+    (mul-pos {m = 1 * 2} (omega arith) (down-pos e))
+    (mul-pos {m = 1 * 2} (omega arith) (down-pos j)) (scaled (m * up e) (i * up j) (down e) (down j) (order-of-le (fin false m e) (fin true i j) tt tt h))
   where
     scaled : (a b c g : ℕ) → a * g + b * c ≤ 0 * c + 0 * g → a * 1 * (1 * 2 * g) + b * 1 * (1 * 2 * c) ≤ 0 * (1 * 2 * c) + 0 * (1 * 2 * g)
     scaled a b c g h = rw (mul-one a, mul-one b) (omega (arith, twice b c, twice a g))
-half-mono (fin false m e) (fin false i j) q r h = round-signed binary64 false (m * up e * 1) (1 * 2 * down e) false (i * up j * 1) (1 * 2 * down j) (mul-pos {m = 1 * 2} (omega arith) (down-pos e)) (mul-pos {m = 1 * 2} (omega arith) (down-pos j)) (scaled (m * up e) (i * up j) (down e) (down j) (order-of-le (fin false m e) (fin false i j) tt tt h))
+half-mono (fin false m e) (fin false i j) q r h = round-signed binary64 false (m * up e * 1) (1 * 2 * down e) false (i * up j * 1) (1 * 2 * down j)
+    (mul-pos {m = 1 * 2} (omega arith) (down-pos e))
+    (mul-pos {m = 1 * 2} (omega arith) (down-pos j)) (scaled (m * up e) (i * up j) (down e) (down j) (order-of-le (fin false m e) (fin false i j) tt tt h))
   where
     scaled : (a b c g : ℕ) → a * g + 0 * c ≤ b * c + 0 * g → a * 1 * (1 * 2 * g) + 0 * (1 * 2 * c) ≤ b * 1 * (1 * 2 * c) + 0 * (1 * 2 * g)
     scaled a b c g h = rw (mul-one a, mul-one b) (omega (arith, twice b c, twice a g))
@@ -185,7 +200,8 @@ at-most : (x y : Float) (m : ℕ) (e : ℤ) (J : ℕ) → x ≡ fin false m e �
 at-most x y m e J q h i =
     let o = order-of-le (fin false m e) y tt (i .is-finite) (subst (λ (w : Float). T (le w y)) q h) in
     let pv : p y ≡ J * d y + n y = omega (arith, i .value) in
-    let v : p y * down e ≡ J * down e * d y + n y * down e = ap (λ (k : ℕ). k * down e) pv ∙ add-mul (J * d y) (n y) (down e) ∙ ap (λ (k : ℕ). k + n y * down e) (mul-right-comm J (d y) (down e)) in
+    let v : p y * down e ≡ J * down e * d y + n y * down e = ap (λ (k : ℕ). k * down e) pv ∙ add-mul (J * d y) (n y) (down e)
+    ∙ ap (λ (k : ℕ). k + n y * down e) (mul-right-comm J (d y) (down e)) in
     native.Mathlib.Nat.le-of-mul-le-mul-right {k = d y} (omega (arith, o, v)) (d-pos y)
 
 pub ceil-le : (x y : Float) (J : ℕ) → T (finite x) → T (le x y) → Is y J 0 → ceil x ≤ J
@@ -194,7 +210,8 @@ ceil-le nan y J q h i = absurd q
 ceil-le (inf s) y J q h i = absurd q
 ceil-le (fin true m e) y J q h i = Prim.Native.Nat.zero-le
 ceil-le (fin false m e) y J q h i =
-    le-trans (native.Mathlib.Nat.min-le-left (ceilDiv (m * up e) (down e)) (2 ^ 64 - 1)) (ceilDiv-le (m * up e) (down e) J (down-pos e) (at-most (fin false m e) y m e J refl h i))
+    le-trans (native.Mathlib.Nat.min-le-left (ceilDiv (m * up e) (down e)) (2 ^ 64 - 1))
+    (ceilDiv-le (m * up e) (down e) J (down-pos e) (at-most (fin false m e) y m e J refl h i))
 
 -- the floor of x is the whole number P - N, from -least to most, and the largest whole number that is at most x
 pub record Floored (x : Float) (most least : ℕ) : Type 0 where
@@ -212,27 +229,32 @@ at-least : (x : Float) (m : ℕ) (e : ℤ) (K : ℕ) → T (le x (fin true m e))
 at-least x m e K h i =
     let o = order-of-le x (fin true m e) (i .is-finite) tt h in
     let pv : p x + K * d x ≡ n x = omega (arith, i .value) in
-    let v : p x * down e + K * down e * d x ≡ n x * down e = ap (λ (k : ℕ). p x * down e + k) (mul-right-comm K (down e) (d x)) ∙ sym (add-mul (p x) (K * d x) (down e)) ∙ ap (λ (k : ℕ). k * down e) pv in
+    let v : p x * down e + K * down e * d x ≡ n x * down e = ap (λ (k : ℕ). p x * down e + k) (mul-right-comm K (down e) (d x))
+    ∙ sym (add-mul (p x) (K * d x) (down e))
+    ∙ ap (λ (k : ℕ). k * down e) pv in
     native.Mathlib.Nat.le-of-mul-le-mul-right {k = d x} (omega (arith, o, v)) (d-pos x)
 
 -- a whole number Q - M at most ±m / c
 below-plus : (y : Float) (Q M m : ℕ) (e : ℤ) → Is y Q M → T (le y (fin false m e)) → Q * down e ≤ m * up e + M * down e
 below-plus y Q M m e i h =
     let o = order-of-le y (fin false m e) (i .is-finite) tt h in
-    let v : p y * down e + M * down e * d y ≡ Q * down e * d y + n y * down e = simp (mul-assoc, mul-comm, mul-left-comm) (simp (add-mul, mul-assoc, mul-comm, mul-left-comm) at (ap (λ (k : ℕ). k * down e) (i .value))) in
+    let v : p y * down e + M * down e * d y ≡ Q * down e * d y + n y * down e = simp (mul-assoc, mul-comm, mul-left-comm)
+    (simp (add-mul, mul-assoc, mul-comm, mul-left-comm) at (ap (λ (k : ℕ). k * down e) (i .value))) in
     native.Mathlib.Nat.le-of-mul-le-mul-right {k = d y} (omega (arith, o, v, add-mul (m * up e) (M * down e) (d y))) (d-pos y)
 
 below-minus : (y : Float) (Q M m : ℕ) (e : ℤ) → Is y Q M → T (le y (fin true m e)) → Q * down e + m * up e ≤ M * down e
 below-minus y Q M m e i h =
     let o = order-of-le y (fin true m e) (i .is-finite) tt h in
-    let v : p y * down e + M * down e * d y ≡ Q * down e * d y + n y * down e = simp (mul-assoc, mul-comm, mul-left-comm) (simp (add-mul, mul-assoc, mul-comm, mul-left-comm) at (ap (λ (k : ℕ). k * down e) (i .value))) in
+    let v : p y * down e + M * down e * d y ≡ Q * down e * d y + n y * down e = simp (mul-assoc, mul-comm, mul-left-comm)
+    (simp (add-mul, mul-assoc, mul-comm, mul-left-comm) at (ap (λ (k : ℕ). k * down e) (i .value))) in
     native.Mathlib.Nat.le-of-mul-le-mul-right {k = d y} (omega (arith, o, v, add-mul (Q * down e) (m * up e) (d y))) (d-pos y)
 
 pub less-mul : (Q M c : ℕ) → (Q - M) * c ≡ Q * c - M * c
 less-mul Q M c = mul-comm (Q - M) c ∙ native.Mathlib.Nat.mul-sub c Q M ∙ ap (λ (v : ℕ). v - c * M) (mul-comm c Q) ∙ ap (λ (v : ℕ). Q * c - v) (mul-comm c M)
 
 -- the floor of a value between -least and most
-pub floor-whole : (lo x hi : Float) (most least : ℕ) → T (finite x) → T (le lo x) → T (le x hi) → Is lo 0 least → Is hi most 0 → most ≤ 2 ^ 53 → least ≤ 2 ^ 53 → Floored x most least
+pub floor-whole : (lo x hi : Float) (most least : ℕ) → T (finite x) → T (le lo x) → T (le x hi) → Is lo 0 least → Is hi most 0 → most ≤ 2 ^ 53
+    → least ≤ 2 ^ 53 → Floored x most least
 unfolding floor
 floor-whole lo nan hi a b q h k i j u v = absurd q
 floor-whole lo (inf s) hi a b q h k i j u v = absurd q
@@ -259,7 +281,8 @@ floor-whole lo (fin false m e) hi a b q h k i j u v =
       top = c;
       bottom = Prim.Native.Nat.zero-le;
       largest = λ y Q M g l.
-          let z : Q - M ≤ m * up e / down e = native.Mathlib.Nat.le-div-iff-mul-le (down-pos e) .1 (omega (arith, below-plus y Q M m e g l, less-mul Q M (down e))) in
+          let z : Q - M ≤ m * up e / down e = native.Mathlib.Nat.le-div-iff-mul-le (down-pos e) .1
+          (omega (arith, below-plus y Q M m e g l, less-mul Q M (down e))) in
           omega (arith, z);
     }
 

@@ -10,7 +10,7 @@ use lib.Ieee.Scale.{finite}
 use lib.ListN.{length}
 use borrow.Author.Tests.{leb-true, eqb-true, not-true, not-false}
 use Rattle.laws.specs.Checks.{all}
-use Rattle.laws.specs.Loops.{cleared}
+use Rattle.laws.specs.Loops.{cleared, same-cleared}
 use Rattle.laws.specs.Tables.{row-length}
 use Rattle.laws.specs.Bools.{right-true}
 use Rattle.slices.specs.Calls.{left, firstFailed}
@@ -19,7 +19,7 @@ use Rattle.slices.proofs.Calls.{cond-passes, call-refused, call-failed, call-ha
 use Rattle.least_squares.specs.LeastSquares.{solvable, solved, residualsOf, residualAt}
 use Rattle.least_squares.specs.Kernel.{solvableFor, coefficientsOf, solvedElse}
 use Rattle.least_squares.specs.Calls.{upTo, laterTests, refusal, failure, leastSquaresCall}
-use Rattle.least_squares.proofs.Shapes.{kernel-is}
+use Rattle.least_squares.proofs.KernelShapes.{kernel-is}
 
 -- ---- the tests
 
@@ -147,8 +147,5 @@ module _ (rows y : List Float) (p : ℕ) (b r : List Float) (n : ℕ) (en : n �
       unfolding leastSquaresCall
       ols-unfit q b'' r'' e1 e2 =
           let lb : length b' ≡ length b = ols-room g ∙ sym (passed .room) in
-          (λ i. left (Refused 10) ((e1 ∙ cleared-same b' b lb) i ∷ (e2 ∙ cleared-same r' r same-long) i ∷ []) [])
+          (λ i. left (Refused 10) ((e1 ∙ same-cleared b' b lb) i ∷ (e2 ∙ same-cleared r' r same-long) i ∷ []) [])
           ∙ call-handed Accepted Refused (solved rows y p ∷ residualsOf rows y p (solved rows y p) ∷ []) (b ∷ r ∷ []) [] false _ _ (sym h ∙ en) no-failure (sym q ∙ finite-is)
-        where
-          cleared-same : (x z : List Float) → length x ≡ length z → cleared x ≡ cleared z
-          cleared-same x z l = rw l

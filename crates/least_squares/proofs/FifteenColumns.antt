@@ -38,4 +38,5 @@ refused rows y t ht e = record { said = simp (sym ht ∙ e); values = λ (g : fa
 
 pub unsolved : (rows y : List Float) (t : Bool) → t ≡ shaped15 (length rows) (length y) → t ≡ true → (n : List Float) → n ≡ equations rows y 15 →
     (f : Bool) → f ≡ fineIn 15 n 15 → f ≡ false → Estimated rows y (record { fine = false; beta = replicate 15 zero64 })
-unsolved rows y t ht e n hn f hf g = record { said = sym g ∙ hf ∙ simp (sym ht ∙ e, hn) (solvable-flat 15 (omega arith) rows y); values = λ (h : false ≡ true). absurd (false≢true h); none = λ _. refl }
+unsolved rows y t ht e n hn f hf g = record
+    { said = sym g ∙ hf ∙ simp (sym ht ∙ e, hn) (solvable-flat 15 (omega arith) rows y); values = λ (h : false ≡ true). absurd (false≢true h); none = λ _. refl }

@@ -9,7 +9,7 @@ use Rattle.laws.specs.Tables.{row, row-same}
 use Rattle.least_squares.specs.Elimination.{Matrix, swapped, eliminated, largest, pivotRow, tooSmall, turn, stage, singular, fine}
 use Rattle.least_squares.specs.LeastSquares.{normalAt, solvable, coefficientAt, solved}
 use Rattle.least_squares.specs.Flat.{view, flatten, augmented, equations, swappedTo, eliminatedTo, pivotRowIn, turnIn, stageIn, singularIn, fineIn}
-use Rattle.least_squares.proofs.Laws.{flat-holds}
+use Rattle.least_squares.proofs.MatrixLoops.{flat-holds}
 use Rattle.least_squares.proofs.Pivot.{largest-is}
 
 module _ (p : ℕ) (few : p ≤ 15) where
@@ -66,7 +66,8 @@ module _ (p : ℕ) (few : p ≤ 15) where
   unfolding singularIn singular
   singular-same l m c h s =
       let t = stage-same l m c (omega arith) s in
-      ap tooSmall (ap (λ (q : ℕ). view (stageIn p l c) q c) (pivot-same (stageIn p l c) (stage p m c) t c h) ∙ t (pivotRow p c (stage p m c)) c (pivot-below (stageIn p l c) (stage p m c) t c h) (omega arith))
+      ap tooSmall (ap (λ (q : ℕ). view (stageIn p l c) q c) (pivot-same (stageIn p l c) (stage p m c) t c h)
+      ∙ t (pivotRow p c (stage p m c)) c (pivot-below (stageIn p l c) (stage p m c) t c h) (omega arith))
 
   fine-same : (l : List Float) (m : Matrix) (n : ℕ) → n ≤ p → Same l m → fineIn p l n ≡ fine p m n
   unfolding fineIn fine

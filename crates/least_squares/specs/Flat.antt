@@ -1,5 +1,5 @@
--- The elimination as the code holds it: the augmented matrix in a list of 240 numbers, 15 rows of 16, of which the first p rows and p + 1 columns are used. That
--- these numbers are those of the matrices is proved (proofs/Matrices.antt). Assumes nothing.
+-- The elimination as the code holds it: the augmented matrix in a list of 240 numbers, 15 rows of 16, of which the first p rows and p + 1 columns are used.
+-- That these numbers are those of the matrices is proved (proofs/Matrices.antt). Assumes nothing.
 use Prim.Native.Nat.{ℕ, zero, suc, _+_, _*_, _-_, _/_, _%_}
 use mathlib.Core.Bool.{Bool, true, cond, _&&_, not}
 use mathlib.Core.List.{List}

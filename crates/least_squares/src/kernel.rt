@@ -156,7 +156,8 @@ fn betas(a: &[f64; 240]) -> [f64; 15]
 
 fn solve_for(rows: &[f64], y: &[f64], p: usize, beta: &mut [f64]) -> bool
     requires { ⌜ (length (now rows) ≡ length (now y) * p) × (p ≤ 15) × (length (now beta) ≡ p) ⌝ }
-    ensures { λ r. ⌜ (r ≡ solvable (now (rows .entry)) (now (y .entry)) p) × (now (beta .exit) ≡ solvedElse (now (rows .entry)) (now (y .entry)) p (now (beta .entry))) ⌝ }
+    ensures { λ r. ⌜ (r ≡ solvable (now (rows .entry)) (now (y .entry)) p)
+        × (now (beta .exit) ≡ solvedElse (now (rows .entry)) (now (y .entry)) p (now (beta .entry))) ⌝ }
 {
     let mut a = [0.0; 240];
     normal(rows, y, p, &mut a);
@@ -183,7 +184,8 @@ fn shape(rows: &[f64], y: &[f64], p: usize, nb: usize) -> bool
 
 // The kernel without residuals: whether there are coefficients, and beta holds them then, and what it held otherwise.
 pub fn coefficients(rows: &[f64], y: &[f64], p: usize, beta: &mut [f64]) -> bool
-    ensures { λ r. ⌜ (r ≡ solvableFor (now (rows .entry)) (now (y .entry)) p (length (now (beta .entry)))) × (now (beta .exit) ≡ coefficientsOf (now (rows .entry)) (now (y .entry)) p (now (beta .entry))) ⌝ }
+    ensures { λ r. ⌜ (r ≡ solvableFor (now (rows .entry)) (now (y .entry)) p (length (now (beta .entry))))
+        × (now (beta .exit) ≡ coefficientsOf (now (rows .entry)) (now (y .entry)) p (now (beta .entry))) ⌝ }
 {
     if shape(rows, y, p, beta.len()) {
         return solve_for(rows, y, p, beta);

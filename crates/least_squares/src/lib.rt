@@ -85,7 +85,8 @@ pub fn ols(
     beta: &mut [f64],
     residuals: &mut [f64],
 ) -> slices::Outcome
-    ensures { λ r. ⌜ left r (now (beta .exit) ∷ now (residuals .exit) ∷ []) [] ≡ leastSquaresCall (now (rows .entry)) (now (y .entry)) columns (now (beta .entry)) (now (residuals .entry)) ⌝ }
+    ensures { λ r. ⌜ left r (now (beta .exit) ∷ now (residuals .exit) ∷ []) [] ≡ leastSquaresCall (now (rows .entry)) (now (y .entry)) columns
+        (now (beta .entry)) (now (residuals .entry)) ⌝ }
 {
     let refused = refusal(rows, y, columns, beta.len(), residuals.len());
     if refused != 0 {

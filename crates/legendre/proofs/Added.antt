@@ -32,7 +32,8 @@ unfolding sumTo
 sums-more s ek = record { sv = rw add-one (cc); slat = rw add-one (cc); slon = rw add-one (cc) }
 
 -- one degree more
-pub all-more : {f : Evaluation} {q qn v r lat lon sv slat slon w : Float} {n : ℕ} → AllSums f q n v r lat lon qn → RowSums (degrees f n) (n + 1) sv slat slon → w ≡ number (n + 1) → AllSums f q (n + 1) (v ⊕ qn ⊗ sv) (r ⊖ w ⊗ qn ⊗ sv) (lat ⊕ qn ⊗ slat) (lon ⊕ qn ⊗ slon) (qn ⊗ q)
+pub all-more : {f : Evaluation} {q qn v r lat lon sv slat slon w : Float} {n : ℕ} → AllSums f q n v r lat lon qn → RowSums (degrees f n) (n + 1) sv slat slon → w ≡ number (n + 1)
+    → AllSums f q (n + 1) (v ⊕ qn ⊗ sv) (r ⊖ w ⊗ qn ⊗ sv) (lat ⊕ qn ⊗ slat) (lon ⊕ qn ⊗ slon) (qn ⊗ q)
 unfolding allV allR allLat allLon sumTo power
 all-more {n = n} a s ew = record {
   av = rw add-one (cc);
@@ -44,7 +45,8 @@ all-more {n = n} a s ew = record {
 
 -- the sums are determined by what they read
 -- (c and s are the same)
-pub sums-as : {c s x y p d x' y' p' d' : ℕ → Float} {j : ℕ} {v lat lon : Float} → ((i : ℕ) → i < j → x i ≡ x' i) → ((i : ℕ) → i < j → y i ≡ y' i) → ((i : ℕ) → i < j → p i ≡ p' i) → ((i : ℕ) → i < j → d i ≡ d' i) → RowSums (record { c = c; s = s; x = x; y = y; p = p; d = d }) j v lat lon → RowSums (record { c = c; s = s; x = x'; y = y'; p = p'; d = d' }) j v lat lon
+pub sums-as : {c s x y p d x' y' p' d' : ℕ → Float} {j : ℕ} {v lat lon : Float} → ((i : ℕ) → i < j → x i ≡ x' i) → ((i : ℕ) → i < j → y i ≡ y' i) → ((i : ℕ) → i < j → p i ≡ p' i)
+    → ((i : ℕ) → i < j → d i ≡ d' i) → RowSums (record { c = c; s = s; x = x; y = y; p = p; d = d }) j v lat lon → RowSums (record { c = c; s = s; x = x'; y = y'; p = p'; d = d' }) j v lat lon
 sums-as {c} {s} {x} {y} {p} {d} {x'} {y'} {p'} {d'} {j} ex ey ep ed r = record {
   sv = r .sv ∙ sum-same j (λ i l. λ h. ep i l h ⊗ (c i ⊗ ex i l h ⊕ s i ⊗ ey i l h));
   slat = r .slat ∙ sum-same j (λ i l. λ h. ed i l h ⊗ (c i ⊗ ex i l h ⊕ s i ⊗ ey i l h));

@@ -109,12 +109,14 @@ module _ (N : ℕ) (gm radius : Float) (a b work : List Float) (r lat lon : Floa
   evaluated f = rw (fits-true N (length a) (length b) (length work) f)
 
   pub partials-are : (l : ℕ) (w : SineCosine) (z : Totals) → Fits N (length a) (length b) (length work) → l ≡ tri (N + 1) → w ≡ sineCosine lat →
-      z ≡ totals (degrees (evaluation (tablesOf a b (part work (2 * l) (3 * l)) (part work (3 * l) (4 * l)) (part work (4 * l) (4 * l + (N + 1)))) (w .sine) (w .cosine) lon (part work 0 l) (part work l (2 * l)))) (radius ⊘ r) (N + 1) →
+      z ≡ totals (degrees (evaluation (tablesOf a b (part work (2 * l) (3 * l)) (part work (3 * l) (4 * l)) (part work (4 * l) (4 * l + (N + 1)))) (w .sine) (w .cosine) lon (part work 0 l)
+      (part work l (2 * l)))) (radius ⊘ r) (N + 1) →
       finished gm r z ≡ partialsWith N gm radius a b work r lat lon
   unfolding sineCosine
   partials-are l w z f el ew ez =
       ap (finished gm r) ez
-      ∙ (λ i. finished gm r (totals (degrees (evaluation (tablesOf a b (part work (2 * el i) (3 * el i)) (part work (3 * el i) (4 * el i)) (part work (4 * el i) (4 * el i + (N + 1)))) (ew i .sine) (ew i .cosine) lon (part work 0 (el i)) (part work (el i) (2 * el i)))) (radius ⊘ r) (N + 1)))
+      ∙ (λ i. finished gm r (totals (degrees (evaluation (tablesOf a b (part work (2 * el i) (3 * el i)) (part work (3 * el i) (4 * el i)) (part work (4 * el i) (4 * el i + (N + 1)))) (ew i .sine)
+      (ew i .cosine) lon (part work 0 (el i)) (part work (el i) (2 * el i)))) (radius ⊘ r) (N + 1)))
       ∙ evaluated f
 
   pub partials-none : (y : Bool) → y ≡ fitsIn N (length a) (length b) (length work) → y ≡ false → nothing ≡ partialsWith N gm radius a b work r lat lon

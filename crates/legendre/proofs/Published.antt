@@ -39,7 +39,8 @@ true-tables N = record {
 }
 
 -- lent tables that `Legendre::new` filled give the published series
-pub lent-published : (N : ℕ) (gm radius : Float) (c s : List Float) (r lat lon : Float) → partialsBy N gm radius (rows aOf (N + 1)) (rows bOf (N + 1)) c s r lat lon ≡ partialsOf N gm radius c s r lat lon
+pub lent-published : (N : ℕ) (gm radius : Float) (c s : List Float) (r lat lon : Float)
+    → partialsBy N gm radius (rows aOf (N + 1)) (rows bOf (N + 1)) c s r lat lon ≡ partialsOf N gm radius c s r lat lon
 unfolding partialsBy partialsOf
 lent-published N gm radius c s r lat lon = ap (finished gm r) (series N (lentTables N (rows aOf (N + 1)) (rows bOf (N + 1))) (sine lat) (cosine lat) (true-tables N) lon c s (radius ⊘ r))
 
@@ -59,7 +60,8 @@ pub prepared-partials : (N : ℕ) (gm radius : Float) (a b work : List Float) (r
 unfolding partialsBy
 prepared-partials N gm radius a b work r lat lon h la lb p =
     sym (evaluated N gm radius a b work r lat lon (record { degree = h; a = la; b = lb; work = p .room }))
-    ∙ ap (λ (T : Tables). finished gm r (totals (degrees (evaluation T (sine lat) (cosine lat) lon (part work 0 (size N)) (part work (size N) (2 * size N)))) (radius ⊘ r) (N + 1))) (tables-are N a b work p)
+    ∙ ap (λ (T : Tables). finished gm r (totals (degrees (evaluation T (sine lat) (cosine lat) lon (part work 0 (size N)) (part work (size N) (2 * size N)))) (radius ⊘ r) (N + 1)))
+    (tables-are N a b work p)
 
 -- with the tables of `Legendre::new` and a prepared work slice, the kernel's value is the published series of the slice's C and S
 pub published-partials : (N : ℕ) (gm radius : Float) (work : List Float) (r lat lon : Float) → N ≤ 180 → IsPrepared N work →
@@ -124,7 +126,8 @@ module _ (N : ℕ) (w : List Float) (h : N ≤ 180) (g : 8 * size N ≤ length w
   pub prepared-field : take (2 * size N) (prepared N w) ≡ take (2 * size N) w
   prepared-field =
       ap (take (2 * size N)) is-filled
-      ∙ take-at (take (2 * size N) w) (rows lowerOf (N + 1) ++ (rows upperOf (N + 1) ++ (row diagonal (N + 1) ++ drop (4 * size N + (N + 1)) w))) (2 * size N) (length-take-le (2 * size N) w (omega arith))
+      ∙ take-at (take (2 * size N) w) (rows lowerOf (N + 1) ++ (rows upperOf (N + 1) ++ (row diagonal (N + 1) ++ drop (4 * size N + (N + 1)) w))) (2 * size N)
+      (length-take-le (2 * size N) w (omega arith))
 
 -- a work slice stays prepared where its field alone is written anew
 part-later : (w w' : List Float) (k a e : ℕ) → k ≤ a → drop k w ≡ drop k w' → part w a e ≡ part w' a e
@@ -141,8 +144,10 @@ prepared-stays N w w' l q p = record {
 }
 
 -- whole tables by a prepared work slice
-pub prepared-legendre : (N : ℕ) (a b work : List Float) (lat : Float) (p dp : List Float) → Fits N (length a) (length b) (length work) → Fits N (length p) (length dp) (length work) → IsPrepared N work →
-    (legendreWith N a b work lat p dp ≡ rows (legendreBy (lentTables N a b) (sine lat) (cosine lat)) (N + 1)) × (derivativeWith N a b work lat p dp ≡ rows (derivedBy (lentTables N a b) (sine lat) (cosine lat)) (N + 1))
+pub prepared-legendre : (N : ℕ) (a b work : List Float) (lat : Float) (p dp : List Float) → Fits N (length a) (length b) (length work) → Fits N (length p) (length dp) (length work)
+    → IsPrepared N work →
+    (legendreWith N a b work lat p dp ≡ rows (legendreBy (lentTables N a b) (sine lat) (cosine lat)) (N + 1))
+    × (derivativeWith N a b work lat p dp ≡ rows (derivedBy (lentTables N a b) (sine lat) (cosine lat)) (N + 1))
 unfolding legendreWith derivativeWith
 prepared-legendre N a b work lat p dp f g h =
     let e : bothFit N a b work p dp ≡ true = rw (fits-true N (length a) (length b) (length work) f, fits-true N (length p) (length dp) (length work) g) in (

@@ -51,14 +51,18 @@ module _ (T : Tables) (t : Float) (n : ℕ) (q1 q2 : List Float) (h1 : Holds T t
         ];
   }
 
-  pub p-is : (u : Float) {r p : List Float} → Has (n + 1) (unscale u) r → Has (n + 1) (λ (m : ℕ). nextRow n (tri n) t (getD (T .heads) n nan) (T .a) (T .b) (at q1) (at q2) m ⊗ at r m) p → Has (n + 1) (legendreBy T t u n) p
+  pub p-is : (u : Float) {r p : List Float} → Has (n + 1) (unscale u) r → Has (n + 1) (λ (m : ℕ). nextRow n (tri n) t (getD (T .heads) n nan) (T .a) (T .b) (at q1) (at q2) m ⊗ at r m) p
+      → Has (n + 1) (legendreBy T t u n) p
   p-is u hr hp = has-as hp (λ m l. ap₂ (λ (x y : Float). x ⊗ y) (next-is m (omega arith)) (hr .set m l))
 
-pub d-is : (T : Tables) (t u : Float) (n : ℕ) {p d : List Float} → Has (n + 1) (legendreBy T t u n) p → Has (n + 1) (derivedRow n (from (T .lower) (tri n)) (from (T .upper) (tri n)) (at p)) d → Has (n + 1) (derivedBy T t u n) d
+pub d-is : (T : Tables) (t u : Float) (n : ℕ) {p d : List Float} → Has (n + 1) (legendreBy T t u n) p → Has (n + 1) (derivedRow n (from (T .lower) (tri n)) (from (T .upper) (tri n)) (at p)) d
+    → Has (n + 1) (derivedBy T t u n) d
 d-is T t u n hp hd =
     has-as hd (λ m l. der-cong n (from (T .lower) (tri n)) (from (T .upper) (tri n)) (λ i h. hp .set i (omega arith)) m (omega arith))
 
-pub row-sums-are : (f : Evaluation) (n : ℕ) {x y p d : List Float} {v lat lon : Float} → Has (n + 1) (cosines (f .lon)) x → Has (n + 1) (sines (f .lon)) y → Has (n + 1) (legendreBy (f .tables) (f .t) (f .u) n) p → Has (n + 1) (derivedBy (f .tables) (f .t) (f .u) n) d → RowSums (degreeOf (from (f .c) (tri n)) (from (f .s) (tri n)) (at x) (at y) (at p) (at d)) (n + 1) v lat lon → RowSums (degrees f n) (n + 1) v lat lon
+pub row-sums-are : (f : Evaluation) (n : ℕ) {x y p d : List Float} {v lat lon : Float} → Has (n + 1) (cosines (f .lon)) x → Has (n + 1) (sines (f .lon)) y
+    → Has (n + 1) (legendreBy (f .tables) (f .t) (f .u) n) p → Has (n + 1) (derivedBy (f .tables) (f .t) (f .u) n) d
+    → RowSums (degreeOf (from (f .c) (tri n)) (from (f .s) (tri n)) (at x) (at y) (at p) (at d)) (n + 1) v lat lon → RowSums (degrees f n) (n + 1) v lat lon
 row-sums-are f n hx hy hp hd s = sums-as (hx .set) (hy .set) (hp .set) (hd .set) s
 
 -- what is long enough for a degree is so for a lower one

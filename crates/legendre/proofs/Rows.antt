@@ -13,7 +13,8 @@ use lib.Ieee.{Float, nan, neg}
 use lib.ListN.{getD}
 
 -- the recursion's row, where q2 is being overwritten
-pub next-mid : (n k : ℕ) (t h : Float) (a b q1 q2₀ : List Float) {q2 : List Float} {g : ℕ → Float} {m : ℕ} → Begins m g q2₀ q2 → m < n → stepAt a b t (k + m) (getD q1 m nan) (getD q2 m nan) ≡ nextRow n k t h a b (at q1) (at q2₀) m
+pub next-mid : (n k : ℕ) (t h : Float) (a b q1 q2₀ : List Float) {q2 : List Float} {g : ℕ → Float} {m : ℕ} → Begins m g q2₀ q2 → m < n
+    → stepAt a b t (k + m) (getD q1 m nan) (getD q2 m nan) ≡ nextRow n k t h a b (at q1) (at q2₀) m
 next-mid n k t h a b q1 q2₀ {m = m} r l =
     ap (λ (x : Float). stepAt a b t (k + m) (getD q1 m nan) x) (r .rest m (omega arith)) ∙ rw (lt-ltb m n l)
 

@@ -50,8 +50,10 @@ module _ (N : ℕ) (a b work : List Float) (lat : Float) (p dp : List Float) whe
       (x ≡ legendreWith N a b work lat p dp) × (y ≡ derivativeWith N a b work lat p dp)
   unfolding legendreWith derivativeWith sineCosine
   computed-is l w x y f g e ew ex ey = (
-    ex ∙ (λ i. rows (legendreBy (tablesOf a b (part work (2 * e i) (3 * e i)) (part work (3 * e i) (4 * e i)) (part work (4 * e i) (4 * e i + (N + 1)))) (ew i .sine) (ew i .cosine)) (N + 1)) ∙ rw (both-fit N a b work p dp f g),
-    ey ∙ (λ i. rows (derivedBy (tablesOf a b (part work (2 * e i) (3 * e i)) (part work (3 * e i) (4 * e i)) (part work (4 * e i) (4 * e i + (N + 1)))) (ew i .sine) (ew i .cosine)) (N + 1)) ∙ rw (both-fit N a b work p dp f g),
+    ex ∙ (λ i. rows (legendreBy (tablesOf a b (part work (2 * e i) (3 * e i)) (part work (3 * e i) (4 * e i)) (part work (4 * e i) (4 * e i + (N + 1)))) (ew i .sine) (ew i .cosine)) (N + 1))
+        ∙ rw (both-fit N a b work p dp f g),
+    ey ∙ (λ i. rows (derivedBy (tablesOf a b (part work (2 * e i) (3 * e i)) (part work (3 * e i) (4 * e i)) (part work (4 * e i) (4 * e i + (N + 1)))) (ew i .sine) (ew i .cosine)) (N + 1))
+        ∙ rw (both-fit N a b work p dp f g),
   )
 
   pub computed-not : (x y z : Bool) → x ≡ fitsIn N (length a) (length b) (length work) → y ≡ fitsIn N (length p) (length dp) (length work) → z ≡ x && y → z ≡ false →

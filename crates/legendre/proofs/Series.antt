@@ -59,7 +59,8 @@ module _ (N : ℕ) (T : Tables) (t : Float) (true : TrueTables N T) where
   p-true u n m l h = ap (λ (x : Float). x ⊗ unscale u m) (columns m (n - m) n (omega arith) h)
 
 -- the derivative's row is determined by its factors
-pub factors : (n : ℕ) {low up low' up' : ℕ → Float} (p : ℕ → Float) → ((i : ℕ) → 1 ≤ i → i ≤ n → low i ≡ low' i) → ((i : ℕ) → i < n → up i ≡ up' i) → (m : ℕ) → m ≤ n → derivedRow n low up p m ≡ derivedRow n low' up' p m
+pub factors : (n : ℕ) {low up low' up' : ℕ → Float} (p : ℕ → Float) → ((i : ℕ) → 1 ≤ i → i ≤ n → low i ≡ low' i) → ((i : ℕ) → i < n → up i ≡ up' i) → (m : ℕ) → m ≤ n
+    → derivedRow n low up p m ≡ derivedRow n low' up' p m
 factors n {low} {up} {low'} {up'} p el eu m le =
     elim (decLe 1 n) [
       | no z ↦ rw (eq-eqb n 0 (omega arith))

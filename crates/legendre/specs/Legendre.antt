@@ -34,7 +34,8 @@ aOf n m =
 unfoldable pub bOf : ℕ → ℕ → Float
 bOf n m =
     cond (leb n (m + 1)) zero64
-    (sqrt binary64 ((two64 ⊗ number n ⊕ one64) ⊗ (number n ⊕ number m ⊖ one64) ⊗ (number n ⊖ number m ⊖ one64) ⊘ ((number n ⊖ number m) ⊗ (number n ⊕ number m) ⊗ (two64 ⊗ number n ⊖ three64))))
+    (sqrt binary64 ((two64 ⊗ number n ⊕ one64) ⊗ (number n ⊕ number m ⊖ one64) ⊗ (number n ⊖ number m ⊖ one64) ⊘
+    ((number n ⊖ number m) ⊗ (number n ⊕ number m) ⊗ (two64 ⊗ number n ⊖ three64))))
 
 -- the ratio under the root that takes the diagonal from m − 1 to m
 abbrev pub ratio : ℕ → Float

@@ -96,7 +96,8 @@ evaluation T t u lon c s = record { tables = T; t = t; u = u; lon = lon; c = c; 
 
 abbrev pub degrees : Evaluation → ℕ → Degree
 degrees f n =
-    degreeOf (from (f .c) (tri n)) (from (f .s) (tri n)) (cosines (f .lon)) (sines (f .lon)) (legendreBy (f .tables) (f .t) (f .u) n) (derivedBy (f .tables) (f .t) (f .u) n)
+    degreeOf (from (f .c) (tri n)) (from (f .s) (tri n)) (cosines (f .lon)) (sines (f .lon)) (legendreBy (f .tables) (f .t) (f .u) n)
+    (derivedBy (f .tables) (f .t) (f .u) n)
 
 -- ---- words of the contracts
 

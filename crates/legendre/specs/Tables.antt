@@ -18,7 +18,8 @@ derivedFrom lower upper p n = derivedRow n (from lower (tri n)) (from upper (tri
 -- in place of the list dp, where the lengths fit
 unfoldable pub derivedWith : ℕ → List Float → List Float → List Float → List Float
 derivedWith N p work dp =
-    cond (fitsIn N (length p) (length dp) (length work)) (rows (derivedFrom (part work (2 * size N) (3 * size N)) (part work (3 * size N) (4 * size N)) p) (N + 1)) dp
+    cond (fitsIn N (length p) (length dp) (length work))
+    (rows (derivedFrom (part work (2 * size N) (3 * size N)) (part work (3 * size N) (4 * size N)) p) (N + 1)) dp
 
 abbrev pub bothFit : ℕ → List Float → List Float → List Float → List Float → List Float → Bool
 bothFit N a b work p dp = fitsIn N (length a) (length b) (length work) && fitsIn N (length p) (length dp) (length work)

@@ -237,9 +237,12 @@ fn legendre_row(
     q2: &mut [f64; 184],
     p: &mut [f64; 184],
 )
-    requires { ⌜ (n ≤ 180) × (k + n < length (now a)) × (k + n < length (now b)) × (length (now r) ≡ 184) × (length (now q1) ≡ 184) × (length (now q2) ≡ 184) × (length (now p) ≡ 184) ⌝ }
-    ensures { λ _. ⌜ Begins (n + 1) (nextRow n k t head (now (a .entry)) (now (b .entry)) (at (now (q1 .entry))) (at (now (q2 .entry)))) (now (q2 .entry)) (now (q2 .exit)) ⌝ }
-    ensures { λ _. ⌜ Has (n + 1) (λ (m : ℕ). nextRow n k t head (now (a .entry)) (now (b .entry)) (at (now (q1 .entry))) (at (now (q2 .entry))) m ⊗ at (now (r .entry)) m) (now (p .exit)) ⌝ }
+    requires { ⌜ (n ≤ 180) × (k + n < length (now a)) × (k + n < length (now b)) × (length (now r) ≡ 184) × (length (now q1) ≡ 184) × (length (now q2) ≡ 184)
+        × (length (now p) ≡ 184) ⌝ }
+    ensures { λ _. ⌜ Begins (n + 1) (nextRow n k t head (now (a .entry)) (now (b .entry)) (at (now (q1 .entry))) (at (now (q2 .entry)))) (now (q2 .entry))
+        (now (q2 .exit)) ⌝ }
+    ensures { λ _. ⌜ Has (n + 1) (λ (m : ℕ). nextRow n k t head (now (a .entry)) (now (b .entry)) (at (now (q1 .entry))) (at (now (q2 .entry))) m ⊗ at
+        (now (r .entry)) m) (now (p .exit)) ⌝ }
 {
     let mut m = 0;
     while m < n {
@@ -287,8 +290,10 @@ fn row_sums(
     p: &[f64; 184],
     d: &[f64; 184],
 ) -> Sums
-    requires { ⌜ (n ≤ 180) × (k + n < length (now c)) × (k + n < length (now s)) × (length (now x) ≡ 184) × (length (now y) ≡ 184) × (length (now p) ≡ 184) × (length (now d) ≡ 184) ⌝ }
-    ensures { λ r. ⌜ RowSums (degreeOf (from (now (c .entry)) k) (from (now (s .entry)) k) (at (now (x .entry))) (at (now (y .entry))) (at (now (p .entry))) (at (now (d .entry)))) (n + 1) (r .v) (r .lat) (r .lon) ⌝ }
+    requires { ⌜ (n ≤ 180) × (k + n < length (now c)) × (k + n < length (now s)) × (length (now x) ≡ 184) × (length (now y) ≡ 184) × (length (now p) ≡ 184)
+        × (length (now d) ≡ 184) ⌝ }
+    ensures { λ r. ⌜ RowSums (degreeOf (from (now (c .entry)) k) (from (now (s .entry)) k) (at (now (x .entry))) (at (now (y .entry))) (at (now (p .entry)))
+        (at (now (d .entry)))) (n + 1) (r .v) (r .lat) (r .lon) ⌝ }
 {
     let mut v = 0.0;
     let mut lat = 0.0;
@@ -347,8 +352,16 @@ fn one_row(
     d: &mut [f64; 184],
     sum: Running,
 ) -> Running
-    requires { ⌜ (n ≤ 180) × Room n (tablesOf (now a) (now b) (now lower) (now upper) (now heads)) × FieldRoom n (evaluation (tablesOf (now a) (now b) (now lower) (now upper) (now heads)) t u lon (now c) (now s)) × Has (n + 1) (unscale u) (now r) × Holds (tablesOf (now a) (now b) (now lower) (now upper) (now heads)) t (suc n) (now q1) × Holds (tablesOf (now a) (now b) (now lower) (now upper) (now heads)) t n (now q2) × (length (now p) ≡ 184) × (length (now d) ≡ 184) × AllSums (evaluation (tablesOf (now a) (now b) (now lower) (now upper) (now heads)) t u lon (now c) (now s)) q n (sum .v) (sum .r) (sum .lat) (sum .lon) (sum .qn) × Has (n + 1) (cosines lon) (now x) × Has (n + 1) (sines lon) (now y) ⌝ }
-    ensures { λ z. ⌜ Holds (tablesOf (now (a .entry)) (now (b .entry)) (now (lower .entry)) (now (upper .entry)) (now (heads .entry))) t (suc (suc n)) (now (q2 .exit)) × (length (now (p .exit)) ≡ 184) × (length (now (d .exit)) ≡ 184) × AllSums (evaluation (tablesOf (now (a .entry)) (now (b .entry)) (now (lower .entry)) (now (upper .entry)) (now (heads .entry))) t u lon (now (c .entry)) (now (s .entry))) q (n + 1) (z .v) (z .r) (z .lat) (z .lon) (z .qn) ⌝ }
+    requires { ⌜ (n ≤ 180) × Room n (tablesOf (now a) (now b) (now lower) (now upper) (now heads))
+        × FieldRoom n (evaluation (tablesOf (now a) (now b) (now lower) (now upper) (now heads)) t u lon (now c) (now s)) × Has (n + 1) (unscale u) (now r)
+        × Holds (tablesOf (now a) (now b) (now lower) (now upper) (now heads)) t (suc n) (now q1)
+        × Holds (tablesOf (now a) (now b) (now lower) (now upper) (now heads)) t n (now q2) × (length (now p) ≡ 184) × (length (now d) ≡ 184)
+        × AllSums (evaluation (tablesOf (now a) (now b) (now lower) (now upper) (now heads)) t u lon (now c) (now s)) q n (sum .v) (sum .r) (sum .lat)
+        (sum .lon) (sum .qn) × Has (n + 1) (cosines lon) (now x) × Has (n + 1) (sines lon) (now y) ⌝ }
+    ensures { λ z. ⌜ Holds (tablesOf (now (a .entry)) (now (b .entry)) (now (lower .entry)) (now (upper .entry)) (now (heads .entry))) t (suc (suc n))
+        (now (q2 .exit)) × (length (now (p .exit)) ≡ 184) × (length (now (d .exit)) ≡ 184)
+        × AllSums (evaluation (tablesOf (now (a .entry)) (now (b .entry)) (now (lower .entry)) (now (upper .entry)) (now (heads .entry))) t u lon
+        (now (c .entry)) (now (s .entry))) q (n + 1) (z .v) (z .r) (z .lat) (z .lon) (z .qn) ⌝ }
 {
     let w = float_of(n + 1);
     let k = tri_of(n);
@@ -386,8 +399,13 @@ fn all_rows(
     p: &mut [f64; 184],
     d: &mut [f64; 184],
 ) -> Running
-    requires { ⌜ (degree ≤ 180) × Room degree (tablesOf (now a) (now b) (now lower) (now upper) (now heads)) × FieldRoom degree (evaluation (tablesOf (now a) (now b) (now lower) (now upper) (now heads)) t u lon (now c) (now s)) × Has (degree + 1) (unscale u) (now r) × Holds (tablesOf (now a) (now b) (now lower) (now upper) (now heads)) t 0 (now qa) × Holds (tablesOf (now a) (now b) (now lower) (now upper) (now heads)) t 1 (now qb) × (length (now p) ≡ 184) × (length (now d) ≡ 184) × Has (degree + 1) (cosines lon) (now x) × Has (degree + 1) (sines lon) (now y) ⌝ }
-    ensures { λ z. ⌜ AllSums (evaluation (tablesOf (now (a .entry)) (now (b .entry)) (now (lower .entry)) (now (upper .entry)) (now (heads .entry))) t u lon (now (c .entry)) (now (s .entry))) q (degree + 1) (z .v) (z .r) (z .lat) (z .lon) (z .qn) ⌝ }
+    requires { ⌜ (degree ≤ 180) × Room degree (tablesOf (now a) (now b) (now lower) (now upper) (now heads))
+        × FieldRoom degree (evaluation (tablesOf (now a) (now b) (now lower) (now upper) (now heads)) t u lon (now c) (now s))
+        × Has (degree + 1) (unscale u) (now r) × Holds (tablesOf (now a) (now b) (now lower) (now upper) (now heads)) t 0 (now qa)
+        × Holds (tablesOf (now a) (now b) (now lower) (now upper) (now heads)) t 1 (now qb) × (length (now p) ≡ 184) × (length (now d) ≡ 184)
+        × Has (degree + 1) (cosines lon) (now x) × Has (degree + 1) (sines lon) (now y) ⌝ }
+    ensures { λ z. ⌜ AllSums (evaluation (tablesOf (now (a .entry)) (now (b .entry)) (now (lower .entry)) (now (upper .entry)) (now (heads .entry))) t u lon
+        (now (c .entry)) (now (s .entry))) q (degree + 1) (z .v) (z .r) (z .lat) (z .lon) (z .qn) ⌝ }
 {
     let mut sum = Running {
         v: 0.0,
@@ -472,8 +490,11 @@ fn streamed(
     c: &[f64],
     s: &[f64],
 ) -> Totals
-    requires { ⌜ (degree ≤ 180) × Room degree (tablesOf (now a) (now b) (now lower) (now upper) (now heads)) × FieldRoom degree (evaluation (tablesOf (now a) (now b) (now lower) (now upper) (now heads)) t u lon (now c) (now s)) ⌝ }
-    ensures { λ z. ⌜ z ≡ totalsOf (degrees (evaluation (tablesOf (now (a .entry)) (now (b .entry)) (now (lower .entry)) (now (upper .entry)) (now (heads .entry))) t u lon (now (c .entry)) (now (s .entry)))) q (degree + 1) ⌝ }
+    requires { ⌜ (degree ≤ 180) × Room degree (tablesOf (now a) (now b) (now lower) (now upper) (now heads))
+        × FieldRoom degree (evaluation (tablesOf (now a) (now b) (now lower) (now upper) (now heads)) t u lon (now c) (now s)) ⌝ }
+    ensures { λ z. ⌜ z ≡ totalsOf (degrees (evaluation
+        (tablesOf (now (a .entry)) (now (b .entry)) (now (lower .entry)) (now (upper .entry)) (now (heads .entry))) t u lon (now (c .entry))
+        (now (s .entry)))) q (degree + 1) ⌝ }
 {
     let mut r = [0.0; 184];
     let mut x = [0.0; 184];
@@ -635,8 +656,11 @@ fn derive_one(
     d: &mut [f64; 184],
     dp: &mut [f64],
 )
-    requires { ⌜ (n ≤ 180) × (k + n < length (now lower)) × (k + n < length (now upper)) × (k + n < length (now p)) × (length (now x) ≡ 184) × (length (now d) ≡ 184) × (k + (n + 1) ≤ length (now dp)) ⌝ }
-    ensures { λ _. ⌜ (take (k + (n + 1)) (now (dp .exit)) ≡ take k (now (dp .entry)) ++ row (derivedRow n (from (now (lower .entry)) k) (from (now (upper .entry)) k) (from (now (p .entry)) k)) (n + 1)) × (length (now (x .exit)) ≡ 184) × (length (now (d .exit)) ≡ 184) ⌝ }
+    requires { ⌜ (n ≤ 180) × (k + n < length (now lower)) × (k + n < length (now upper)) × (k + n < length (now p)) × (length (now x) ≡ 184)
+        × (length (now d) ≡ 184) × (k + (n + 1) ≤ length (now dp)) ⌝ }
+    ensures { λ _. ⌜ (take (k + (n + 1)) (now (dp .exit)) ≡ take k (now (dp .entry)) ++ row
+        (derivedRow n (from (now (lower .entry)) k) (from (now (upper .entry)) k) (from (now (p .entry)) k)) (n + 1)) × (length (now (x .exit)) ≡ 184)
+        × (length (now (d .exit)) ≡ 184) ⌝ }
 {
     load_row(n, k, p, x);
     derived_row(n, k, lower, upper, x, d);
@@ -652,7 +676,8 @@ fn derive_rows(
     d: &mut [f64; 184],
     dp: &mut [f64],
 )
-    requires { ⌜ (degree ≤ 180) × (length (now lower) ≡ size degree) × (length (now upper) ≡ size degree) × (length (now p) ≡ size degree) × (length (now x) ≡ 184) × (length (now d) ≡ 184) × (length (now dp) ≡ size degree) ⌝ }
+    requires { ⌜ (degree ≤ 180) × (length (now lower) ≡ size degree) × (length (now upper) ≡ size degree) × (length (now p) ≡ size degree)
+        × (length (now x) ≡ 184) × (length (now d) ≡ 184) × (length (now dp) ≡ size degree) ⌝ }
     ensures { λ _. ⌜ now (dp .exit) ≡ rows (derivedFrom (now (lower .entry)) (now (upper .entry)) (now (p .entry))) (degree + 1) ⌝ }
 {
     let mut n = 0;
@@ -703,8 +728,16 @@ fn compute_one(
     p: &mut [f64],
     dp: &mut [f64],
 )
-    requires { ⌜ (n ≤ 180) × Room n (tablesOf (now a) (now b) (now lower) (now upper) (now heads)) × Has (n + 1) (unscale u) (now r) × Holds (tablesOf (now a) (now b) (now lower) (now upper) (now heads)) t (suc n) (now q1) × Holds (tablesOf (now a) (now b) (now lower) (now upper) (now heads)) t n (now q2) × (length (now x) ≡ 184) × (length (now d) ≡ 184) × (tri n + (n + 1) ≤ length (now p)) × (tri n + (n + 1) ≤ length (now dp)) ⌝ }
-    ensures { λ _. ⌜ Holds (tablesOf (now (a .entry)) (now (b .entry)) (now (lower .entry)) (now (upper .entry)) (now (heads .entry))) t (suc (suc n)) (now (q2 .exit)) × (length (now (x .exit)) ≡ 184) × (length (now (d .exit)) ≡ 184) × (take (tri n + (n + 1)) (now (p .exit)) ≡ take (tri n) (now (p .entry)) ++ row (legendreBy (tablesOf (now (a .entry)) (now (b .entry)) (now (lower .entry)) (now (upper .entry)) (now (heads .entry))) t u n) (n + 1)) × (take (tri n + (n + 1)) (now (dp .exit)) ≡ take (tri n) (now (dp .entry)) ++ row (derivedBy (tablesOf (now (a .entry)) (now (b .entry)) (now (lower .entry)) (now (upper .entry)) (now (heads .entry))) t u n) (n + 1)) ⌝ }
+    requires { ⌜ (n ≤ 180) × Room n (tablesOf (now a) (now b) (now lower) (now upper) (now heads)) × Has (n + 1) (unscale u) (now r)
+        × Holds (tablesOf (now a) (now b) (now lower) (now upper) (now heads)) t (suc n) (now q1)
+        × Holds (tablesOf (now a) (now b) (now lower) (now upper) (now heads)) t n (now q2) × (length (now x) ≡ 184) × (length (now d) ≡ 184)
+        × (tri n + (n + 1) ≤ length (now p)) × (tri n + (n + 1) ≤ length (now dp)) ⌝ }
+    ensures { λ _. ⌜ Holds (tablesOf (now (a .entry)) (now (b .entry)) (now (lower .entry)) (now (upper .entry)) (now (heads .entry))) t (suc (suc n))
+        (now (q2 .exit)) × (length (now (x .exit)) ≡ 184) × (length (now (d .exit)) ≡ 184)
+        × (take (tri n + (n + 1)) (now (p .exit)) ≡ take (tri n) (now (p .entry)) ++ row
+        (legendreBy (tablesOf (now (a .entry)) (now (b .entry)) (now (lower .entry)) (now (upper .entry)) (now (heads .entry))) t u n) (n + 1))
+        × (take (tri n + (n + 1)) (now (dp .exit)) ≡ take (tri n) (now (dp .entry)) ++ row
+        (derivedBy (tablesOf (now (a .entry)) (now (b .entry)) (now (lower .entry)) (now (upper .entry)) (now (heads .entry))) t u n) (n + 1)) ⌝ }
 {
     let k = tri_of(n);
     legendre_row(n, k, t, heads[n], a, b, r, q1, q2, x);
@@ -731,8 +764,14 @@ fn compute_rows(
     p: &mut [f64],
     dp: &mut [f64],
 )
-    requires { ⌜ (degree ≤ 180) × Room degree (tablesOf (now a) (now b) (now lower) (now upper) (now heads)) × Has (degree + 1) (unscale u) (now r) × Holds (tablesOf (now a) (now b) (now lower) (now upper) (now heads)) t 0 (now qa) × Holds (tablesOf (now a) (now b) (now lower) (now upper) (now heads)) t 1 (now qb) × (length (now x) ≡ 184) × (length (now d) ≡ 184) × (length (now p) ≡ size degree) × (length (now dp) ≡ size degree) ⌝ }
-    ensures { λ _. ⌜ (now (p .exit) ≡ rows (legendreBy (tablesOf (now (a .entry)) (now (b .entry)) (now (lower .entry)) (now (upper .entry)) (now (heads .entry))) t u) (degree + 1)) × (now (dp .exit) ≡ rows (derivedBy (tablesOf (now (a .entry)) (now (b .entry)) (now (lower .entry)) (now (upper .entry)) (now (heads .entry))) t u) (degree + 1)) ⌝ }
+    requires { ⌜ (degree ≤ 180) × Room degree (tablesOf (now a) (now b) (now lower) (now upper) (now heads)) × Has (degree + 1) (unscale u) (now r)
+        × Holds (tablesOf (now a) (now b) (now lower) (now upper) (now heads)) t 0 (now qa)
+        × Holds (tablesOf (now a) (now b) (now lower) (now upper) (now heads)) t 1 (now qb) × (length (now x) ≡ 184) × (length (now d) ≡ 184)
+        × (length (now p) ≡ size degree) × (length (now dp) ≡ size degree) ⌝ }
+    ensures { λ _. ⌜ (now (p .exit) ≡ rows (legendreBy
+        (tablesOf (now (a .entry)) (now (b .entry)) (now (lower .entry)) (now (upper .entry)) (now (heads .entry))) t u) (degree + 1))
+        × (now (dp .exit) ≡ rows (derivedBy (tablesOf (now (a .entry)) (now (b .entry)) (now (lower .entry)) (now (upper .entry)) (now (heads .entry))) t u)
+        (degree + 1)) ⌝ }
 {
     let mut n = 0;
     while n <= degree {
@@ -771,7 +810,8 @@ fn compute_in(
     dp: &mut [f64],
 )
     requires { ⌜ Fits degree (length (now a)) (length (now b)) (length (now work)) × Fits degree (length (now p)) (length (now dp)) (length (now work)) ⌝ }
-    ensures { λ _. ⌜ (now (p .exit) ≡ legendreWith degree (now (a .entry)) (now (b .entry)) (now (work .entry)) lat (now (p .entry)) (now (dp .entry))) × (now (dp .exit) ≡ derivativeWith degree (now (a .entry)) (now (b .entry)) (now (work .entry)) lat (now (p .entry)) (now (dp .entry))) ⌝ }
+    ensures { λ _. ⌜ (now (p .exit) ≡ legendreWith degree (now (a .entry)) (now (b .entry)) (now (work .entry)) lat (now (p .entry)) (now (dp .entry)))
+        × (now (dp .exit) ≡ derivativeWith degree (now (a .entry)) (now (b .entry)) (now (work .entry)) lat (now (p .entry)) (now (dp .entry))) ⌝ }
 {
     let l = tri_of(degree + 1);
     let l2 = 2 * l;
@@ -814,7 +854,8 @@ pub fn compute(
     p: &mut [f64],
     dp: &mut [f64],
 )
-    ensures { λ _. ⌜ (now (p .exit) ≡ legendreWith degree (now (a .entry)) (now (b .entry)) (now (work .entry)) lat (now (p .entry)) (now (dp .entry))) × (now (dp .exit) ≡ derivativeWith degree (now (a .entry)) (now (b .entry)) (now (work .entry)) lat (now (p .entry)) (now (dp .entry))) ⌝ }
+    ensures { λ _. ⌜ (now (p .exit) ≡ legendreWith degree (now (a .entry)) (now (b .entry)) (now (work .entry)) lat (now (p .entry)) (now (dp .entry)))
+        × (now (dp .exit) ≡ derivativeWith degree (now (a .entry)) (now (b .entry)) (now (work .entry)) lat (now (p .entry)) (now (dp .entry))) ⌝ }
 {
     if slices::both(
         fits(degree, a.len(), b.len(), work.len()),

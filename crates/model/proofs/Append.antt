@@ -9,7 +9,7 @@ use lib.Dec.{T}
 use lib.ListN.{length, take, drop, getD, length-drop, List·getD-append}
 use lib.Seq.{drop-append-le, take-append-le}
 use lib.Ieee.{Float, nan, lt, le}
-use Rattle.inputs.specs.Inputs.{fieldSize}
+use Rattle.inputs.specs.Inputs.{Model, fieldSize}
 use Rattle.laws.specs.Floats.{_⊖_, _⊘_}
 use Rattle.laws.specs.Times.{end, precedes}
 use Rattle.laws.specs.Tables.{rows}
@@ -69,17 +69,24 @@ blend-append N k field fs gs w j h =
     ap₂ (λ (a b : List Float). rows (blended k w field a b) (N + 1)) (added-append N fs gs j (omega arith)) (added-append N fs gs (j + 1) (omega arith))
 
 -- the coefficients at a time before the old last field
-pub kind-append : (N k : ℕ) (field ts us fs gs : List Float) (t : Float) → 2 ≤ length ts → length fs ≡ length ts * fieldSize N → T (precedes t (end (λ (u : Float). u) ts)) →
-    kindAt N k field (ts ++ us) (fs ++ gs) t ≡ kindAt N k field ts fs t
-unfolding kindAt
-kind-append N k field ts us fs gs t m l h =
-    let room = bracket-room ts t m in
-    let p : (bracket ts t + 2) * fieldSize N ≤ length ts * fieldSize N = mul-le-mul-right (fieldSize N) room in
-    ap (λ (i : ℕ). blendOf N k field (fs ++ gs) (weight (ts ++ us) t i) i) (bracket-append ts us t m h)
-    ∙ ap (λ (w : Float). blendOf N k field (fs ++ gs) w (bracket ts t)) (weight-append ts us t (bracket ts t) room)
-    ∙ blend-append N k field fs gs (weight ts t (bracket ts t)) (bracket ts t) (omega arith)
+module _ (M : Model) (us gs : List Float) (t : Float) (m : 2 ≤ length (M .fields .fieldTimes))
+    (l : length (M .fields .added) ≡ length (M .fields .fieldTimes) * fieldSize (M .fixed .degree)) (h : T (precedes t (end (λ (u : Float). u) (M .fields .fieldTimes)))) where
+  -- the model with fields appended
+  abbrev longer : Model
+  longer = record { fixed = M .fixed; fields = record { fieldTimes = M .fields .fieldTimes ++ us; added = M .fields .added ++ gs } }
 
-pub field-append : (N : ℕ) (field ts us fs gs : List Float) (t : Float) → 2 ≤ length ts → length fs ≡ length ts * fieldSize N → T (precedes t (end (λ (u : Float). u) ts)) →
-    fieldAt N field (ts ++ us) (fs ++ gs) t ≡ fieldAt N field ts fs t
-field-append N field ts us fs gs t m l h =
-    ap₂ (λ (c s : List Float). c ++ s) (kind-append N cosines field ts us fs gs t m l h) (kind-append N (sines N) field ts us fs gs t m l h)
+  kind-append : (k : ℕ) → kindAt k longer t ≡ kindAt k M t
+  unfolding kindAt
+  kind-append k =
+      let N : ℕ = M .fixed .degree in
+      let static : List Float = M .fixed .static in
+      let ts : List Float = M .fields .fieldTimes in
+      let fs : List Float = M .fields .added in
+      let room = bracket-room ts t m in
+      let p : (bracket ts t + 2) * fieldSize N ≤ length ts * fieldSize N = mul-le-mul-right (fieldSize N) room in
+      ap (λ (i : ℕ). blendOf N k static (fs ++ gs) (weight (ts ++ us) t i) i) (bracket-append ts us t m h)
+      ∙ ap (λ (w : Float). blendOf N k static (fs ++ gs) w (bracket ts t)) (weight-append ts us t (bracket ts t) room)
+      ∙ blend-append N k static fs gs (weight ts t (bracket ts t)) (bracket ts t) (omega arith)
+
+  pub field-append : fieldAt longer t ≡ fieldAt M t
+  field-append = ap₂ (λ (c s : List Float). c ++ s) (kind-append cosines) (kind-append (sines (M .fixed .degree)))

@@ -11,7 +11,7 @@ use lib.ListN.{length, take, drop, getD, set}
 use lib.Seq.{take-at, drop-at, drop-drop}
 use borrow.Rule.Slice.PartMut.{putMid, postOf}
 use lib.Ieee.{Float, nan}
-use Rattle.inputs.specs.Inputs.{fieldSize}
+use Rattle.inputs.specs.Inputs.{Model, fieldSize}
 use Rattle.laws.specs.Floats.{_⊕_, _⊖_, _⊗_, one64}
 use Rattle.laws.specs.Tables.{tri, row, rows, row-turn, row-same, rows-length, rows-at}
 use Rattle.laws.specs.Bools.{no}
@@ -35,8 +35,10 @@ pub low-turn : (start k : ℕ) (w : Float) (field p out : List Float) (m : ℕ) 
 unfolding lowAt
 low-turn start k w field p out m inv h = row-turn (lowAt start k w field) p out k m _ inv h refl
 
-pub high-turn : (start k : ℕ) (w : Float) (field a b : List Float) (fa fb : Float) (p out : List Float) (m : ℕ) → take (k + m) out ≡ p ++ row (highAt start k w field a b fa fb) m → k + m < length out →
-    take (k + (m + 1)) (set out (k + m) ((one64 ⊖ w) ⊗ (getD field (start + (k + m)) nan ⊕ getD a (start + (k + m)) nan ⊗ fa) ⊕ w ⊗ (getD field (start + (k + m)) nan ⊕ getD b (start + (k + m)) nan ⊗ fb)))
+pub high-turn : (start k : ℕ) (w : Float) (field a b : List Float) (fa fb : Float) (p out : List Float) (m : ℕ) → take (k + m) out ≡ p ++ row (highAt start k w field a b fa fb) m
+    → k + m < length out →
+    take (k + (m + 1)) (set out (k + m) ((one64 ⊖ w) ⊗ (getD field (start + (k + m)) nan ⊕ getD a (start + (k + m)) nan ⊗ fa) ⊕ w ⊗
+    (getD field (start + (k + m)) nan ⊕ getD b (start + (k + m)) nan ⊗ fb)))
     ≡ p ++ row (highAt start k w field a b fa fb) (m + 1)
 unfolding highAt
 high-turn start k w field a b fa fb p out m inv h = row-turn (highAt start k w field a b fa fb) p out k m _ inv h refl
@@ -60,7 +62,8 @@ pub high-done : (start k : ℕ) (w : Float) (field a b p out : List Float) (fa f
 unfolding blended combined rescaledAt highAt
 high-done start k w field a b p out fa fb n m h e la lb top ea eb inv f =
     ap (λ (i : ℕ). take (k + i) out) (sym f) ∙ inv ∙ ap (λ (i : ℕ). p ++ row (highAt start k w field a b fa fb) i) f
-    ∙ ap (λ (l : List Float). p ++ l) (row-same (highAt start k w field a b fa fb) (blended start w field a b n) (n + 1) (λ i l. rw (le-ltb n 2 h, e, ea ∙ factor-is (gm field) (radius field) a n la top, eb ∙ factor-is (gm field) (radius field) b n lb top)))
+    ∙ ap (λ (l : List Float). p ++ l) (row-same (highAt start k w field a b fa fb) (blended start w field a b n) (n + 1)
+    (λ i l. rw (le-ltb n 2 h, e, ea ∙ factor-is (gm field) (radius field) a n la top, eb ∙ factor-is (gm field) (radius field) b n lb top)))
 
 -- ---- fields end to end
 
@@ -156,25 +159,27 @@ both-is N r field fs w j out x y e h ex ey =
     ∙ ap₂ (λ (l m : List Float). (l ++ m) ++ drop (2 * tri (N + 1)) out) ex (ey ∙ ap (λ (i : ℕ). blendOf N (2 + i) field fs w j) e)
 
 -- the field at t
-pub field-is : (N : ℕ) (field ts fs out : List Float) (t w : Float) (j : ℕ) (out' : List Float) → w ≡ weight ts t j → j ≡ bracket ts t →
-    out' ≡ (blendOf N cosines field fs w j ++ blendOf N (sines N) field fs w j) ++ drop (2 * tri (N + 1)) out →
-    out' ≡ fieldAt N field ts fs t ++ drop (2 * tri (N + 1)) out
+pub field-is : (M : Model) (out : List Float) (t w : Float) (j : ℕ) (out' : List Float) → w ≡ weight (M .fields .fieldTimes) t j → j ≡ bracket (M .fields .fieldTimes) t →
+    out' ≡ (blendOf (M .fixed .degree) cosines (M .fixed .static) (M .fields .added) w j ++ blendOf (M .fixed .degree) (sines (M .fixed .degree)) (M .fixed .static) (M .fields .added) w j) ++ drop
+    (2 * tri (M .fixed .degree + 1)) out →
+    out' ≡ fieldAt M t ++ drop (2 * tri (M .fixed .degree + 1)) out
 unfolding kindAt
-field-is N field ts fs out t w j out' ew ej e =
+field-is M out t w j out' ew ej e =
+    let N : ℕ = M .fixed .degree in
     let rest : List Float = drop (2 * tri (N + 1)) out in
-    e ∙ ap (λ (x : Float). (blendOf N cosines field fs x j ++ blendOf N (sines N) field fs x j) ++ rest) ew
-    ∙ ap (λ (i : ℕ). (blendOf N cosines field fs (weight ts t i) i ++ blendOf N (sines N) field fs (weight ts t i) i) ++ rest) ej
+    e ∙ ap (λ (x : Float). (blendOf N cosines (M .fixed .static) (M .fields .added) x j ++ blendOf N (sines N) (M .fixed .static) (M .fields .added) x j) ++ rest) ew
+    ∙ ap (λ (i : ℕ). (blendOf N cosines (M .fixed .static) (M .fields .added) (weight (M .fields .fieldTimes) t i) i ++ blendOf N (sines N) (M .fixed .static) (M .fields .added)
+    (weight (M .fields .fieldTimes) t i) i) ++ rest) ej
 
-pub at-done : (N : ℕ) (field ts fs : List Float) (t : Float) (out out' : List Float) (b : Bool) → AtRoom N (length field) (length ts) (length fs) (length out) b → b ≡ true →
-    out' ≡ fieldAt N field ts fs t ++ drop (2 * tri (N + 1)) out → out' ≡ atLeft N field ts fs t out
-unfolding atLeft
-at-done N field ts fs t out out' b g h e =
-    e ∙ ap (λ (i : Bool). cond i (fieldAt N field ts fs t ++ drop (2 * tri (N + 1)) out) out) (sym h ∙ g .says)
+module _ (M : Model) (t : Float) (out : List Float) (b : Bool) (g : AtRoom (M .fixed .degree) (length (M .fixed .static)) (length (M .fields .fieldTimes)) (length (M .fields .added)) (length out) b)
+  where
+    pub at-done : (out' : List Float) → b ≡ true → out' ≡ fieldAt M t ++ drop (2 * tri (M .fixed .degree + 1)) out → out' ≡ atLeft M t out
+    unfolding atLeft
+    at-done out' h e = e ∙ ap (λ (i : Bool). cond i (fieldAt M t ++ drop (2 * tri (M .fixed .degree + 1)) out) out) (sym h ∙ g .says)
 
-pub at-not : (N : ℕ) (field ts fs : List Float) (t : Float) (out : List Float) (b : Bool) → AtRoom N (length field) (length ts) (length fs) (length out) b → b ≡ false →
-    out ≡ atLeft N field ts fs t out
-unfolding atLeft
-at-not N field ts fs t out b g h = ap (λ (i : Bool). cond i (fieldAt N field ts fs t ++ drop (2 * tri (N + 1)) out) out) (sym h ∙ g .says)
+    pub at-not : b ≡ false → out ≡ atLeft M t out
+    unfolding atLeft
+    at-not h = ap (λ (i : Bool). cond i (fieldAt M t ++ drop (2 * tri (M .fixed .degree + 1)) out) out) (sym h ∙ g .says)
 
 -- the coefficient of degree n and order m
 pub blend-at : (N k : ℕ) (field fs : List Float) (w : Float) (j n m : ℕ) → n ≤ N → m ≤ n →

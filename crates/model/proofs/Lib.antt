@@ -1,4 +1,12 @@
--- Laws of the model. Appended fields change nothing before the old last field: Append. The weight's bound: Within. What crate `finality` takes: Stages.
+-- Laws of the model.
+--
+--   Times       cover, bracket and weight as the code walks them
+--   Within      the bracket holds t, and the weight lies between 0 and 1
+--   Append      appended fields change nothing before the old last field
+--   Blend       the rows that the blend writes
+--   Checks      the tests that come before the work, and what the calls answer
+--   Stages      what crate `finality` takes of the model
+--   Instances   document 01's starred instances
 pub mod Times
 pub mod Within
 pub mod Append

@@ -9,7 +9,7 @@ use native.Mathlib.Omega.{arith}
 use lib.ListN.{length, take, drop, getD, length-drop}
 use lib.Seq.{drop-drop, drop-append-le, take-append-le}
 use lib.Ieee.{Float, nan, le}
-use Rattle.inputs.specs.Inputs.{fieldSize}
+use Rattle.inputs.specs.Inputs.{modelWith, fieldSize}
 use Rattle.laws.specs.Tables.{row, rows, row-length, rows-length}
 use Rattle.finality.specs.Stages.{timeOf}
 use Rattle.finality.specs.Brackets.{bracketed}
@@ -121,10 +121,10 @@ fields-mixed N field a b w =
 
 -- ---- the field at a time
 
-pub field-bracketed : (N : ℕ) (missing field ts added : List Float) (t : Float) → 2 ≤ length ts →
-    fieldAt N field ts added t ≡ bracketed missing blendFields (map (combine N field) (timed N ts added)) t
+pub field-bracketed : (N : ℕ) (missing field a b ts added : List Float) (t : Float) → 2 ≤ length ts →
+    fieldAt (modelWith N field a b ts added) t ≡ bracketed missing blendFields (map (combine N field) (timed N ts added)) t
 unfolding kindAt blendOf weight blendFields
-field-bracketed N missing field ts added t h =
+field-bracketed N missing field a b ts added t h =
     let fs : List (Float × List Float) = timed N ts added in
     let all : List (Float × List Float) = map (combine N field) fs in
     let d : Float × List Float = (nan, []) in

@@ -128,7 +128,8 @@ weight-within ts t r y f h =
     let b : Float = getD ts (j + 1) nan in
     let ta : Time a = time-says a (all-at isTime ts j y (omega arith)) in
     let tb : Time b = time-says b (all-at isTime ts (j + 1) y (omega arith)) in
-    let w = weight-between a t b ta (time-between a t b ta tb below (lt→le t b above')) tb (f j (omega arith)) (f (j + 1) (omega arith)) below (lt→le t b above') (rising-lt ts j (j + 1) r (omega arith) (omega arith)) in
+    let w = weight-between a t b ta (time-between a t b ta tb below (lt→le t b above')) tb (f j (omega arith)) (f (j + 1) (omega arith)) below (lt→le t b above')
+    (rising-lt ts j (j + 1) r (omega arith) (omega arith)) in
     (subst (λ (z : Float). T (le z ((t ⊖ a) ⊘ (b ⊖ a)))) (sym zero-bits) (w .0), subst (λ (z : Float). T (le ((t ⊖ a) ⊘ (b ⊖ a)) z)) (sym one-same) (w .1))
 
 -- ---- the kernel's contract

@@ -15,9 +15,9 @@ use Rattle.finality.specs.Brackets.{covers}
 use Rattle.slices.specs.Calls.{firstFailed, Left, settled}
 use Rattle.slices.specs.declared.Outcome.{Outcome}
 use Rattle.slices.specs.declared.Outcome.the-variants.{Accepted, Refused}
-use Rattle.inputs.specs.Inputs.{firstOf, fieldsFine, lengthsFit, fieldSize}
+use Rattle.inputs.specs.Inputs.{Model, firstOf, fieldsFine, lengthsFit, fieldSize}
 use Rattle.model.specs.Field.{cosines, sines}
-use Rattle.model.specs.Model.{bracket, weight, kindAt, fieldAt}
+use Rattle.model.specs.Model.{bracket, weight, untabled, kindAt, fieldAt}
 use Rattle.model.specs.declared.Cover.{Cover}
 use Rattle.model.specs.declared.Cover.the-variants.{Covered, Uncovered, Refused as NotTold}
 
@@ -55,10 +55,20 @@ pub record AtRoom (N field times added out : ℕ) (r : Bool) : Type 0 where
   pub fields : r ≡ true → times * fieldSize N ≤ added
   pub room : r ≡ true → 2 * tri (N + 1) ≤ out
 
+-- the same of a model
+abbrev pub sized : Model → ℕ → Bool
+sized M out = atFits (M .fixed .degree) (length (M .fixed .static)) (length (M .fields .fieldTimes)) (length (M .fields .added)) out
+
+pub record FieldRoom (M : Model) (out : ℕ) : Type 0 where
+  pub degree : M .fixed .degree ≤ 180
+  pub static : length (M .fixed .static) ≡ fieldSize (M .fixed .degree)
+  pub count : 2 ≤ length (M .fields .fieldTimes)
+  pub fields : length (M .fields .fieldTimes) * fieldSize (M .fixed .degree) ≤ length (M .fields .added)
+  pub room : 2 * tri (M .fixed .degree + 1) ≤ out
+
 -- what is left in `out`: the field at t, and what stood behind it; all as it was where the lengths do not fit
-unfoldable pub atLeft : ℕ → List Float → List Float → List Float → Float → List Float → List Float
-atLeft N field times added t out =
-    cond (atFits N (length field) (length times) (length added) (length out)) (fieldAt N field times added t ++ drop (2 * tri (N + 1)) out) out
+unfoldable pub atLeft : Model → Float → List Float → List Float
+atLeft M t out = cond (sized M (length out)) (fieldAt M t ++ drop (2 * tri (M .fixed .degree + 1)) out) out
 
 -- ---- refusals 1 to 5
 
@@ -73,7 +83,8 @@ valuesFine field added = all finite field && all finite added
 
 unfoldable pub atRefusal : ℕ → List Float → List Float → List Float → Float → ℕ → ℕ → ℕ → ℕ
 atRefusal N field times added t c s scratch =
-    firstOf (degreeFine N) (fieldsFine (length times)) (lengthsFit N (length times) (length field) (length added) c s scratch) (valuesFine field added && timesFine times t) (rising times)
+    firstOf (degreeFine N) (fieldsFine (length times)) (lengthsFit N (length times) (length field) (length added) c s scratch)
+    (valuesFine field added && timesFine times t) (rising times) 0
 
 -- ---- the calls
 
@@ -85,13 +96,13 @@ uncovered times t = cond (covers times t) 0 6
 abbrev pub atWork : ℕ → List Float → List Float → List Float → Float → List Float → List Float → Left Outcome
 atWork N field times added t c s =
     settled Accepted Refused 0 (uncovered times t)
-    (kindAt N cosines field times added t ∷ kindAt N (sines N) field times added t ∷ []) (c ∷ s ∷ []) []
+    (kindAt cosines (untabled N field times added) t ∷ kindAt (sines N) (untabled N field times added) t ∷ []) (c ∷ s ∷ []) []
 
 -- `at`, with the two outputs c and s
 abbrev pub atCall : ℕ → List Float → List Float → List Float → Float → List Float → List Float → List Float → Left Outcome
 atCall N field times added t c s scratch =
     settled Accepted Refused (atRefusal N field times added t (length c) (length s) (length scratch)) (uncovered times t)
-    (kindAt N cosines field times added t ∷ kindAt N (sines N) field times added t ∷ []) (c ∷ s ∷ []) scratch
+    (kindAt cosines (untabled N field times added) t ∷ kindAt (sines N) (untabled N field times added) t ∷ []) (c ∷ s ∷ []) scratch
 
 -- `covers`
 abbrev pub told : Bool → Cover

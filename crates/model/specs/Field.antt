@@ -1,4 +1,5 @@
--- Gravity fields as lists of numbers (document 01, module 1; the source's `Coefficients`); `factorOf` and `rescaledAt` of crate `fields` take them to another GM and radius. Assumes nothing.
+-- Gravity fields as lists of numbers (document 01, module 1; the source's `Coefficients`); `factorOf` and `rescaledAt` of crate `fields` take them to
+-- another GM and radius. Assumes nothing.
 use Prim.Native.Nat.{ℕ, _+_}
 use mathlib.Core.List.{List}
 use lib.ListN.{getD}

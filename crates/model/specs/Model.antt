@@ -5,7 +5,7 @@ use mathlib.Core.List.{List, [], _∷_, _++_}
 use lib.Dec.{ltb}
 use lib.ListN.{take, drop, getD}
 use lib.Ieee.{Float, nan, le}
-use Rattle.inputs.specs.Inputs.{fieldSize}
+use Rattle.inputs.specs.Inputs.{Model, modelWith, fieldSize}
 use Rattle.laws.specs.Floats.{_⊕_, _⊖_, _⊗_, _⊘_, one64}
 use Rattle.laws.specs.Tables.{rows}
 use Rattle.fields.specs.Rescaled.{rescaledAt}
@@ -53,10 +53,16 @@ blendOf N k field added w j = rows (blended k w field (addedField N added j) (ad
 
 -- ---- the field at a time, covered or not
 
+-- a model without Legendre tables, which the field at a time does not read
+abbrev pub untabled : ℕ → List Float → List Float → List Float → Model
+untabled N static fieldTimes added = modelWith N static [] [] fieldTimes added
+
 -- the coefficients of one kind; an ocean tide would be added to them here, after the blend
-unfoldable pub kindAt : ℕ → ℕ → List Float → List Float → List Float → Float → List Float
-kindAt N k field times added t = blendOf N k field added (weight times t (bracket times t)) (bracket times t)
+unfoldable pub kindAt : ℕ → Model → Float → List Float
+kindAt k M t =
+    let j = bracket (M .fields .fieldTimes) t in
+    blendOf (M .fixed .degree) k (M .fixed .static) (M .fields .added) (weight (M .fields .fieldTimes) t j) j
 
 -- the cosine coefficients and then the sine coefficients
-abbrev pub fieldAt : ℕ → List Float → List Float → List Float → Float → List Float
-fieldAt N field times added t = kindAt N cosines field times added t ++ kindAt N (sines N) field times added t
+abbrev pub fieldAt : Model → Float → List Float
+fieldAt M t = kindAt cosines M t ++ kindAt (sines (M .fixed .degree)) M t

@@ -6,10 +6,10 @@ ghost use lib.ListN.{length, take, drop, getD};
 ghost use lib.Ieee.{nan};
 ghost use Rattle.laws.specs.Tables.{tri, row, rows};
 ghost use Rattle.finality.specs.Brackets.{covers as coversOf};
-ghost use Rattle.inputs.specs.Inputs.{fieldSize};
+ghost use Rattle.inputs.specs.Inputs.{fieldSize, modelOf};
 ghost use Rattle.model.specs.Field.{cosines, sines};
 ghost use Rattle.model.specs.Model.{bracket as bracketOf, blended, blendOf, fieldAt};
-ghost use Rattle.model.specs.Calls.{Weighed, AtRoom, atLeft};
+ghost use Rattle.model.specs.Calls.{Weighed, AtRoom, FieldRoom, atLeft};
 
 // First field time ≤ t < last.
 pub fn covers(times: &[f64], t: f64) -> bool
@@ -59,7 +59,8 @@ pub fn weight(times: &[f64], t: f64, j: usize) -> f64
 // Row n, below degree 2: the static field alone.
 fn low_row(n: usize, k: usize, start: usize, w: f64, field: &[f64], out: &mut [f64])
     requires { ⌜ (n < 2) × (k ≡ tri n) × (start + (k + (n + 1)) ≤ length (now field)) × (k + (n + 1) ≤ length (now out)) ⌝ }
-    ensures { λ _. ⌜ ((a b : mathlib.Core.List.List lib.Ieee.Float) → take (k + (n + 1)) (now (out .exit)) ≡ take k (now (out .entry)) ++ row (blended start w (now (field .entry)) a b n) (n + 1)) ⌝ }
+    ensures { λ _. ⌜ ((a b : mathlib.Core.List.List lib.Ieee.Float)
+        → take (k + (n + 1)) (now (out .exit)) ≡ take k (now (out .entry)) ++ row (blended start w (now (field .entry)) a b n) (n + 1)) ⌝ }
 {
     let end = n + 1;
     let mut m = 0;
@@ -82,8 +83,10 @@ fn high_row(
     b: &[f64],
     out: &mut [f64],
 )
-    requires { ⌜ (2 ≤ n) × (n ≤ 180) × (k ≡ tri n) × (2 ≤ start) × (start + (k + (n + 1)) ≤ length (now field)) × (start + (k + (n + 1)) ≤ length (now a)) × (start + (k + (n + 1)) ≤ length (now b)) × (k + (n + 1) ≤ length (now out)) ⌝ }
-    ensures { λ _. ⌜ take (k + (n + 1)) (now (out .exit)) ≡ take k (now (out .entry)) ++ row (blended start w (now (field .entry)) (now (a .entry)) (now (b .entry)) n) (n + 1) ⌝ }
+    requires { ⌜ (2 ≤ n) × (n ≤ 180) × (k ≡ tri n) × (2 ≤ start) × (start + (k + (n + 1)) ≤ length (now field)) × (start + (k + (n + 1)) ≤ length (now a))
+        × (start + (k + (n + 1)) ≤ length (now b)) × (k + (n + 1) ≤ length (now out)) ⌝ }
+    ensures { λ _. ⌜ take (k + (n + 1)) (now (out .exit)) ≡ take k (now (out .entry)) ++ row
+        (blended start w (now (field .entry)) (now (a .entry)) (now (b .entry)) n) (n + 1) ⌝ }
 {
     let fa = fields::kernel::factor(field[0], field[1], a, n);
     let fb = fields::kernel::factor(field[0], field[1], b, n);
@@ -109,8 +112,10 @@ fn blend_row(
     b: &[f64],
     out: &mut [f64],
 )
-    requires { ⌜ (n ≤ 180) × (k ≡ tri n) × (2 ≤ start) × (start + (k + (n + 1)) ≤ length (now field)) × (start + (k + (n + 1)) ≤ length (now a)) × (start + (k + (n + 1)) ≤ length (now b)) × (k + (n + 1) ≤ length (now out)) ⌝ }
-    ensures { λ _. ⌜ take (k + (n + 1)) (now (out .exit)) ≡ take k (now (out .entry)) ++ row (blended start w (now (field .entry)) (now (a .entry)) (now (b .entry)) n) (n + 1) ⌝ }
+    requires { ⌜ (n ≤ 180) × (k ≡ tri n) × (2 ≤ start) × (start + (k + (n + 1)) ≤ length (now field)) × (start + (k + (n + 1)) ≤ length (now a))
+        × (start + (k + (n + 1)) ≤ length (now b)) × (k + (n + 1) ≤ length (now out)) ⌝ }
+    ensures { λ _. ⌜ take (k + (n + 1)) (now (out .exit)) ≡ take k (now (out .entry)) ++ row
+        (blended start w (now (field .entry)) (now (a .entry)) (now (b .entry)) n) (n + 1) ⌝ }
 {
     if n < 2 {
         low_row(n, k, start, w, field, out);
@@ -129,7 +134,8 @@ fn blend_rows(
     b: &[f64],
     out: &mut [f64],
 )
-    requires { ⌜ (degree ≤ 180) × (2 ≤ start) × (start + tri (degree + 1) ≤ length (now field)) × (start + tri (degree + 1) ≤ length (now a)) × (start + tri (degree + 1) ≤ length (now b)) × (length (now out) ≡ tri (degree + 1)) ⌝ }
+    requires { ⌜ (degree ≤ 180) × (2 ≤ start) × (start + tri (degree + 1) ≤ length (now field)) × (start + tri (degree + 1) ≤ length (now a))
+        × (start + tri (degree + 1) ≤ length (now b)) × (length (now out) ≡ tri (degree + 1)) ⌝ }
     ensures { λ _. ⌜ now (out .exit) ≡ rows (blended start w (now (field .entry)) (now (a .entry)) (now (b .entry))) (degree + 1) ⌝ }
 {
     let mut k = 0;
@@ -159,7 +165,8 @@ pub(crate) fn blend_kind(
     j: usize,
     out: &mut [f64],
 )
-    requires { ⌜ (degree ≤ 180) × (2 ≤ start) × (start ≤ sines degree) × (length (now field) ≡ fieldSize degree) × ((j + 2) * fieldSize degree ≤ length (now added)) × (length (now out) ≡ tri (degree + 1)) ⌝ }
+    requires { ⌜ (degree ≤ 180) × (2 ≤ start) × (start ≤ sines degree) × (length (now field) ≡ fieldSize degree)
+        × ((j + 2) * fieldSize degree ≤ length (now added)) × (length (now out) ≡ tri (degree + 1)) ⌝ }
     ensures { λ _. ⌜ now (out .exit) ≡ blendOf degree start (now (field .entry)) (now (added .entry)) w j ⌝ }
 {
     let size = 2 + 2 * places(degree);
@@ -198,8 +205,10 @@ fn at_fits(degree: usize, field: usize, times: usize, added: usize, out: usize) 
 }
 
 fn blend_both(degree: usize, field: &[f64], added: &[f64], w: f64, j: usize, out: &mut [f64])
-    requires { ⌜ (degree ≤ 180) × (length (now field) ≡ fieldSize degree) × ((j + 2) * fieldSize degree ≤ length (now added)) × (2 * tri (degree + 1) ≤ length (now out)) ⌝ }
-    ensures { λ _. ⌜ now (out .exit) ≡ (blendOf degree cosines (now (field .entry)) (now (added .entry)) w j ++ blendOf degree (sines degree) (now (field .entry)) (now (added .entry)) w j) ++ drop (2 * tri (degree + 1)) (now (out .entry)) ⌝ }
+    requires { ⌜ (degree ≤ 180) × (length (now field) ≡ fieldSize degree) × ((j + 2) * fieldSize degree ≤ length (now added))
+        × (2 * tri (degree + 1) ≤ length (now out)) ⌝ }
+    ensures { λ _. ⌜ now (out .exit) ≡ (blendOf degree cosines (now (field .entry)) (now (added .entry)) w j ++ blendOf degree (sines degree)
+        (now (field .entry)) (now (added .entry)) w j) ++ drop (2 * tri (degree + 1)) (now (out .entry)) ⌝ }
 {
     let l = places(degree);
     let end = 2 * l;
@@ -207,21 +216,32 @@ fn blend_both(degree: usize, field: &[f64], added: &[f64], w: f64, j: usize, out
     blend_kind(degree, 2 + l, field, added, w, j, &mut out[l..end]);
 }
 
-fn field_at(degree: usize, field: &[f64], times: &[f64], added: &[f64], t: f64, out: &mut [f64])
-    requires { ⌜ (degree ≤ 180) × (length (now field) ≡ fieldSize degree) × (2 ≤ length (now times)) × (length (now times) * fieldSize degree ≤ length (now added)) × (2 * tri (degree + 1) ≤ length (now out)) ⌝ }
-    ensures { λ _. ⌜ now (out .exit) ≡ fieldAt degree (now (field .entry)) (now (times .entry)) (now (added .entry)) t ++ drop (2 * tri (degree + 1)) (now (out .entry)) ⌝ }
+fn field_at<'a>(degree: usize, model: inputs::Model<'a>, t: f64, out: &mut [f64])
+    requires { ⌜ FieldRoom (modelOf degree model) (length (now out)) ⌝ }
+    ensures { λ _. ⌜ now (out .exit) ≡ fieldAt (modelOf degree (model .entry)) t ++ drop (2 * tri (degree + 1)) (now (out .entry)) ⌝ }
 {
+    let times = model[inputs::FIELD_TIMES];
     let j = bracket(times, t);
     let w = weight(times, t, j);
-    blend_both(degree, field, added, w, j, out);
+    blend_both(
+        degree,
+        model[inputs::STATIC],
+        model[inputs::ADDED],
+        w,
+        j,
+        out,
+    );
 }
 
 // The field at t, covered or not: the cosine coefficients and then the sine coefficients at the front of `out`.
 // Nothing is done where the lengths are not those of the degree.
-pub fn at(degree: usize, field: &[f64], times: &[f64], added: &[f64], t: f64, out: &mut [f64])
-    ensures { λ _. ⌜ now (out .exit) ≡ atLeft degree (now (field .entry)) (now (times .entry)) (now (added .entry)) t (now (out .entry)) ⌝ }
+pub fn at<'a>(degree: usize, model: inputs::Model<'a>, t: f64, out: &mut [f64])
+    ensures { λ _. ⌜ now (out .exit) ≡ atLeft (modelOf degree (model .entry)) t (now (out .entry)) ⌝ }
 {
+    let field = model[inputs::STATIC];
+    let times = model[inputs::FIELD_TIMES];
+    let added = model[inputs::ADDED];
     if at_fits(degree, field.len(), times.len(), added.len(), out.len()) {
-        field_at(degree, field, times, added, t, out);
+        field_at(degree, model, t, out);
     }
 }

@@ -9,7 +9,7 @@ ghost use Rattle.laws.specs.Tables.{tri};
 ghost use Rattle.slices.specs.Calls.{left};
 ghost use Rattle.inputs.specs.Inputs.{fieldSize};
 ghost use Rattle.model.specs.Field.{sines as sinesFrom};
-ghost use Rattle.model.specs.Model.{kindAt};
+ghost use Rattle.model.specs.Model.{untabled, kindAt};
 ghost use Rattle.model.specs.Calls.{timesFine, coverRefusal, coverCall, valuesFine, atRefusal, atWork, atCall};
 ghost use Rattle.fields.specs.Calls.{handedTwo};
 use fields;
@@ -87,6 +87,7 @@ fn at_refusal(
         lengths,
         values,
         slices::rising(times),
+        0,
     )
 }
 
@@ -102,8 +103,9 @@ fn kind_at(
     t: f64,
     out: &mut [f64],
 )
-    requires { ⌜ (degree ≤ 180) × (2 ≤ start) × (start ≤ sinesFrom degree) × (length (now field) ≡ fieldSize degree) × (2 ≤ length (now times)) × (length (now added) ≡ length (now times) * fieldSize degree) × (length (now out) ≡ tri (degree + 1)) ⌝ }
-    ensures { λ _. ⌜ now (out .exit) ≡ kindAt degree start (now (field .entry)) (now (times .entry)) (now (added .entry)) t ⌝ }
+    requires { ⌜ (degree ≤ 180) × (2 ≤ start) × (start ≤ sinesFrom degree) × (length (now field) ≡ fieldSize degree) × (2 ≤ length (now times))
+        × (length (now added) ≡ length (now times) * fieldSize degree) × (length (now out) ≡ tri (degree + 1)) ⌝ }
+    ensures { λ _. ⌜ now (out .exit) ≡ kindAt start (untabled degree (now (field .entry)) (now (times .entry)) (now (added .entry))) t ⌝ }
 {
     let j = kernel::bracket(times, t);
     let w = kernel::weight(times, t, j);
@@ -131,8 +133,12 @@ fn both_at(
     cosines: &mut [f64],
     sines: &mut [f64],
 ) -> slices::Outcome
-    requires { ⌜ (degree ≤ 180) × (length (now field) ≡ fieldSize degree) × (2 ≤ length (now times)) × (length (now added) ≡ length (now times) * fieldSize degree) × (length (now cosines) ≡ tri (degree + 1)) × (length (now sines) ≡ tri (degree + 1)) ⌝ }
-    ensures { λ r. ⌜ left r (now (cosines .exit) ∷ now (sines .exit) ∷ []) [] ≡ handedTwo (kindAt degree 2 (now (field .entry)) (now (times .entry)) (now (added .entry)) t) (kindAt degree (sinesFrom degree) (now (field .entry)) (now (times .entry)) (now (added .entry)) t) ⌝ }
+    requires { ⌜ (degree ≤ 180) × (length (now field) ≡ fieldSize degree) × (2 ≤ length (now times))
+        × (length (now added) ≡ length (now times) * fieldSize degree) × (length (now cosines) ≡ tri (degree + 1))
+        × (length (now sines) ≡ tri (degree + 1)) ⌝ }
+    ensures { λ r. ⌜ left r (now (cosines .exit) ∷ now (sines .exit) ∷ []) [] ≡ handedTwo
+        (kindAt 2 (untabled degree (now (field .entry)) (now (times .entry)) (now (added .entry))) t)
+        (kindAt (sinesFrom degree) (untabled degree (now (field .entry)) (now (times .entry)) (now (added .entry))) t) ⌝ }
 {
     kind_at(degree, 2, field, times, added, t, cosines);
     let start = 2 + kernel::places(degree);
@@ -149,8 +155,11 @@ fn work(
     cosines: &mut [f64],
     sines: &mut [f64],
 ) -> slices::Outcome
-    requires { ⌜ (degree ≤ 180) × (length (now field) ≡ fieldSize degree) × (2 ≤ length (now times)) × (length (now added) ≡ length (now times) * fieldSize degree) × (length (now cosines) ≡ tri (degree + 1)) × (length (now sines) ≡ tri (degree + 1)) ⌝ }
-    ensures { λ r. ⌜ left r (now (cosines .exit) ∷ now (sines .exit) ∷ []) [] ≡ atWork degree (now (field .entry)) (now (times .entry)) (now (added .entry)) t (now (cosines .entry)) (now (sines .entry)) ⌝ }
+    requires { ⌜ (degree ≤ 180) × (length (now field) ≡ fieldSize degree) × (2 ≤ length (now times))
+        × (length (now added) ≡ length (now times) * fieldSize degree) × (length (now cosines) ≡ tri (degree + 1))
+        × (length (now sines) ≡ tri (degree + 1)) ⌝ }
+    ensures { λ r. ⌜ left r (now (cosines .exit) ∷ now (sines .exit) ∷ []) [] ≡ atWork degree (now (field .entry)) (now (times .entry)) (now (added .entry)) t
+        (now (cosines .entry)) (now (sines .entry)) ⌝ }
 {
     if kernel::covers(times, t) {
         return both_at(degree, field, times, added, t, cosines, sines);
@@ -187,7 +196,8 @@ pub fn at(
     sines: &mut [f64],
     scratch: &mut [f64],
 ) -> slices::Outcome
-    ensures { λ r. ⌜ left r (now (cosines .exit) ∷ now (sines .exit) ∷ []) (now (scratch .exit)) ≡ atCall degree (now (field .entry)) (now (times .entry)) (now (added .entry)) t (now (cosines .entry)) (now (sines .entry)) (now (scratch .entry)) ⌝ }
+    ensures { λ r. ⌜ left r (now (cosines .exit) ∷ now (sines .exit) ∷ []) (now (scratch .exit)) ≡ atCall degree (now (field .entry)) (now (times .entry))
+        (now (added .entry)) t (now (cosines .entry)) (now (sines .entry)) (now (scratch .entry)) ⌝ }
 {
     let n = at_refusal(
         degree,

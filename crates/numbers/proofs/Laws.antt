@@ -14,51 +14,51 @@ use lib.IntN.{ℤ}
 use lib.Ieee.Scale.{finite}
 use lib.Ieee.{Float, Format, prec, low, emax, nan, inf, fin, add, sub, sum, round, size, nearest, odd, units, binary64, ne, eq, lt, le, level, below as Ieee·below, isNan, div, ofBits, neg, up, down}
 use Rattle.numbers.specs.declared.SineCosine.{SineCosine}
-use Rattle.laws.specs.Order.{lt-irr, lt-tr, le-lt-tr, lt→nle, eq→le}
+use Rattle.laws.specs.Order.{lt-irr, lt-tr, le-lt-tr, lt→nle, eq→le, sum-real}
+use Rattle.laws.specs.Signed.{real}
 use Rattle.laws.specs.Floats.{zero64, one64, _⊗_, _⊖_, _⊕_, _⊘_}
 use Rattle.laws.specs.SameBits.{ne-isNan, same-sign}
-use Rattle.numbers.specs.Numbers.{choose, sineCosineAt, sineNear, cosineNear, sineAt, cosineAt, rest, quarter, magnitude, halfPi, π/4, bend, angleNear, angle, below, left, eighth, arctangent, power, powerIn, hornerFrom, alternating, downward}
+use Rattle.numbers.specs.Numbers.{choose, sineCosineAt, sineNear, cosineNear, sineAt, cosineAt, rest, quarter, magnitude, halfPi, π/4, bend, angleNear, angle, below, left, eighth}
+use Rattle.numbers.specs.Numbers.{arctangent, carried, carriedIn, hornerFrom, alternating, downward}
 
 -- ---- power
 
-fuel-zero : (k : ℕ) (a : Float) (n : ℕ) (c : Float) → powerIn k true a n c ≡ c
-unfolding powerIn
-fuel-zero zero a n c = refl
-fuel-zero (suc k) a n c = refl
+fuel-zero : (k : ℕ) (a c : Float) → carriedIn k a 0 c ≡ c
+unfolding carriedIn
+fuel-zero zero a c = refl
+fuel-zero (suc k) a c = refl
 
-enough : (k j n : ℕ) (a c : Float) → n ≤ k → n ≤ j → powerIn k (eqb n 0) a n c ≡ powerIn j (eqb n 0) a n c
-unfolding powerIn
-enough zero j zero a c p q = fuel-zero zero a 0 c ∙ sym (fuel-zero j a 0 c)
+enough : (k j n : ℕ) (a c : Float) → n ≤ k → n ≤ j → carriedIn k a n c ≡ carriedIn j a n c
+unfolding carriedIn
+enough zero j zero a c p q = sym (fuel-zero j a c)
 enough zero j (suc n) a c p q = absurd (not-suc-le-zero p)
-enough (suc k) j zero a c p q = fuel-zero (suc k) a 0 c ∙ sym (fuel-zero j a 0 c)
+enough (suc k) j zero a c p q = sym (fuel-zero j a c)
 enough (suc k) zero (suc n) a c p q = absurd (not-suc-le-zero q)
-enough (suc k) (suc j) (suc n) a c p q =
-    rw (eqb·suc-zero n) (enough k j (suc n / 2) (a ⊗ a) (cond (eqb (suc n % 2) 1) (c ⊗ a) c) (omega arith) (omega arith))
+enough (suc k) (suc j) (suc n) a c p q = enough k j (suc n / 2) (a ⊗ a) (cond (eqb (suc n % 2) 1) (c ⊗ a) c) (omega arith) (omega arith)
 
-pub power-none : (a c : Float) → power a 0 c ≡ c
-unfolding power powerIn
-power-none a c = refl
-
-pub power-more : (a : Float) (n : ℕ) (c : Float) → (n ≡ 0 → ⊥) → power a n c ≡ power (a ⊗ a) (n / 2) (cond (eqb (n % 2) 1) (c ⊗ a) c)
-unfolding power powerIn
-power-more a zero c f = absurd (f refl)
-power-more a (suc n) c f =
+-- document 01's sentence, for every n
+pub carried-is : (a : Float) (n : ℕ) (c : Float) → carried a n c ≡ cond (eqb n 0) c (carried (a ⊗ a) (n / 2) (cond (eqb (n % 2) 1) (c ⊗ a) c))
+unfolding carried carriedIn
+carried-is a zero c = refl
+carried-is a (suc n) c =
     rw (eqb·suc-zero n) (enough n (suc n / 2) (suc n / 2) (a ⊗ a) (cond (eqb (suc n % 2) 1) (c ⊗ a) c) (omega arith) (omega arith))
 
-pub power-stop : (a : Float) (n : ℕ) (c : Float) → n ≡ 0 → c ≡ power a n c
-power-stop a n c e = rw e (sym (power-none a c))
+pub carried-stop : (a : Float) (n : ℕ) (c : Float) → n ≡ 0 → c ≡ carried a n c
+carried-stop a n c e = rw e (sym (carried-is a 0 c))
 
-pub power-even : (a : Float) (n : ℕ) (c : Float) → (n ≡ 0 → ⊥) → n % 2 ≡ 0 → power (a ⊗ a) (n / 2) c ≡ power a n c
-power-even a n c f e = sym (power-more a n c f ∙ rw e refl)
+pub carried-even : (a : Float) (n : ℕ) (c : Float) → (n ≡ 0 → ⊥) → n % 2 ≡ 0 → carried (a ⊗ a) (n / 2) c ≡ carried a n c
+carried-even a zero c f e = absurd (f refl)
+carried-even a (suc n) c f e = sym (carried-is a (suc n) c ∙ rw (eqb·suc-zero n, e) refl)
 
-pub power-odd : (a : Float) (n : ℕ) (c : Float) → (n % 2 ≡ 0 → ⊥) → power (a ⊗ a) (n / 2) (c ⊗ a) ≡ power a n c
-power-odd a n c f =
-    let e : n % 2 ≡ 1 = omega arith in
-    sym (power-more a n c (λ z. f (rw z refl)) ∙ rw e refl)
+pub carried-odd : (a : Float) (n : ℕ) (c : Float) → (n % 2 ≡ 0 → ⊥) → carried (a ⊗ a) (n / 2) (c ⊗ a) ≡ carried a n c
+carried-odd a zero c f = absurd (f refl)
+carried-odd a (suc n) c f =
+    let e : suc n % 2 ≡ 1 = omega arith in
+    sym (carried-is a (suc n) c ∙ rw (eqb·suc-zero n, e) refl)
 
-pub power-one : (a : Float) (n : ℕ) (c : Float) → n ≡ 1 → c ⊗ a ≡ power a n c
-unfolding power powerIn
-power-one a n c e = rw e refl
+pub carried-one : (a : Float) (n : ℕ) (c : Float) → n ≡ 1 → c ⊗ a ≡ carried a n c
+unfolding carried carriedIn
+carried-one a n c e = rw e refl
 
 -- ---- Horner
 
@@ -280,36 +280,9 @@ opposite : (s : Bool) → Bool·beq s (not s) ≡ false
 opposite true = refl
 opposite false = refl
 
-odd-real : (d : ℕ) (s : Bool) (q k l : ℕ) → isNan (odd d s q k l) ≡ false
-unfolding odd isNan
-odd-real d s zero k l = refl
-odd-real d s (suc q) k l = refl
-
-cond-real : (b : Bool) (x y : Float) → isNan x ≡ false → isNan y ≡ false → isNan (cond b x y) ≡ false
-cond-real true x y h g = h
-cond-real false x y h g = g
-
-units-real : (f : Format) (s : Bool) (q k : ℕ) → isNan (units f s q k) ≡ false
-unfolding units isNan
-units-real f s q k = cond-real (ltb (q * 2 ^ k) (2 ^ (low f + suc (emax f)))) _ _ (odd-real (suc (prec f)) s q k (low f)) refl
-
-round-real : (f : Format) (s : Bool) (a c : ℕ) → isNan (round f s a c) ≡ false
-unfolding round
-round-real f s a c =
-    let n = a * 2 ^ low f in
-    let k = size (n / c) - prec f in
-    let u = c * 2 ^ k in
-    units-real f s (nearest (n / u) (compare (n % u * 2) u)) k
-
-sum-real : (f : Format) (s : Bool) (a : ℕ) (t : Bool) (b c : ℕ) → isNan (sum f s a t b c) ≡ false
-unfolding sum
-sum-real f s a t b c =
-    cond-real (Bool·beq s t) _ _ (round-real f s (a + b) c)
-    (cond-real (ltb a b) _ _ (round-real f t (b - a) c) (round-real f (s && ltb b a) (a - b) c))
-
-same : (x : Float) → isNan x ≡ false → eq x x ≡ true
-unfolding eq isNan
-same nan h = sym h
+same : (x : Float) → T (real x) → eq x x ≡ true
+unfolding eq
+same nan h = absurd h
 same (inf s) h = same-sign s
 same (fin s m e) h = rw (eq-eqb (m * up e * down e) (m * up e * down e) refl, same-sign s)
 

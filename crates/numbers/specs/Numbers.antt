@@ -173,12 +173,16 @@ arcsine v = cond (lt v (neg one64) || lt one64 v) nan (arctangent v (sqrt binary
 
 -- ---- power: "c at n = 0, else the power of a·a to n halved, carried in c·a for odd n, in c for even"
 
--- at most k halvings of n; the Bool says whether n is 0
-unfoldable pub powerIn : ℕ → Bool → Float → ℕ → Float → Float
-powerIn zero b a n c = c
-powerIn (suc k) true a n c = c
-powerIn (suc k) false a n c = powerIn k (eqb (n / 2) 0) (a ⊗ a) (n / 2) (cond (eqb (n % 2) 1) (c ⊗ a) c)
+-- in at most k halvings
+unfoldable pub carriedIn : ℕ → Float → ℕ → Float → Float
+carriedIn zero a n c = c
+carriedIn (suc k) a zero c = c
+carriedIn (suc k) a (suc n) c = carriedIn k (a ⊗ a) (suc n / 2) (cond (eqb (suc n % 2) 1) (c ⊗ a) c)
 
--- n halvings are enough
-unfoldable pub power : Float → ℕ → Float → Float
-power a n c = powerIn n (eqb n 0) a n c
+-- the power of a to n, carried in c: n halvings are enough
+unfoldable pub carried : Float → ℕ → Float → Float
+carried a n c = carriedIn n a n c
+
+-- the power of a to n: carried in 1 "at first"
+abbrev pub power : Float → ℕ → Float
+power a n = carried a n one64

@@ -1,4 +1,5 @@
--- GPS seconds (document 01, "Expected form in each place"): the one truncating step from a time with a fraction to the whole second that keys a list. Assumes nothing.
+-- GPS seconds (document 01, "Expected form in each place"): the one truncating step from a time with a fraction to the whole second that keys a list.
+-- Assumes nothing.
 use mathlib.Core.Bool.{Bool, true, false, cond, _&&_}
 use lib.IntN.{ℤ, pos}
 use lib.Ieee.{Float, fin, le, lt}

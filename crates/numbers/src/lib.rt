@@ -7,7 +7,9 @@ ghost use lib.Dec.{T};
 ghost use mathlib.Core.Bool.{true, false};
 ghost use lib.Ieee.{lt};
 ghost use lib.Ieee.Scale.{finite};
-ghost use Rattle.numbers.specs.Numbers.{power, horner, alternating, downward, magnitude, angleNear, angle, eighth, left, below, arctangent, arcsine, sineNear, cosineNear, near, rounded, quarter, rest, sineAt, cosineAt, sine, cosine, sineCosineAt, sineCosine, halved, halfPi};
+ghost use Rattle.numbers.specs.Numbers.{carried, power, horner, alternating, downward, magnitude, angleNear, angle, eighth, left, below};
+ghost use Rattle.numbers.specs.Numbers.{arctangent, arcsine, sineNear, cosineNear, near, rounded, quarter, rest, sineAt, cosineAt, sine, cosine};
+ghost use Rattle.numbers.specs.Numbers.{sineCosineAt, sineCosine, halved, halfPi};
 ghost use Rattle.laws.specs.Floats.{_⊘_, zero64};
 ghost use Rattle.numbers.specs.Seconds.{wholeSecond};
 
@@ -338,17 +340,24 @@ pub fn arcsine(v: f64) -> f64
     }
 }
 
-// a to the n, times c: the exponent falls by halving, and at 1 the last square is left out.
-pub fn power(a: f64, n: u32, c: f64) -> f64
-    ensures { λ r. ⌜ r ≡ power a n c ⌝ }
+// The power of a to n, carried in c: the exponent falls by halving, and at 1 the last square is left out.
+pub fn carried(a: f64, n: u32, c: f64) -> f64
+    ensures { λ r. ⌜ r ≡ carried a n c ⌝ }
 {
     if n % 2 == 0 {
-        if n == 0 { c } else { power(a * a, n / 2, c) }
+        if n == 0 { c } else { carried(a * a, n / 2, c) }
     } else if n == 1 {
         c * a
     } else {
-        power(a * a, n / 2, c * a)
+        carried(a * a, n / 2, c * a)
     }
+}
+
+// The power of a to n.
+pub fn power(a: f64, n: u32) -> f64
+    ensures { λ r. ⌜ r ≡ power a n ⌝ }
+{
+    carried(a, n, 1.0)
 }
 
 // Neither NaN nor an infinity.

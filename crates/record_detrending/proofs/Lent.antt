@@ -32,7 +32,8 @@ module _ (R : RattleType) (κ κ′ : Lft) (q : Share) (γ : GName) (b o : ℕ) 
   at-list δ ys = record { ptr = (b, o); name = δ; now = ys }
 
   abbrev pub LentShared : List (R .Denot) → Fml
-  LentShared ys = fsep (flent κ′ (arr-parts (shares R) (length ys) .part fullShare ys b o)) (fsep (fobor κ q (Held R (length ys) b o γ)) (fsep (fobs γ (codedHoleys R .code (heres R ys))) (fauth γ (codedHoleys R .code (heres R ys)))))
+  LentShared ys = fsep (flent κ′ (arr-parts (shares R) (length ys) .part fullShare ys b o))
+      (fsep (fobor κ q (Held R (length ys) b o γ)) (fsep (fobs γ (codedHoleys R .code (heres R ys))) (fauth γ (codedHoleys R .code (heres R ys)))))
 
   module _ {M : Type 1} (𝓤 : URA M) (H : Heap 𝓤) (A : Atoms 𝓤) (W : Given 𝓤 H A) (ℓ ℓ′ : Lifetime) (ys : List (R .Denot)) where
     abbrev vals : ℕ → List Val
@@ -44,17 +45,21 @@ module _ (R : RattleType) (κ κ′ : Lft) (q : Share) (γ : GName) (b o : ℕ) 
         (H .⇛ (ex 𝓤 (λ (γ₁ : GName). sep 𝓤 (sem 𝓤 H A (MutSlice ℓ′ κ′ R .own (at-list γ₁ ys) (vals m))) (sem 𝓤 H A (LentAgain R κ κ′ q γ b o γ₁ ys)))))) e (lends-again R κ κ′ q γ b o 𝓤 H A W ℓ ℓ′ ys)
 
     pub mut-back : (n : ℕ) → length ys ≡ n → (γ₁ : GName) (zs : List (R .Denot)) → Room R n → length zs ≡ n
-        → ent 𝓤 (sep 𝓤 (A .dead κ′) (sep 𝓤 (sem 𝓤 H A (LentAgain R κ κ′ q γ b o γ₁ ys)) (sem 𝓤 H A (finally R γ₁ zs)))) (H .⇛ (sep 𝓤 (sem 𝓤 H A (MutSlice ℓ κ R .own (at-list γ zs) (vals n))) (A .lft κ q)))
+        → ent 𝓤 (sep 𝓤 (A .dead κ′) (sep 𝓤 (sem 𝓤 H A (LentAgain R κ κ′ q γ b o γ₁ ys)) (sem 𝓤 H A (finally R γ₁ zs))))
+        (H .⇛ (sep 𝓤 (sem 𝓤 H A (MutSlice ℓ κ R .own (at-list γ zs) (vals n))) (A .lft κ q)))
     mut-back n e γ₁ zs = subst (λ (m : ℕ). Room R m → length zs ≡ m
-        → ent 𝓤 (sep 𝓤 (A .dead κ′) (sep 𝓤 (sem 𝓤 H A (LentAgain R κ κ′ q γ b o γ₁ ys)) (sem 𝓤 H A (finally R γ₁ zs)))) (H .⇛ (sep 𝓤 (sem 𝓤 H A (MutSlice ℓ κ R .own (at-list γ zs) (vals m))) (A .lft κ q)))) e
+        → ent 𝓤 (sep 𝓤 (A .dead κ′) (sep 𝓤 (sem 𝓤 H A (LentAgain R κ κ′ q γ b o γ₁ ys)) (sem 𝓤 H A (finally R γ₁ zs))))
+        (H .⇛ (sep 𝓤 (sem 𝓤 H A (MutSlice ℓ κ R .own (at-list γ zs) (vals m))) (A .lft κ q)))) e
         (comes-back R κ κ′ q γ b o 𝓤 H A W ℓ ℓ′ ys γ₁ zs)
 
     shares-out : ent 𝓤 (sep 𝓤 (sem 𝓤 H A (MutSlice ℓ κ R .own (at-list γ ys) (vals (length ys)))) (A .lft κ q))
         (H .⇛ (ex 𝓤 (λ (γ₁ : GName). sep 𝓤 (sem 𝓤 H A (ShrSlice ℓ′ κ′ R .own (at-list γ₁ ys) (vals (length ys)))) (sem 𝓤 H A (LentShared ys)))))
     shares-out =
-        qed W (‵ (MutSlice ℓ κ R .own (at-list γ ys) (vals (length ys))) ∷ ‵ (flft κ q) ∷ []) ∵ updating ! $ fsplit ! $ pureL ! (at-slice R (at-list γ ys) (vals (length ys))) (λ p. fsplit ! $ opens-slice ! tt R ys b o $
+        qed W (‵ (MutSlice ℓ κ R .own (at-list γ ys) (vals (length ys))) ∷ ‵ (flft κ q) ∷ []) ∵ updating ! $ fsplit ! $ pureL ! (at-slice R (at-list γ ys) (vals (length ys))) (λ p. fsplit ! $
+        opens-slice ! tt R ys b o $
         feqI ! ℕ (length ys) (length ys) refl $ fjoin ! $
-        use1 W (later (some (λ (γ₁ : GName). ‵ (ShrSlice ℓ′ κ′ R .own (at-list γ₁ ys) (vals (length ys))) ⊛ ‵ (flent κ′ (arr-parts (shares R) (length ys) .part fullShare ys b o))))) (lends-shr-slice 𝓤 H A W R ℓ′ κ′ fullShare ys b o (p .1)) $ await ! tt $ pick ! (λ γ₁. split ! $
+        use1 W (later (some (λ (γ₁ : GName). ‵ (ShrSlice ℓ′ κ′ R .own (at-list γ₁ ys) (vals (length ys))) ⊛ ‵ (flent κ′ (arr-parts (shares R) (length ys) .part fullShare ys b o)))))
+        (lends-shr-slice 𝓤 H A W R ℓ′ κ′ fullShare ys b o (p .1)) $ await ! tt $ pick ! (λ γ₁. split ! $
         -- [the new slice; the lender's part at κ′; the open borrow at κ; obs γ; auth γ]
         at-once ! $ show ! (λ (γ′ : GName). sep 𝓤 (sem 𝓤 H A (ShrSlice ℓ′ κ′ R .own (at-list γ′ ys) (vals (length ys)))) (sem 𝓤 H A (LentShared ys))) γ₁ $ frame ! $
         move ! (2 ∷ 3 ∷ []) $ fjoin ! $ move ! (2 ∷ 0 ∷ []) $ fjoin ! $ move ! (1 ∷ 0 ∷ []) $ fjoin ! $ done !))

@@ -11,7 +11,7 @@ use lib.Seq.{set-append-left, take-set-lt, drop-set-lt, length-take-le, take-all
 use borrow.Rule.Slice.PartMut.{putMid, same-len-mid}
 use Rattle.epoch_record.specs.EpochRecord.{time, residual, timesOf, residualsOf}
 use Rattle.epoch_record.specs.declared.Epoch.{Epoch}
-use Rattle.detrend.proofs.Lists.{put-more, put-none, length-mid}
+use Rattle.detrend.proofs.PartsInPlace.{put-more, put-none, length-mid}
 use Rattle.record_detrending.specs.Records.{readInto}
 
 -- what stands past the end of a list: never read

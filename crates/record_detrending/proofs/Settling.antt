@@ -1,4 +1,4 @@
--- Laws of the work area. Assumes nothing.
+-- The work area: the values come down to its head, +0.0 behind them or throughout, and what the four steps of the call leave. Assumes nothing.
 use mathlib.Core.Path.{_≡_, refl, sym, ap, _∙_}
 use mathlib.Core.Bool.{Bool, true, false}
 use mathlib.Core.List.{List, [], _∷_, _++_, append-nil}
@@ -17,8 +17,8 @@ use Rattle.laws.specs.Bools.{by}
 use Rattle.slices.specs.declared.Outcome.the-variants.{Accepted, Refused}
 use Rattle.detrend.specs.Revolutions.{removedOf}
 use Rattle.detrend.specs.Work.{RemovedWithin}
-use Rattle.detrend.proofs.Lists.{length-mid}
-use Rattle.detrend.proofs.Split.{removed-length}
+use Rattle.detrend.proofs.PartsInPlace.{length-mid}
+use Rattle.detrend.proofs.SplitAtNodes.{removed-length}
 use Rattle.epoch_record.specs.EpochRecord.{time, residual, timesOf, residualsOf, withResidual, putBack}
 use Rattle.epoch_record.specs.declared.Epoch.{Epoch}
 use Rattle.record_detrending.specs.Calls.{LeftRecords, leftRecords, handedBy, detrendedResiduals, handedRecords}
@@ -171,5 +171,13 @@ module _ (es : List Epoch) (ns s : List Float) (h : 8 * length es ≤ length s) 
   pub handed-lengths : (length (handedRecords es ns s .epochs) ≡ Count) × (length (handedRecords es ns s .scratch) ≡ length s)
   handed-lengths =
       by (all finite (detrendedResiduals es ns))
-      (λ e. (ap (λ (l : LeftRecords). length (l .epochs)) (handed-is true e) ∙ length-put es (detrendedResiduals es ns), ap (λ (l : LeftRecords). length (l .scratch)) (handed-is true e) ∙ length-replicate (length s) zero64))
-      (λ e. (ap (λ (l : LeftRecords). length (l .epochs)) (handed-is false e) ∙ length-put es (cleared (detrendedResiduals es ns)), ap (λ (l : LeftRecords). length (l .scratch)) (handed-is false e) ∙ length-replicate (length s) zero64))
+      (λ e. (
+        ap (λ (l : LeftRecords). length (l .epochs)) (handed-is true e) ∙ length-put es (detrendedResiduals es ns),
+        ap (λ (l : LeftRecords). length (l .scratch)) (handed-is true e)
+            ∙ length-replicate (length s) zero64,
+      ))
+      (λ e. (
+        ap (λ (l : LeftRecords). length (l .epochs)) (handed-is false e) ∙ length-put es (cleared (detrendedResiduals es ns)),
+        ap (λ (l : LeftRecords). length (l .scratch)) (handed-is false e)
+            ∙ length-replicate (length s) zero64,
+      ))

@@ -1,53 +1,63 @@
 -- What the steps of detrending a list of records do to it and to the scratch (document 01, module 6). Assumes nothing.
 use Prim.Native.Nat.{ℕ, _+_, _-_, _/_}
-use mathlib.Core.Bool.{Bool, true, false, cond, not}
+use mathlib.Core.Bool.{Bool, true, false, cond}
 use mathlib.Core.List.{List, [], _∷_, _++_}
 use lib.Dec.{leb}
-use lib.Ieee.{Float, lt, eq}
+use lib.Ieee.{Float, lt}
 use lib.Ieee.Scale.{finite}
 use lib.ListN.{length, take, drop, replicate}
 use borrow.Rule.Slice.PartMut.{midOf}
 use Rattle.laws.specs.Checks.{all, isTime, rising}
-use Rattle.laws.specs.Floats.{bits, zero64}
+use Rattle.laws.specs.Floats.{zero64}
 use Rattle.laws.specs.Loops.{cleared}
 use Rattle.slices.specs.Calls.{firstFailed}
 use Rattle.slices.specs.declared.Outcome.{Outcome}
 use Rattle.slices.specs.declared.Outcome.the-variants.{Accepted, Refused}
 use Rattle.epoch_record.specs.EpochRecord.{timesOf, residualsOf, epochFits}
 use Rattle.epoch_record.specs.declared.Epoch.{Epoch}
+use Rattle.record_detrending.specs.declared.Seen.{Seen}
+use Rattle.record_detrending.specs.declared.Seen.the-variants.{Nothing, Upto, Unordered, Unfit}
 use Rattle.detrend.specs.Revolutions.{removedOf}
 
--- ---- a scan of the records: the time of the last one; or, as no time lies above 2^31, 3e9 before the first, 4e9 where a record is unfit, 5e9 where the times do not rise
+-- ---- a scan of the records
 
-abbrev pub nothingYet : Float
-nothingYet = bits 0x41e6_5a0b_c000_0000
+-- after one fit record more, of the time t
+unfoldable pub orderedOf : Seen → Float → Seen
+orderedOf Nothing t = Upto t
+orderedOf (Upto last) t = cond (lt last t) (Upto t) Unordered
+orderedOf Unordered t = Unordered
+orderedOf Unfit t = Unfit
 
-abbrev pub unfit : Float
-unfit = bits 0x41ed_cd65_0000_0000
+-- after one record more
+unfoldable pub scannedOf : Seen → Epoch → Seen
+scannedOf seen e = cond (epochFits e) (orderedOf seen (e .t)) Unfit
 
-abbrev pub unordered : Float
-unordered = bits 0x41f2_a05f_2000_0000
+unfoldable pub scanOf : Seen → List Epoch → Seen
+scanOf seen [] = seen
+scanOf seen (e ∷ es) = scanOf (scannedOf seen e) es
 
-unfoldable pub orderedOf : Float → Float → Float
-orderedOf last t = cond (eq unordered last) last (cond (eq nothingYet last) t (cond (lt last t) t unordered))
+unfoldable pub allFit : Seen → Bool
+allFit Nothing = true
+allFit (Upto last) = true
+allFit Unordered = true
+allFit Unfit = false
 
-unfoldable pub scannedOf : Float → Epoch → Float
-scannedOf last e = cond (eq unfit last) last (cond (epochFits e) (orderedOf last (e .t)) unfit)
-
-unfoldable pub scanOf : Float → List Epoch → Float
-scanOf last [] = last
-scanOf last (e ∷ es) = scanOf (scannedOf last e) es
+unfoldable pub inOrder : Seen → Bool
+inOrder Nothing = true
+inOrder (Upto last) = true
+inOrder Unordered = false
+inOrder Unfit = true
 
 -- the first test that fails, after the scan of n records
-unfoldable pub refusalAfter : Float → ℕ → List Float → ℕ → ℕ
-refusalAfter last n ns room =
+unfoldable pub refusalAfter : Seen → ℕ → List Float → ℕ → ℕ
+refusalAfter seen n ns room =
     firstFailed
     ((leb n 100000, 2)
     ∷ (leb (length ns) 64, 2)
     ∷ (leb n (room / 8), 3)
-    ∷ (not (eq unfit last), 4)
+    ∷ (allFit seen, 4)
     ∷ (all isTime ns, 4)
-    ∷ (not (eq unordered last), 5)
+    ∷ (inOrder seen, 5)
     ∷ (rising ns, 5)
     ∷ [])
 

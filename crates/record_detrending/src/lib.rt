@@ -4,7 +4,8 @@ ghost use Prim.Native.Nat.{_+_, _*_, _≤_, _<_};
 ghost use lib.ListN.{length, take};
 ghost use borrow.Rule.Slice.PartMut.{midOf};
 ghost use Rattle.epoch_record.specs.EpochRecord.{epochFits, putBack};
-ghost use Rattle.record_detrending.specs.Records.{nothingYet, orderedOf, scannedOf, scanOf, refusalAfter, readInto, settledOf};
+ghost use Rattle.record_detrending.specs.declared.Seen.the-variants.{Nothing};
+ghost use Rattle.record_detrending.specs.Records.{orderedOf, scannedOf, scanOf, allFit, inOrder, refusalAfter, readInto, settledOf};
 ghost use Rattle.record_detrending.specs.Calls.{leftRecords, handedRecords, removeCall};
 use detrend;
 use epoch_record::Epoch;
@@ -20,50 +21,81 @@ fn epoch_fits(e: Epoch) -> bool
     slices::both(slices::is_time(e.t), finite)
 }
 
-fn ordered(last: f64, t: f64) -> f64
-    ensures { λ r. ⌜ r ≡ orderedOf last t ⌝ }
+// What a scan of the records has seen: none yet, fit records in order up to a time, fit ones out of order, or an unfit one.
+enum Seen {
+    Nothing,
+    Upto(f64),
+    Unordered,
+    Unfit,
+}
+
+// The scan after one fit record more, of the time t.
+fn ordered(seen: Seen, t: f64) -> Seen
+    ensures { λ r. ⌜ r ≡ orderedOf seen t ⌝ }
 {
-    if 5000000000.0 == last {
-        return last;
+    match seen {
+        Seen::Nothing => Seen::Upto(t),
+        Seen::Upto(last) => if last < t {
+            Seen::Upto(t)
+        } else {
+            Seen::Unordered
+        },
+        Seen::Unordered => Seen::Unordered,
+        Seen::Unfit => Seen::Unfit,
     }
-    if 3000000000.0 == last {
-        return t;
-    }
-    if last < t { t } else { 5000000000.0 }
 }
 
 // The scan after one record more.
-fn scanned(last: f64, e: Epoch) -> f64
-    ensures { λ r. ⌜ r ≡ scannedOf last e ⌝ }
+fn scanned(seen: Seen, e: Epoch) -> Seen
+    ensures { λ r. ⌜ r ≡ scannedOf seen e ⌝ }
 {
-    if 4000000000.0 == last {
-        return last;
-    }
     if epoch_fits(e) {
-        return ordered(last, e.t);
+        return ordered(seen, e.t);
     }
-    4000000000.0
+    Seen::Unfit
 }
 
-fn scan(epochs: &[Epoch]) -> f64
-    ensures { λ r. ⌜ r ≡ scanOf nothingYet (now (epochs .entry)) ⌝ }
+fn scan(epochs: &[Epoch]) -> Seen
+    ensures { λ r. ⌜ r ≡ scanOf Nothing (now (epochs .entry)) ⌝ }
 {
-    let mut last = 3000000000.0;
+    let mut seen = Seen::Nothing;
     let mut i: usize = 0;
     while i < epochs.len() {
-        last = scanned(last, epochs[i]);
+        seen = scanned(seen, epochs[i]);
         i += 1;
     }
-    last
+    seen
 }
 
-fn refusal_after(last: f64, n: usize, nodes: &[f64], room: usize) -> u8
-    ensures { λ r. ⌜ r ≡ refusalAfter last n (now (nodes .entry)) room ⌝ }
+fn all_fit(seen: Seen) -> bool
+    ensures { λ r. ⌜ r ≡ allFit seen ⌝ }
+{
+    match seen {
+        Seen::Nothing => true,
+        Seen::Upto(_) => true,
+        Seen::Unordered => true,
+        Seen::Unfit => false,
+    }
+}
+
+fn in_order(seen: Seen) -> bool
+    ensures { λ r. ⌜ r ≡ inOrder seen ⌝ }
+{
+    match seen {
+        Seen::Nothing => true,
+        Seen::Upto(_) => true,
+        Seen::Unordered => false,
+        Seen::Unfit => true,
+    }
+}
+
+fn refusal_after(seen: Seen, n: usize, nodes: &[f64], room: usize) -> u8
+    ensures { λ r. ⌜ r ≡ refusalAfter seen n (now (nodes .entry)) room ⌝ }
 {
     let rising = slices::unless(slices::rising(nodes), 5, 0);
-    let order = slices::unless(!(5000000000.0 == last), 5, rising);
+    let order = slices::unless(in_order(seen), 5, rising);
     let times = slices::unless(slices::all_times(nodes), 4, order);
-    let numbers = slices::unless(!(4000000000.0 == last), 4, times);
+    let numbers = slices::unless(all_fit(seen), 4, times);
     let fitting = slices::unless(n <= room / 8, 3, numbers);
     slices::unless(
         n <= 100000,
@@ -101,7 +133,8 @@ fn lower(work: &mut [f64], n: usize)
 // The detrended values come to the head of the work area, +0.0 behind them; +0.0 throughout where one is not finite.
 fn settle(work: &mut [f64], n: usize, nodes: &[f64]) -> slices::Outcome
     requires { ⌜ 8 * n ≤ length (now work) ⌝ }
-    ensures { λ r. ⌜ (r ≡ settledOf (now (nodes .entry)) n (now (work .entry)) .answer) × (now (work .exit) ≡ settledOf (now (nodes .entry)) n (now (work .entry)) .work) ⌝ }
+    ensures { λ r. ⌜ (r ≡ settledOf (now (nodes .entry)) n (now (work .entry)) .answer) ×
+        (now (work .exit) ≡ settledOf (now (nodes .entry)) n (now (work .entry)) .work) ⌝ }
 {
     detrend::kernel::remove_within(work, n, nodes);
     let m = n + n;
@@ -128,7 +161,8 @@ fn put_back(epochs: &mut [Epoch], values: &[f64])
 
 fn remove_in(epochs: &mut [Epoch], nodes: &[f64], scratch: &mut [f64]) -> slices::Outcome
     requires { ⌜ 8 * length (now epochs) ≤ length (now scratch) ⌝ }
-    ensures { λ r. ⌜ leftRecords r (now (epochs .exit)) (now (scratch .exit)) ≡ handedRecords (now (epochs .entry)) (now (nodes .entry)) (now (scratch .entry)) ⌝ }
+    ensures { λ r. ⌜ leftRecords r (now (epochs .exit)) (now (scratch .exit)) ≡ handedRecords (now (epochs .entry)) (now (nodes .entry))
+        (now (scratch .entry)) ⌝ }
 {
     read(epochs, scratch);
     let o = settle(scratch, epochs.len(), nodes);
@@ -145,8 +179,8 @@ pub fn remove_per_revolution(
 ) -> slices::Outcome
     ensures { λ r. ⌜ leftRecords r (now (epochs .exit)) (now (scratch .exit)) ≡ removeCall (now (epochs .entry)) (now (nodes .entry)) (now (scratch .entry)) ⌝ }
 {
-    let last = scan(epochs);
-    let refused = refusal_after(last, epochs.len(), nodes, scratch.len());
+    let seen = scan(epochs);
+    let refused = refusal_after(seen, epochs.len(), nodes, scratch.len());
     if refused != 0 {
         return slices::Outcome::Refused(refused);
     }

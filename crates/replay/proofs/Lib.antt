@@ -1,2 +1,4 @@
 -- What the proofs use.
-mod Signs
+--
+--   TwosComplement   a word of 64 bits as a whole number with a sign, and back
+mod TwosComplement

@@ -38,7 +38,7 @@ fn say_states(outcome: slices::Outcome, out: &[f64], scratch: &[f64]) {
 }
 
 // The lengths of the output and of the scratch come next, and then the force, the arc and the parameters.
-fn lent(degree: usize, field: &[f64], a: &[f64], b: &[f64], times: &[f64], added: &[f64]) {
+fn with_model<'a>(degree: usize, model: inputs::Model<'a>) {
     let mut x = [3.0; 640];
     let mut w = [7.0; 160000];
     let n = replay::count(640);
@@ -48,19 +48,7 @@ fn lent(degree: usize, field: &[f64], a: &[f64], b: &[f64], times: &[f64], added
     let start = parameters();
     let out = &mut x[0..n];
     let scratch = &mut w[0..m];
-    let outcome = integrate::integrate(
-        force,
-        degree,
-        field,
-        a,
-        b,
-        times,
-        added,
-        arc,
-        start,
-        out,
-        scratch,
-    );
+    let outcome = integrate::integrate(force, degree, model, arc, start, out, scratch);
     say_states(outcome, &out[..], &scratch[..]);
 }
 
@@ -76,7 +64,7 @@ fn call() {
     let b = replay::full_list(&mut q);
     let times = replay::full_list(&mut t);
     let added = replay::full_list(&mut g);
-    lent(degree, field, a, b, times, added);
+    with_model(degree, [field, a, b, times, added]);
 }
 
 // One call; false at the end of the list.

@@ -45,11 +45,11 @@ fn public_at(degree: usize, field: &[f64], times: &[f64], added: &[f64], t: f64)
 }
 
 // The length of the output comes next.
-fn kernel_at(degree: usize, field: &[f64], times: &[f64], added: &[f64], t: f64) {
+fn kernel_at<'a>(degree: usize, field: &'a [f64], times: &'a [f64], added: &'a [f64], t: f64) {
     let mut x = [3.0; 480];
     let n = replay::count(480);
     let out = &mut x[0..n];
-    model::kernel::at(degree, field, times, added, t, out);
+    model::kernel::at(degree, [field, field, field, times, added], t, out);
     replay::say_all(&out[..]);
 }
 

@@ -40,7 +40,7 @@ fn power() {
     let n = replay::number();
     let c = replay::float();
     if n < 4294967296 {
-        replay::say_float(numbers::power(a, n as u32, c));
+        replay::say_float(numbers::carried(a, n as u32, c));
     }
 }
 

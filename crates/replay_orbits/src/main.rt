@@ -1,6 +1,6 @@
-// Replays the oracle's list of least squares, fits and fitted windows: each call is its number and its arguments, a word a line. A slice is its length, how many of
-// its numbers are given, and these; the others are 0. Outputs stand at 3.0 or 3 and scratch at 7.0 before a call; of an output some numbers are told, and the sum of
-// all patterns.
+// Replays the oracle's list of least squares, fits and fitted windows: each call is its number and its arguments, a word a line. A slice is its length,
+// how many of its numbers are given, and these; the others are 0. Outputs stand at 3.0 or 3 and scratch at 7.0 before a call; of an output some numbers
+// are told, and the sum of all patterns.
 ghost use mathlib.Core.Path.{_≡_};
 ghost use lib.Dec.{eqb};
 ghost use mir.Syntax.{w64};
@@ -92,16 +92,7 @@ fn say_fit(answer: fit::kernel::Fitted, out: &[f64], scratch: &[f64], between: u
 }
 
 // The arc and the lengths of the output and of the scratch come next.
-fn fit_orbit(
-    degree: usize,
-    field: &[f64],
-    a: &[f64],
-    b: &[f64],
-    times: &[f64],
-    added: &[f64],
-    keys: &[i64],
-    states: &[f64],
-) {
+fn fit_orbit<'a>(degree: usize, model: inputs::Model<'a>, keys: &[i64], states: &[f64]) {
     let mut x = [3.0; 31900];
     let mut w = [7.0; 170000];
     let arc = arc_of();
@@ -110,19 +101,7 @@ fn fit_orbit(
     let between = replay::number();
     let out = &mut x[0..o];
     let scratch = &mut w[0..s];
-    let answer = fit::fit_orbit(
-        degree,
-        field,
-        a,
-        b,
-        times,
-        added,
-        keys,
-        states,
-        arc,
-        out,
-        scratch,
-    );
+    let answer = fit::fit_orbit(degree, model, keys, states, arc, out, scratch);
     say_fit(answer, &out[..], &scratch[..], between);
 }
 
@@ -248,16 +227,7 @@ fn say_windows(
 }
 
 // The nodes and the lengths of the outputs and of the scratch come next.
-fn fitted_orbits(
-    degree: usize,
-    field: &[f64],
-    a: &[f64],
-    b: &[f64],
-    times: &[f64],
-    added: &[f64],
-    keys: &[i64],
-    states: &[f64],
-) {
+fn fitted_orbits<'a>(degree: usize, model: inputs::Model<'a>, keys: &[i64], states: &[f64]) {
     let mut n = [0.0; 70];
     let mut k = [3i64; 14000];
     let mut x = [3.0; 84000];
@@ -276,11 +246,7 @@ fn fitted_orbits(
     let scratch = &mut w[0..s];
     let answer = fitted_orbits::fitted_orbits(
         degree,
-        field,
-        a,
-        b,
-        times,
-        added,
+        model,
         keys,
         states,
         nodes,
@@ -301,23 +267,15 @@ fn fitted_orbits(
 }
 
 // The states come next.
-fn over(
-    call: u64,
-    degree: usize,
-    field: &[f64],
-    a: &[f64],
-    b: &[f64],
-    times: &[f64],
-    added: &[f64],
-) {
+fn over<'a>(call: u64, degree: usize, model: inputs::Model<'a>) {
     let mut k = [0i64; 200010];
     let mut x = [0.0; 40000];
     let keys = replay::key_list(&mut k);
     let states = replay::list(&mut x);
     if call == 1 {
-        fit_orbit(degree, field, a, b, times, added, keys, states);
+        fit_orbit(degree, model, keys, states);
     } else {
-        fitted_orbits(degree, field, a, b, times, added, keys, states);
+        fitted_orbits(degree, model, keys, states);
     }
 }
 
@@ -333,7 +291,7 @@ fn fitted(call: u64) {
     let b = replay::list(&mut y);
     let times = replay::list(&mut t);
     let added = replay::list(&mut g);
-    over(call, degree, field, a, b, times, added);
+    over(call, degree, [field, a, b, times, added]);
 }
 
 // One call; false at the end of the list.

@@ -16,7 +16,8 @@ use base.Logic.{SProp, ent, sep, ex, guard}
 use base.Fml.{Lft, GName, Fml, fsep, fdead, flent, fat}
 use prog.Wp.{Heap}
 use ghost.Atoms.{Atoms, sem}
-use types.Kit.{Given, ‵, _⊛_, some, later, _$_, _∵_, !, qed, move, keep, use1, use2, use3, drop, split, pick, rewrite, check, fsplit, fjoin, fpick, fpack, feqL, feqI, frame, await, updating, now as at-once, show, done}
+use types.Kit.{Given, ‵, _⊛_, some, later, _$_, _∵_, !, qed, move, keep, use1, use2, use3, drop, split, pick, rewrite, check, fsplit, fjoin, fpick, fpack, feqL, feqI, frame, await, updating}
+use types.Kit.{now as at-once, show, done}
 use types.SemTy.{cells, Arr}
 use types.Share.{arr-parts}
 use denote.RattleType.{RattleType}
@@ -56,7 +57,8 @@ module _ (R : RattleType) (single : Single (R .mir)) (N : ℕ) (κ : Lft) (b : �
         use1 W (‵ (arr-parts (shares R) N .part fullShare xs b zero)) (array-apart 𝓤 H A W R fullShare single N xs b zero) $ fsplit ! $ drop ! $
         use1 W (‵ (cells (mem R) xs b zero)) (whole-in 𝓤 H A W R xs b zero) $ rewrite ! 0 (λ (l : List (R .Denot)). ‵ (cells (mem R) l b zero)) (sym (take-append-drop k xs)) refl $
         use1 W (‵ (cells (mem R) (take k xs) b zero) ⊛ ‵ (cells (mem R) rest b (at zero (mem R .size) (length (take k xs))))) (cut-app 𝓤 H A (mem R) (take k xs) rest b zero) $ split ! $
-        use1 W (later (some (λ (γ : GName). ‵ (MutSlice ℓ κ R .own (at-list γ (take k xs)) (sliceVal (b, zero) (length (take k xs)) ∷ [])) ⊛ ‵ (flent κ (Held R (length (take k xs)) b zero γ))))) (lends-slice 𝓤 H A W R ℓ κ (take k xs) b zero room) $
+        use1 W (later (some (λ (γ : GName). ‵ (MutSlice ℓ κ R .own (at-list γ (take k xs)) (sliceVal (b, zero) (length (take k xs)) ∷ [])) ⊛ ‵ (flent κ (Held R (length (take k xs)) b zero γ)))))
+        (lends-slice 𝓤 H A W R ℓ κ (take k xs) b zero room) $
         await ! tt $ pick ! (λ γ. split ! $ at-once ! $ show ! (Lent (length (take k xs))) γ $ frame ! $ fjoin ! $ done !)
 
     pub lends-head : (m : ℕ) → length (take k xs) ≡ m → (v : Val) → Room R m → ent 𝓤 (sep 𝓤 (sem 𝓤 H A (fat fullShare τ b zero v)) (sem 𝓤 H A (Array R N .own xs (v ∷ [])))) (H .⇛ (ex 𝓤 (Lent m)))
@@ -66,7 +68,8 @@ module _ (R : RattleType) (single : Single (R .mir)) (N : ℕ) (κ : Lft) (b : �
     abbrev pub Whole : List (R .Denot) → Val → SProp 𝓤
     Whole zs v = guard 𝓤 (Is (Array R N) zs (v ∷ [])) (sem 𝓤 H A (fat fullShare τ b zero v))
 
-    pub head-back : (m : ℕ) (γ : GName) (ys : List (R .Denot)) → m + length rest ≡ N → ent 𝓤 (sep 𝓤 (A .dead κ) (sep 𝓤 (sem 𝓤 H A (Kept m rest γ)) (sem 𝓤 H A (finally R γ ys)))) (H .⇛ (ex 𝓤 (Whole (ys ++ rest))))
+    pub head-back : (m : ℕ) (γ : GName) (ys : List (R .Denot)) → m + length rest ≡ N →
+        ent 𝓤 (sep 𝓤 (A .dead κ) (sep 𝓤 (sem 𝓤 H A (Kept m rest γ)) (sem 𝓤 H A (finally R γ ys)))) (H .⇛ (ex 𝓤 (Whole (ys ++ rest))))
     unfolding partOf
     head-back m γ ys e =
         qed W (‵ (fdead κ) ∷ ‵ (Kept m rest γ) ∷ ‵ (finally R γ ys) ∷ []) ∵ updating ! $ move ! (1 ∷ []) $ fsplit ! $ move ! (2 ∷ 0 ∷ 3 ∷ []) $
@@ -76,5 +79,6 @@ module _ (R : RattleType) (single : Single (R .mir)) (N : ℕ) (κ : Lft) (b : �
         feqI ! ℕ (length (ys ++ rest)) N (length-app ys rest ∙ ap (λ (j : ℕ). j + length rest) l ∙ e) $ fjoin ! $
         use1 W (‵ (partAt (Array R N) fullShare (ys ++ rest) b zero)) (array-whole 𝓤 H A W R fullShare N (ys ++ rest) b zero) $ fpick ! (λ vs. fsplit ! $ move ! (1 ∷ []) $
         peeks ! (Array R N) (Is (Array R N)) (shows 𝓤 H A (Array R N)) (ys ++ rest) vs (λ is. move ! (1 ∷ []) $
-        rewrite ! 0 (λ (ws : List Val). ‵ (cellRaw fullShare (raw τ ∷ []) ws b zero)) (is .1 .0 .0) refl $ use1 W (‵ (fat fullShare τ b zero (arrayVal (is .0)))) (W .laws .raw-at fullShare τ b zero (arrayVal (is .0))) $
+        rewrite ! 0 (λ (ws : List Val). ‵ (cellRaw fullShare (raw τ ∷ []) ws b zero)) (is .1 .0 .0) refl $
+        use1 W (‵ (fat fullShare τ b zero (arrayVal (is .0)))) (W .laws .raw-at fullShare τ b zero (arrayVal (is .0))) $
         at-once ! $ show ! (Whole (ys ++ rest)) (arrayVal (is .0)) $ check ! (subst (Is (Array R N) (ys ++ rest)) (is .1 .0 .0) is) $ keep ! (0 ∷ []) $ done !)))

@@ -31,21 +31,13 @@ fn say_answer(answer: residuals::EpochAnswer) {
 }
 
 // The time, the observed value and the good byte come next.
-fn run_epoch(
+fn run_epoch<'a>(
     degree: usize,
-    field: &[f64],
-    a: &[f64],
-    b: &[f64],
-    times: &[f64],
-    added: &[f64],
-    ckeys: &[i64],
-    cstates: &[f64],
-    dkeys: &[i64],
-    dstates: &[f64],
-    cacckeys: &[i64],
-    caccs: &[f64],
-    dacckeys: &[i64],
-    daccs: &[f64],
+    model: inputs::Model<'a>,
+    keys: inputs::Keys<'a>,
+    states: inputs::Rows<'a>,
+    acckeys: inputs::Keys<'a>,
+    accs: inputs::Rows<'a>,
     scratch: &mut [f64],
 ) {
     let t = replay::float();
@@ -53,19 +45,11 @@ fn run_epoch(
     let good = replay::byte();
     let answer = residuals::epoch(
         degree,
-        field,
-        a,
-        b,
-        times,
-        added,
-        ckeys,
-        cstates,
-        dkeys,
-        dstates,
-        cacckeys,
-        caccs,
-        dacckeys,
-        daccs,
+        model,
+        keys,
+        states,
+        acckeys,
+        accs,
         t,
         observed,
         good,
@@ -133,21 +117,13 @@ fn say_list(
 }
 
 // The lengths of the five outputs come next.
-fn run_all(
+fn run_all<'a>(
     degree: usize,
-    field: &[f64],
-    a: &[f64],
-    b: &[f64],
-    times: &[f64],
-    added: &[f64],
-    ckeys: &[i64],
-    cstates: &[f64],
-    dkeys: &[i64],
-    dstates: &[f64],
-    cacckeys: &[i64],
-    caccs: &[f64],
-    dacckeys: &[i64],
-    daccs: &[f64],
+    model: inputs::Model<'a>,
+    keys: inputs::Keys<'a>,
+    states: inputs::Rows<'a>,
+    acckeys: inputs::Keys<'a>,
+    accs: inputs::Rows<'a>,
     obstimes: &[f64],
     obsvalues: &[f64],
     good: &[u8],
@@ -170,19 +146,11 @@ fn run_all(
     let outvels = &mut v[0..u];
     let answer = residuals::residuals(
         degree,
-        field,
-        a,
-        b,
-        times,
-        added,
-        ckeys,
-        cstates,
-        dkeys,
-        dstates,
-        cacckeys,
-        caccs,
-        dacckeys,
-        daccs,
+        model,
+        keys,
+        states,
+        acckeys,
+        accs,
         obstimes,
         obsvalues,
         good,
@@ -205,21 +173,13 @@ fn run_all(
 }
 
 // The observations' times, values and bytes come next.
-fn run_list(
+fn run_list<'a>(
     degree: usize,
-    field: &[f64],
-    a: &[f64],
-    b: &[f64],
-    times: &[f64],
-    added: &[f64],
-    ckeys: &[i64],
-    cstates: &[f64],
-    dkeys: &[i64],
-    dstates: &[f64],
-    cacckeys: &[i64],
-    caccs: &[f64],
-    dacckeys: &[i64],
-    daccs: &[f64],
+    model: inputs::Model<'a>,
+    keys: inputs::Keys<'a>,
+    states: inputs::Rows<'a>,
+    acckeys: inputs::Keys<'a>,
+    accs: inputs::Rows<'a>,
     scratch: &mut [f64],
 ) {
     let mut x = [0.0; 20];
@@ -230,19 +190,11 @@ fn run_list(
     let good = replay::full_bytes(&mut z);
     run_all(
         degree,
-        field,
-        a,
-        b,
-        times,
-        added,
-        ckeys,
-        cstates,
-        dkeys,
-        dstates,
-        cacckeys,
-        caccs,
-        dacckeys,
-        daccs,
+        model,
+        keys,
+        states,
+        acckeys,
+        accs,
         obstimes,
         obsvalues,
         good,
@@ -251,149 +203,78 @@ fn run_list(
 }
 
 // The length of the scratch comes next.
-fn run(
+fn run<'a>(
     which: u64,
     degree: usize,
-    field: &[f64],
-    a: &[f64],
-    b: &[f64],
-    times: &[f64],
-    added: &[f64],
-    ckeys: &[i64],
-    cstates: &[f64],
-    dkeys: &[i64],
-    dstates: &[f64],
-    cacckeys: &[i64],
-    caccs: &[f64],
-    dacckeys: &[i64],
-    daccs: &[f64],
+    model: inputs::Model<'a>,
+    keys: inputs::Keys<'a>,
+    states: inputs::Rows<'a>,
+    acckeys: inputs::Keys<'a>,
+    accs: inputs::Rows<'a>,
 ) {
     let mut scratch = [7.0; 160000];
     let n = replay::count(160000);
     if which == 0 {
         run_epoch(
             degree,
-            field,
-            a,
-            b,
-            times,
-            added,
-            ckeys,
-            cstates,
-            dkeys,
-            dstates,
-            cacckeys,
-            caccs,
-            dacckeys,
-            daccs,
+            model,
+            keys,
+            states,
+            acckeys,
+            accs,
             &mut scratch[0..n],
         );
     } else {
         run_list(
             degree,
-            field,
-            a,
-            b,
-            times,
-            added,
-            ckeys,
-            cstates,
-            dkeys,
-            dstates,
-            cacckeys,
-            caccs,
-            dacckeys,
-            daccs,
+            model,
+            keys,
+            states,
+            acckeys,
+            accs,
             &mut scratch[0..n],
         );
     }
 }
 
-fn with_accelerometers(
-    which: u64,
-    degree: usize,
-    field: &[f64],
-    a: &[f64],
-    b: &[f64],
-    times: &[f64],
-    added: &[f64],
-    ckeys: &[i64],
-    cstates: &[f64],
-    dkeys: &[i64],
-    dstates: &[f64],
-) {
-    let mut c = [0i64; 32];
-    let mut x = [0.0; 32];
-    let mut d = [0i64; 32];
-    let mut y = [0.0; 32];
-    let cacckeys = replay::full_keys(&mut c);
-    let caccs = replay::full_list(&mut x);
-    let dacckeys = replay::full_keys(&mut d);
-    let daccs = replay::full_list(&mut y);
-    run(
-        which,
-        degree,
-        field,
-        a,
-        b,
-        times,
-        added,
-        ckeys,
-        cstates,
-        dkeys,
-        dstates,
-        cacckeys,
-        caccs,
-        dacckeys,
-        daccs,
-    );
-}
-
-fn with_states(
-    which: u64,
-    degree: usize,
-    field: &[f64],
-    a: &[f64],
-    b: &[f64],
-    times: &[f64],
-    added: &[f64],
-) {
-    let mut c = [0i64; 32];
-    let mut x = [0.0; 200];
-    let mut d = [0i64; 32];
-    let mut y = [0.0; 200];
-    let ckeys = replay::full_keys(&mut c);
-    let cstates = replay::full_list(&mut x);
-    let dkeys = replay::full_keys(&mut d);
-    let dstates = replay::full_list(&mut y);
-    with_accelerometers(
-        which,
-        degree,
-        field,
-        a,
-        b,
-        times,
-        added,
-        ckeys,
-        cstates,
-        dkeys,
-        dstates,
-    );
-}
-
+// The model, the states and the accelerometer values come next; bundles share one lifetime, so all are made here.
 fn call(which: u64) {
     let mut f = [0.0; 80];
     let mut x = [0.0; 40];
     let mut y = [0.0; 40];
     let mut t = [0.0; 40];
     let mut g = [0.0; 700];
+    let mut ck = [0i64; 32];
+    let mut cs = [0.0; 200];
+    let mut dk = [0i64; 32];
+    let mut ds = [0.0; 200];
+    let mut ak = [0i64; 32];
+    let mut av = [0.0; 32];
+    let mut bk = [0i64; 32];
+    let mut bv = [0.0; 32];
     let degree = replay::count(1000000);
     let field = replay::full_list(&mut f);
     let a = replay::full_list(&mut x);
     let b = replay::full_list(&mut y);
     let times = replay::full_list(&mut t);
     let added = replay::full_list(&mut g);
-    with_states(which, degree, field, a, b, times, added);
+    let ckeys = replay::full_keys(&mut ck);
+    let cstates = replay::full_list(&mut cs);
+    let dkeys = replay::full_keys(&mut dk);
+    let dstates = replay::full_list(&mut ds);
+    let cacckeys = replay::full_keys(&mut ak);
+    let caccs = replay::full_list(&mut av);
+    let dacckeys = replay::full_keys(&mut bk);
+    let daccs = replay::full_list(&mut bv);
+    run(
+        which,
+        degree,
+        [field, a, b, times, added],
+        [ckeys, dkeys],
+        [cstates, dstates],
+        [cacckeys, dacckeys],
+        [caccs, daccs],
+    );
 }
 
 // One call; false at the end of the list.

@@ -1,5 +1,5 @@
-// Replays the oracle's list of the whole path: each call is its number and its arguments, a word a line. A slice is its length, how many of its numbers are given,
-// and these; the others are 0. Outputs stand at 3.0 and scratch at 7.0 before a call.
+// Replays the oracle's list of the whole path: each call is its number and its arguments, a word a line. A slice is its length, how many of its numbers
+// are given, and these; the others are 0. Outputs stand at 3.0 and scratch at 7.0 before a call.
 ghost use Prim.Native.Nat.{_≤_, _-_};
 ghost use lib.ListN.{length};
 use replay::Item;
@@ -22,6 +22,38 @@ fn key_list(out: &mut [i64], from: usize) -> usize
     let given = replay::count(end - from);
     replay::fill_keys(&mut out[from..end], given);
     n
+}
+
+// Where the keys of C and those of D end in one array, as each list may be long.
+struct Ends {
+    first: usize,
+    both: usize,
+}
+
+fn key_lists(out: &mut [i64]) -> Ends {
+    let first = key_list(out, 0);
+    let more = key_list(out, first);
+    if more > 1000000 {
+        return Ends { first, both: first };
+    }
+    if first > 1000000 {
+        return Ends { first: 0, both: 0 };
+    }
+    Ends {
+        first,
+        both: first + more,
+    }
+}
+
+// A part of a list, empty where the list does not reach.
+fn part<'a>(all: &'a [i64], from: usize, to: usize) -> &'a [i64] {
+    if from > to {
+        return &all[0..0];
+    }
+    if to > all.len() {
+        return &all[0..0];
+    }
+    &all[from..to]
 }
 
 // The refusal's number, the kept count and F; returns the kept count.
@@ -67,21 +99,13 @@ fn say_sheet(
 }
 
 // The lengths of the four outputs and of the scratch come next.
-fn within(
+fn within<'a>(
     degree: usize,
-    field: &[f64],
-    a: &[f64],
-    b: &[f64],
-    times: &[f64],
-    added: &[f64],
-    ckeys: &[i64],
-    cstates: &[f64],
-    dkeys: &[i64],
-    dstates: &[f64],
-    cacckeys: &[i64],
-    caccs: &[f64],
-    dacckeys: &[i64],
-    daccs: &[f64],
+    model: inputs::Model<'a>,
+    keys: inputs::Keys<'a>,
+    states: inputs::Rows<'a>,
+    acckeys: inputs::Keys<'a>,
+    accs: inputs::Rows<'a>,
     nodes: &[f64],
     obstimes: &[f64],
     obsvalues: &[f64],
@@ -104,19 +128,11 @@ fn within(
     let scratch = &mut w[0..n];
     let answer = sheet::sheet(
         degree,
-        field,
-        a,
-        b,
-        times,
-        added,
-        ckeys,
-        cstates,
-        dkeys,
-        dstates,
-        cacckeys,
-        caccs,
-        dacckeys,
-        daccs,
+        model,
+        keys,
+        states,
+        acckeys,
+        accs,
         nodes,
         obstimes,
         obsvalues,
@@ -138,21 +154,13 @@ fn within(
 }
 
 // The nodes and the observations come next.
-fn observed(
+fn observed<'a>(
     degree: usize,
-    field: &[f64],
-    a: &[f64],
-    b: &[f64],
-    times: &[f64],
-    added: &[f64],
-    ckeys: &[i64],
-    cstates: &[f64],
-    dkeys: &[i64],
-    dstates: &[f64],
-    cacckeys: &[i64],
-    caccs: &[f64],
-    dacckeys: &[i64],
-    daccs: &[f64],
+    model: inputs::Model<'a>,
+    keys: inputs::Keys<'a>,
+    states: inputs::Rows<'a>,
+    acckeys: inputs::Keys<'a>,
+    accs: inputs::Rows<'a>,
 ) {
     let mut n = [0.0; 70];
     let mut t = [0.0; 100010];
@@ -164,19 +172,11 @@ fn observed(
     let good = replay::byte_list(&mut g);
     within(
         degree,
-        field,
-        a,
-        b,
-        times,
-        added,
-        ckeys,
-        cstates,
-        dkeys,
-        dstates,
-        cacckeys,
-        caccs,
-        dacckeys,
-        daccs,
+        model,
+        keys,
+        states,
+        acckeys,
+        accs,
         nodes,
         obstimes,
         obsvalues,
@@ -184,96 +184,39 @@ fn observed(
     );
 }
 
-// The states and accelerometer values come next.
-fn valued(
-    degree: usize,
-    field: &[f64],
-    a: &[f64],
-    b: &[f64],
-    times: &[f64],
-    added: &[f64],
-    ckeys: &[i64],
-    dkeys: &[i64],
-    cacckeys: &[i64],
-    dacckeys: &[i64],
-) {
-    let mut x = [0.0; 6000];
-    let mut y = [0.0; 6000];
-    let mut u = [0.0; 1000];
-    let mut v = [0.0; 1000];
-    let cstates = replay::list(&mut x);
-    let dstates = replay::list(&mut y);
-    let caccs = replay::list(&mut u);
-    let daccs = replay::list(&mut v);
-    observed(
-        degree,
-        field,
-        a,
-        b,
-        times,
-        added,
-        ckeys,
-        cstates,
-        dkeys,
-        dstates,
-        cacckeys,
-        caccs,
-        dacckeys,
-        daccs,
-    );
-}
-
-// The accelerometers' keys come next; one array holds both lists, as each may be long.
-fn both_keyed(
-    degree: usize,
-    field: &[f64],
-    a: &[f64],
-    b: &[f64],
-    times: &[f64],
-    added: &[f64],
-    ckeys: &[i64],
-    dkeys: &[i64],
-) {
-    let mut keys = [0i64; 202000];
-    let p = key_list(&mut keys, 0);
-    let q = p + key_list(&mut keys, p);
-    let all = &keys[..];
-    valued(
-        degree,
-        field,
-        a,
-        b,
-        times,
-        added,
-        ckeys,
-        dkeys,
-        &all[0..p],
-        &all[p..q],
-    );
-}
-
-// The states' keys come next, as those of the accelerometers.
-fn keyed(degree: usize, field: &[f64], a: &[f64], b: &[f64], times: &[f64], added: &[f64]) {
-    let mut keys = [0i64; 202000];
-    let p = key_list(&mut keys, 0);
-    let q = p + key_list(&mut keys, p);
-    let all = &keys[..];
-    both_keyed(degree, field, a, b, times, added, &all[0..p], &all[p..q]);
-}
-
+// All lists but nodes and observations come next; bundles share one lifetime, so all are made here.
 fn call() {
     let mut f = [0.0; 200];
     let mut x = [0.0; 100];
     let mut y = [0.0; 100];
     let mut t = [0.0; 40];
     let mut g = [0.0; 1200];
+    let mut room = [0i64; 202000];
+    let mut accroom = [0i64; 202000];
+    let mut cs = [0.0; 6000];
+    let mut ds = [0.0; 6000];
+    let mut av = [0.0; 1000];
+    let mut bv = [0.0; 1000];
     let degree = replay::number() as usize;
     let field = replay::list(&mut f);
     let a = replay::list(&mut x);
     let b = replay::list(&mut y);
     let times = replay::list(&mut t);
     let added = replay::list(&mut g);
-    keyed(degree, field, a, b, times, added);
+    let k = key_lists(&mut room);
+    let l = key_lists(&mut accroom);
+    let cstates = replay::list(&mut cs);
+    let dstates = replay::list(&mut ds);
+    let caccs = replay::list(&mut av);
+    let daccs = replay::list(&mut bv);
+    observed(
+        degree,
+        [field, a, b, times, added],
+        [part(&room, 0, k.first), part(&room, k.first, k.both)],
+        [cstates, dstates],
+        [part(&accroom, 0, l.first), part(&accroom, l.first, l.both)],
+        [caccs, daccs],
+    );
 }
 
 // One call; false at the end of the list.

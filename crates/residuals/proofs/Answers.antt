@@ -12,27 +12,28 @@ use Rattle.laws.specs.Floats.{zero64}
 use Rattle.laws.specs.Checks.{isTime, degreeFine}
 use Rattle.laws.specs.Bools.{both-true}
 use Rattle.slices.specs.Calls.{left}
-use Rattle.inputs.specs.Inputs.{scratchFits}
+use Rattle.inputs.specs.Inputs.{scratchFits, Inputs, inputsCounted, inputsFit, inputsFine, inputsRise}
 use Rattle.inputs.proofs.Passed.{AllPass, all-pass, degree-passes, counts-pass, rise-passes, scratch-passes}
 use Rattle.finality.specs.Sheet.{Observation}
 use Rattle.epoch_record.specs.declared.Epoch.{Epoch}
 use Rattle.residuals.specs.declared.EpochAnswer.{EpochAnswer}
 use Rattle.epoch.specs.declared.Made.{Made}
 use Rattle.epoch.specs.Work.{madeOf}
-use Rattle.residuals.specs.Inputs.{Inputs, epochOf}
+use Rattle.residuals.specs.Inputs.{epochOf}
 use Rattle.residuals.specs.Work.{Ready}
-use Rattle.residuals.specs.Calls.{inputsCounted, inputsFit, inputsFine, inputsRise, epochRefusal, refused, answered, told, epochLeft, epochCall}
+use Rattle.residuals.specs.Calls.{epochRefusal, refused, answered, told, epochLeft, epochCall}
 
 abbrev ReadyFor : Inputs → ℕ → Type 0
-ReadyFor inp scratch = Ready (inp .model .degree) (inp .statesC .keys) (inp .statesD .keys) (inp .accC .keys) (inp .accD .keys) scratch
+ReadyFor inp scratch = Ready (inp .model .fixed .degree) (inp .states .c .keys) (inp .states .d .keys) (inp .accs .c .keys) (inp .accs .d .keys) scratch
 
-pub ready : (inp : Inputs) (count scratch : ℕ) (values : Bool) → AllPass (degreeFine (inp .model .degree)) (inputsCounted inp) (inputsFit inp && scratchFits (inp .model .degree) (length (inp .model .times)) count scratch) values (inputsRise inp) → ReadyFor inp scratch
+pub ready : (inp : Inputs) (count scratch : ℕ) (values : Bool) → AllPass (degreeFine (inp .model .fixed .degree)) (inputsCounted inp)
+    (inputsFit inp && scratchFits (inp .model .fixed .degree) (length (inp .model .fields .fieldTimes)) count scratch) values (inputsRise inp) 0 → ReadyFor inp scratch
 ready inp count scratch values p =
     let f = counts-pass _ _ _ _ _ (p .counts) in
     let r = rise-passes _ _ _ _ _ (p .order) in
-    let s = scratch-passes (inp .model .degree) (length (inp .model .times)) count scratch (both-true (inputsFit inp) _ (p .lengths) .1) in
+    let s = scratch-passes (inp .model .fixed .degree) (length (inp .model .fields .fieldTimes)) count scratch (both-true (inputsFit inp) _ (p .lengths) .1) in
     record {
-      degree = degree-passes (inp .model .degree) (p .degree);
+      degree = degree-passes (inp .model .fixed .degree) (p .degree);
       statesC = record { rises = r .statesC; few = f .statesC };
       statesD = record { rises = r .statesD; few = f .statesD };
       accC = record { rises = r .accC; few = f .accC };
@@ -44,8 +45,8 @@ pub epoch-ready : (inp : Inputs) (t v : Float) (n scratch : ℕ) → n ≡ epoch
 unfolding epochRefusal
 epoch-ready inp t v n scratch e z =
     ready inp 0 scratch (inputsFine inp && (isTime t && finite v))
-    (all-pass (degreeFine (inp .model .degree)) (inputsCounted inp) (inputsFit inp && scratchFits (inp .model .degree) (length (inp .model .times)) 0 scratch)
-    (inputsFine inp && (isTime t && finite v)) (inputsRise inp) (sym e ∙ z))
+    (all-pass (degreeFine (inp .model .fixed .degree)) (inputsCounted inp) (inputsFit inp && scratchFits (inp .model .fixed .degree) (length (inp .model .fields .fieldTimes)) 0 scratch)
+    (inputsFine inp && (isTime t && finite v)) (inputsRise inp) 0 (sym e ∙ z))
 
 -- ---- the answer
 

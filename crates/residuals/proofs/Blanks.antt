@@ -13,7 +13,8 @@ blank-turn z a a₀ i l h inv =
     let e : length a₀ - i ≡ suc (length a₀ - (i + 1)) = omega arith in
     fill-turn a _ (replicate (length a₀ - (i + 1)) z) _ i z h inv (rw e)
 
-pub blank-done : (z : List Float) (a a₀ : List (List Float)) (i : ℕ) → length a ≡ length a₀ → length a ≤ i → take i a ++ replicate (length a₀ - i) z ≡ replicate (length a₀) z → a ≡ replicate (length a₀) z
+pub blank-done : (z : List Float) (a a₀ : List (List Float)) (i : ℕ) → length a ≡ length a₀ → length a ≤ i → take i a ++ replicate (length a₀ - i) z ≡ replicate (length a₀) z
+    → a ≡ replicate (length a₀) z
 blank-done z a a₀ i l h inv =
     let e : length a₀ - i ≡ 0 = omega arith in
     fill-done a _ _ i h (ap (λ (k : ℕ). replicate k z) e) inv

@@ -11,26 +11,25 @@ use borrow.Author.Tests.{eqb-true}
 use Rattle.laws.specs.Floats.{zero64}
 use Rattle.laws.specs.Checks.{all, isTime, rising, degreeFine}
 use Rattle.laws.specs.Bools.{both-true}
-use Rattle.inputs.specs.Inputs.{scratchFits}
+use Rattle.inputs.specs.Inputs.{scratchFits, Observed, Inputs, inputsCounted, inputsFit, inputsFine, inputsRise}
 use Rattle.inputs.proofs.Passed.{AllPass, all-pass}
 use Rattle.slices.specs.declared.Counted.the-variants.{Counted as Filled, Refused as NotFilled}
 use Rattle.residuals.specs.declared.filling.Filled.{Filled as Count}
-use Rattle.residuals.specs.Inputs.{Inputs}
 use Rattle.residuals.specs.Work.{Ready}
-use Rattle.residuals.specs.Calls.{inputsCounted, inputsFit, inputsFine, inputsRise, Lists, Sightings, samplesFit, outputsFit, residualsRefusal, listsLeft, handedOut, settledLists, keptIn, residualsCall, epochFinite}
+use Rattle.residuals.specs.Calls.{Lists, samplesFit, outputsFit, residualsRefusal, listsLeft, handedOut, settledLists, keptIn, residualsCall, epochFinite}
 use Rattle.residuals.specs.Filling.{blank, Long, Done}
 use Rattle.residuals.proofs.Answers.{ready}
 use Rattle.residuals.proofs.Turns.{blank-is, done-long}
 
-record Samples (obs : Sightings) (l : Lists) : Type 0 where
-  pub values : length (obs .values) ≡ length (obs .times)
-  pub good : length (obs .good) ≡ length (obs .times)
-  pub long : Long (length (obs .times)) l
+record Samples (obs : Observed) (l : Lists) : Type 0 where
+  pub values : length (obs .values) ≡ length (obs .obsTimes)
+  pub good : length (obs .good) ≡ length (obs .obsTimes)
+  pub long : Long (length (obs .obsTimes)) l
 
-samples-pass : (obs : Sightings) (l : Lists) → outputsFit obs l ≡ true → Samples obs l
+samples-pass : (obs : Observed) (l : Lists) → outputsFit obs l ≡ true → Samples obs l
 unfolding samplesFit
 samples-pass obs l h =
-    let m : ℕ = length (obs .times) in
+    let m : ℕ = length (obs .obsTimes) in
     let own = both-true (eqb (length (obs .values)) m && eqb (length (obs .good)) m) _ h in
     let given = both-true (eqb (length (obs .values)) m) (eqb (length (obs .good)) m) (own .0) in
     let outs = both-true (eqb (length (l .times)) m && eqb (length (l .residuals)) m) (eqb (length (l .terms)) m && (eqb (length (l .mids)) m && eqb (length (l .vels)) m)) (own .1) in
@@ -49,48 +48,50 @@ samples-pass obs l h =
       };
     }
 
-module _ (inp : Inputs) (obs : Sightings) (l : Lists) (samples : Bool) (n scratch : ℕ) (b : samples ≡ outputsFit obs l) (e : n ≡ residualsRefusal inp obs samples scratch) (z : n ≡ 0) where
-  passed : AllPass (degreeFine (inp .model .degree)) (inputsCounted inp && leb (length (obs .times)) 100000)
-      ((inputsFit inp && scratchFits (inp .model .degree) (length (inp .model .times)) (length (obs .times)) scratch) && samples)
-      (inputsFine inp && (all isTime (obs .times) && all finite (obs .values))) (inputsRise inp && rising (obs .times))
+module _ (inp : Inputs) (obs : Observed) (l : Lists) (samples : Bool) (n scratch : ℕ) (b : samples ≡ outputsFit obs l) (e : n ≡ residualsRefusal inp obs samples scratch) (z : n ≡ 0) where
+  passed : AllPass (degreeFine (inp .model .fixed .degree)) (inputsCounted inp && leb (length (obs .obsTimes)) 100000)
+      ((inputsFit inp && scratchFits (inp .model .fixed .degree) (length (inp .model .fields .fieldTimes)) (length (obs .obsTimes)) scratch) && samples)
+      (inputsFine inp && (all isTime (obs .obsTimes) && all finite (obs .values))) (inputsRise inp && rising (obs .obsTimes)) 0
   unfolding residualsRefusal
-  passed = all-pass (degreeFine (inp .model .degree)) (inputsCounted inp && leb (length (obs .times)) 100000)
-      ((inputsFit inp && scratchFits (inp .model .degree) (length (inp .model .times)) (length (obs .times)) scratch) && samples)
-      (inputsFine inp && (all isTime (obs .times) && all finite (obs .values))) (inputsRise inp && rising (obs .times)) (sym e ∙ z)
+  passed = all-pass (degreeFine (inp .model .fixed .degree)) (inputsCounted inp && leb (length (obs .obsTimes)) 100000)
+      ((inputsFit inp && scratchFits (inp .model .fixed .degree) (length (inp .model .fields .fieldTimes)) (length (obs .obsTimes)) scratch) && samples)
+      (inputsFine inp && (all isTime (obs .obsTimes) && all finite (obs .values))) (inputsRise inp && rising (obs .obsTimes)) 0 (sym e ∙ z)
 
   fits : Samples obs l
-  fits = samples-pass obs l (sym b ∙ both-true (inputsFit inp && scratchFits (inp .model .degree) (length (inp .model .times)) (length (obs .times)) scratch) samples (passed .lengths) .1)
+  fits = samples-pass obs l (sym b ∙ both-true (inputsFit inp && scratchFits (inp .model .fixed .degree) (length (inp .model .fields .fieldTimes)) (length (obs .obsTimes)) scratch) samples
+      (passed .lengths) .1)
 
-  pub residuals-ready : Ready (inp .model .degree) (inp .statesC .keys) (inp .statesD .keys) (inp .accC .keys) (inp .accD .keys) scratch
-      × (length (obs .values) ≡ length (obs .times)) × (length (obs .good) ≡ length (obs .times)) × Long (length (obs .times)) l
+  pub residuals-ready : Ready (inp .model .fixed .degree) (inp .states .c .keys) (inp .states .d .keys) (inp .accs .c .keys) (inp .accs .d .keys) scratch
+      × (length (obs .values) ≡ length (obs .obsTimes)) × (length (obs .good) ≡ length (obs .obsTimes)) × Long (length (obs .obsTimes)) l
   residuals-ready = (
-    ready inp (length (obs .times)) scratch (inputsFine inp && (all isTime (obs .times) && all finite (obs .values)))
+    ready inp (length (obs .obsTimes)) scratch (inputsFine inp && (all isTime (obs .obsTimes) && all finite (obs .values)))
         (record {
           degree = passed .degree;
-          counts = both-true (inputsCounted inp) (leb (length (obs .times)) 100000) (passed .counts) .0;
-          lengths = both-true (inputsFit inp && scratchFits (inp .model .degree) (length (inp .model .times)) (length (obs .times)) scratch) samples (passed .lengths) .0;
+          counts = both-true (inputsCounted inp) (leb (length (obs .obsTimes)) 100000) (passed .counts) .0;
+          lengths = both-true (inputsFit inp && scratchFits (inp .model .fixed .degree) (length (inp .model .fields .fieldTimes)) (length (obs .obsTimes)) scratch) samples (passed .lengths) .0;
           values = passed .values;
-          order = both-true (inputsRise inp) (rising (obs .times)) (passed .order) .0;
+          order = both-true (inputsRise inp) (rising (obs .obsTimes)) (passed .order) .0;
+          rest = refl;
         }),
     fits .values,
     fits .good,
     fits .long,
   )
 
-module _ (inp : Inputs) (obs : Sightings) (l : Lists) (s : List Float) (samples : Bool) (n : ℕ) (b : samples ≡ outputsFit obs l) (e : n ≡ residualsRefusal inp obs samples (length s)) where
-  settles : settledLists n (length (obs .times)) (keptIn inp obs) l s ≡ residualsCall inp obs l s
-  settles = ap (λ (k : ℕ). settledLists k (length (obs .times)) (keptIn inp obs) l s) (e ∙ ap (λ (x : Bool). residualsRefusal inp obs x (length s)) b)
+module _ (inp : Inputs) (obs : Observed) (l : Lists) (s : List Float) (samples : Bool) (n : ℕ) (b : samples ≡ outputsFit obs l) (e : n ≡ residualsRefusal inp obs samples (length s)) where
+  settles : settledLists n (length (obs .obsTimes)) (keptIn inp obs) l s ≡ residualsCall inp obs l s
+  settles = ap (λ (k : ℕ). settledLists k (length (obs .obsTimes)) (keptIn inp obs) l s) (e ∙ ap (λ (x : Bool). residualsRefusal inp obs x (length s)) b)
 
   pub residuals-refused : (n ≡ 0 → ⊥) → listsLeft (NotFilled n) l s ≡ residualsCall inp obs l s
   residuals-refused z = nonzero n z ∙ settles
     where
-      nonzero : (n : ℕ) → (n ≡ 0 → ⊥) → listsLeft (NotFilled n) l s ≡ settledLists n (length (obs .times)) (keptIn inp obs) l s
+      nonzero : (n : ℕ) → (n ≡ 0 → ⊥) → listsLeft (NotFilled n) l s ≡ settledLists n (length (obs .obsTimes)) (keptIn inp obs) l s
       nonzero zero h = absurd (h refl)
       nonzero (suc n) h = refl
 
-  handed : (x : Bool) → n ≡ 0 → x ≡ all epochFinite (keptIn inp obs) → handedOut x (length (obs .times)) (keptIn inp obs) s ≡ residualsCall inp obs l s
-  handed x z f = ap (λ (y : Bool). handedOut y (length (obs .times)) (keptIn inp obs) s) f
-      ∙ ap (λ (k : ℕ). settledLists k (length (obs .times)) (keptIn inp obs) l s) (sym z) ∙ settles
+  handed : (x : Bool) → n ≡ 0 → x ≡ all epochFinite (keptIn inp obs) → handedOut x (length (obs .obsTimes)) (keptIn inp obs) s ≡ residualsCall inp obs l s
+  handed x z f = ap (λ (y : Bool). handedOut y (length (obs .obsTimes)) (keptIn inp obs) s) f
+      ∙ ap (λ (k : ℕ). settledLists k (length (obs .obsTimes)) (keptIn inp obs) l s) (sym z) ∙ settles
 
   pub residuals-handed : (r : Count) (l' : Lists) (s' : List Float) (k : ℕ) → n ≡ 0 → Done inp obs r l' → k ≡ length s → s' ≡ replicate k zero64 → r .fine ≡ true →
       listsLeft (Filled (r .count)) l' s' ≡ residualsCall inp obs l s
@@ -101,5 +102,5 @@ module _ (inp : Inputs) (obs : Sightings) (l : Lists) (s : List Float) (samples 
       listsLeft (NotFilled 10) l'' s' ≡ residualsCall inp obs l s
   residuals-unfit r l' l'' s' k z d h g f w =
       let p : Samples obs l = fits inp obs l samples n (length s) b e z in
-      (λ i. listsLeft (NotFilled 10) ((w ∙ blank-is (length (obs .times)) l' (done-long inp obs r l' (p .values) (p .good) d)) i) ((g ∙ ap (λ (k : ℕ). replicate k zero64) h) i))
+      (λ i. listsLeft (NotFilled 10) ((w ∙ blank-is (length (obs .obsTimes)) l' (done-long inp obs r l' (p .values) (p .good) d)) i) ((g ∙ ap (λ (k : ℕ). replicate k zero64) h) i))
       ∙ handed false z (sym f ∙ d .fine)

@@ -7,6 +7,7 @@ use Prim.Native.Nat.{ℕ, _+_, _-_, _≤_, _<_}
 use native.Mathlib.Omega.{arith}
 use lib.Ieee.{Float, nan}
 use lib.ListN.{length, getD, replicate, length-append}
+use Rattle.inputs.specs.Inputs.{Observed, Inputs}
 use Rattle.laws.specs.Floats.{zero64}
 use Rattle.laws.specs.Checks.{all}
 use Rattle.laws.specs.Bools.{clash}
@@ -18,26 +19,26 @@ use Rattle.epoch.specs.Kept.{observation}
 use Rattle.epoch.specs.Work.{madeOf}
 use Rattle.epoch.proofs.Kept.{seen as seenAt, kept-more as more-kept, kept-few as few-kept, kept-all as all-kept, set-more, filled-records}
 use Rattle.residuals.specs.declared.filling.Filled.{Filled}
-use Rattle.residuals.specs.Inputs.{Inputs, epochOf}
+use Rattle.residuals.specs.Inputs.{epochOf}
 use Rattle.residuals.specs.Work.{Tried}
-use Rattle.residuals.specs.Calls.{Lists, lists, Sightings, listsOf, epochFinite, keptIn}
+use Rattle.residuals.specs.Calls.{Lists, lists, listsOf, epochFinite, keptIn}
 use Rattle.residuals.specs.Filling.{keptTo, stored, blank, Long, Added, SoFar, Begun, Done}
 
-module _ (inp : Inputs) (obs : Sightings) (hv : length (obs .values) ≡ length (obs .times)) (hg : length (obs .good) ≡ length (obs .times)) where
+module _ (inp : Inputs) (obs : Observed) (hv : length (obs .values) ≡ length (obs .obsTimes)) (hg : length (obs .good) ≡ length (obs .obsTimes)) where
   abbrev seen : ℕ → Observation
-  seen i = seenAt (obs .times) (obs .values) (obs .good) i
+  seen i = seenAt (obs .obsTimes) (obs .values) (obs .good) i
 
-  kept-more : (i : ℕ) → i < length (obs .times) → keptTo inp obs (i + 1) ≡ keptTo inp obs i ++ keep (epochOf inp (seen i)) []
+  kept-more : (i : ℕ) → i < length (obs .obsTimes) → keptTo inp obs (i + 1) ≡ keptTo inp obs i ++ keep (epochOf inp (seen i)) []
   unfolding keptTo
-  kept-more = more-kept (epochOf inp) (obs .times) (obs .values) (obs .good) hv hg
+  kept-more = more-kept (epochOf inp) (obs .obsTimes) (obs .values) (obs .good) hv hg
 
-  kept-few : (i : ℕ) → i ≤ length (obs .times) → length (keptTo inp obs i) ≤ i
+  kept-few : (i : ℕ) → i ≤ length (obs .obsTimes) → length (keptTo inp obs i) ≤ i
   unfolding keptTo
-  kept-few = few-kept (epochOf inp) (obs .times) (obs .values) (obs .good) hv hg
+  kept-few = few-kept (epochOf inp) (obs .obsTimes) (obs .values) (obs .good) hv hg
 
-  pub kept-all : keptTo inp obs (length (obs .times)) ≡ keptIn inp obs
+  pub kept-all : keptTo inp obs (length (obs .obsTimes)) ≡ keptIn inp obs
   unfolding keptTo keptIn
-  kept-all = all-kept (epochOf inp) (obs .times) (obs .values) (obs .good) hv hg
+  kept-all = all-kept (epochOf inp) (obs .obsTimes) (obs .values) (obs .good) hv hg
 
 -- ---- lists filled up
 
@@ -95,17 +96,17 @@ module _ (m : ℕ) (es es' : List Epoch) (f r : Filled) (l l' : Lists) (made : M
         outputs = ad .put yes ∙ (λ i. stored (ec i) (is i) (el i)) ∙ stored-more m es x h ∙ ap (listsOf m) (sym e);
       }
 
-module _ (inp : Inputs) (obs : Sightings) (base i : ℕ) (f : Filled) (l : Lists) (w : List Float)
-    (hi : i < length (obs .times)) (hv : length (obs .values) ≡ length (obs .times)) (hg : length (obs .good) ≡ length (obs .times)) (s : SoFar inp obs base i f l w) where
+module _ (inp : Inputs) (obs : Observed) (base i : ℕ) (f : Filled) (l : Lists) (w : List Float)
+    (hi : i < length (obs .obsTimes)) (hv : length (obs .values) ≡ length (obs .obsTimes)) (hg : length (obs .good) ≡ length (obs .obsTimes)) (s : SoFar inp obs base i f l w) where
   pub turned : (r : Filled) (l' : Lists) (w' : List Float) (made : Made) → Tried inp (seen inp obs hv hg i) base w w' made → Added made f r l l' → SoFar inp obs base (i + 1) r l' w'
   turned r l' w' made t ad =
       let few : length (keptTo inp obs i) ≤ i = kept-few inp obs hv hg i (omega arith) in
-      let a : After (length (obs .times)) (keptTo inp obs (i + 1)) r l' =
-      advance (length (obs .times)) (keptTo inp obs i) (keptTo inp obs (i + 1)) f r l l' made (omega arith) (s .count) (s .fine) (s .outputs) ad
+      let a : After (length (obs .obsTimes)) (keptTo inp obs (i + 1)) r l' =
+      advance (length (obs .obsTimes)) (keptTo inp obs i) (keptTo inp obs (i + 1)) f r l l' made (omega arith) (s .count) (s .fine) (s .outputs) ad
       (epochOf inp (seen inp obs hv hg i)) (kept-more inp obs hv hg i hi) (t .is) in
       record { count = a .count; fine = a .fine; outputs = a .outputs; room = omega (arith, t .long, s .room); usable = t .usable }
 
-  pub turned-at : (t v : Float) (byte : ℕ) → t ≡ getD (obs .times) i nan → v ≡ getD (obs .values) i nan → byte ≡ getD (obs .good) i 0 →
+  pub turned-at : (t v : Float) (byte : ℕ) → t ≡ getD (obs .obsTimes) i nan → v ≡ getD (obs .values) i nan → byte ≡ getD (obs .good) i 0 →
       (r : Filled) (l' : Lists) (w' : List Float) (made : Made) → Tried inp (observation t v byte) base w w' made → Added made f r l l' → SoFar inp obs base (i + 1) r l' w'
   turned-at t v byte et ev eb r l' w' made tried =
       turned r l' w' made (subst (λ (o : Observation). Tried inp o base w w' made) (λ j. observation (et j) (ev j) (eb j)) tried)
@@ -114,9 +115,9 @@ module _ (inp : Inputs) (obs : Sightings) (base i : ℕ) (f : Filled) (l : Lists
   pub room-left : (f .count < length (l .times)) × (f .count < length (l .residuals)) × (f .count < length (l .terms)) × (f .count < length (l .mids)) × (f .count < length (l .vels))
   room-left =
       let few : length (keptTo inp obs i) ≤ i = kept-few inp obs hv hg i (omega arith) in
-      let g : Long (length (obs .times)) (listsOf (length (obs .times)) (keptTo inp obs i)) = lists-long (length (obs .times)) (keptTo inp obs i) (omega arith) in
+      let g : Long (length (obs .obsTimes)) (listsOf (length (obs .obsTimes)) (keptTo inp obs i)) = lists-long (length (obs .obsTimes)) (keptTo inp obs i) (omega arith) in
       let ec : f .count ≡ length (keptTo inp obs i) = s .count in
-      let n : ℕ = length (obs .times) in (
+      let n : ℕ = length (obs .obsTimes) in (
         omega (arith, g .times, ap (λ (x : Lists). length (x .times)) (s .outputs)),
         omega (arith, g .residuals, ap (λ (x : Lists). length (x .residuals)) (s .outputs)),
         omega (arith, g .terms, ap (λ (x : Lists). length (x .terms)) (s .outputs)),
@@ -145,19 +146,19 @@ added-not m f l k = record {
 
 -- ---- the beginning and the end
 
-pub begins : (inp : Inputs) (obs : Sightings) (base : ℕ) (l : Lists) (w : List Float) → Begun inp obs base l w → SoFar inp obs base 0 (record { count = 0; fine = true }) l w
+pub begins : (inp : Inputs) (obs : Observed) (base : ℕ) (l : Lists) (w : List Float) → Begun inp obs base l w → SoFar inp obs base 0 (record { count = 0; fine = true }) l w
 unfolding keptTo keptOf
 begins inp obs base l w b = record { count = refl; fine = refl; outputs = b .outputs; room = b .room; usable = b .usable }
 
-pub ends : (inp : Inputs) (obs : Sightings) (base i : ℕ) (f : Filled) (l : Lists) (w : List Float) → length (obs .values) ≡ length (obs .times) → length (obs .good) ≡ length (obs .times) →
-    i ≤ length (obs .times) → length (obs .times) ≤ i → SoFar inp obs base i f l w → Done inp obs f l
+pub ends : (inp : Inputs) (obs : Observed) (base i : ℕ) (f : Filled) (l : Lists) (w : List Float) → length (obs .values) ≡ length (obs .obsTimes) → length (obs .good) ≡ length (obs .obsTimes) →
+    i ≤ length (obs .obsTimes) → length (obs .obsTimes) ≤ i → SoFar inp obs base i f l w → Done inp obs f l
 ends inp obs base i f l w hv hg h k s =
-    let n : i ≡ length (obs .times) = omega arith in
+    let n : i ≡ length (obs .obsTimes) = omega arith in
     let e : keptTo inp obs i ≡ keptIn inp obs = ap (keptTo inp obs) n ∙ kept-all inp obs hv hg in
     record {
       count = s .count ∙ ap length e;
       fine = s .fine ∙ ap (all epochFinite) e;
-      outputs = s .outputs ∙ ap (listsOf (length (obs .times))) e;
+      outputs = s .outputs ∙ ap (listsOf (length (obs .obsTimes))) e;
     }
 
 pub blank-is : (m : ℕ) (l : Lists) → Long m l → blank l ≡ listsOf m []
@@ -170,11 +171,12 @@ blank-is m l h = λ i. lists
     (filled-none (replicate 3 zero64) _ m (h .vels) i)
 
 -- the outputs are as long as there are observations
-pub done-long : (inp : Inputs) (obs : Sightings) (r : Filled) (l : Lists) → length (obs .values) ≡ length (obs .times) → length (obs .good) ≡ length (obs .times) → Done inp obs r l → Long (length (obs .times)) l
+pub done-long : (inp : Inputs) (obs : Observed) (r : Filled) (l : Lists) → length (obs .values) ≡ length (obs .obsTimes) → length (obs .good) ≡ length (obs .obsTimes) → Done inp obs r l
+    → Long (length (obs .obsTimes)) l
 done-long inp obs r l hv hg d =
-    let e : length (keptTo inp obs (length (obs .times))) ≡ length (keptIn inp obs) = ap length (kept-all inp obs hv hg) in
-    let few : length (keptTo inp obs (length (obs .times))) ≤ length (obs .times) = kept-few inp obs hv hg (length (obs .times)) (omega arith) in
-    let g : Long (length (obs .times)) (listsOf (length (obs .times)) (keptIn inp obs)) = lists-long (length (obs .times)) (keptIn inp obs) (omega arith) in
+    let e : length (keptTo inp obs (length (obs .obsTimes))) ≡ length (keptIn inp obs) = ap length (kept-all inp obs hv hg) in
+    let few : length (keptTo inp obs (length (obs .obsTimes))) ≤ length (obs .obsTimes) = kept-few inp obs hv hg (length (obs .obsTimes)) (omega arith) in
+    let g : Long (length (obs .obsTimes)) (listsOf (length (obs .obsTimes)) (keptIn inp obs)) = lists-long (length (obs .obsTimes)) (keptIn inp obs) (omega arith) in
     record {
       times = ap (λ (x : Lists). length (x .times)) (d .outputs) ∙ g .times;
       residuals = ap (λ (x : Lists). length (x .residuals)) (d .outputs) ∙ g .residuals;

@@ -14,14 +14,15 @@ use Rattle.slices.specs.Calls.{Left, left}
 use Rattle.slices.specs.declared.Counted.{Counted}
 use Rattle.slices.specs.declared.Counted.the-variants.{Counted as Filled, Refused as NotFilled}
 use Rattle.finality.specs.Sheet.{Observation, keptOf}
-use Rattle.inputs.specs.Inputs.{firstOf, countsFine, modelFits, tablesFit, scratchFits, modelFine, keyedFine, rise}
+use Rattle.inputs.specs.Inputs.{firstOf, countsFine, modelSized, tablesFit, scratchFits, modelFine, keyedFine, rise, Observed, Inputs, inputsCounted}
+use Rattle.inputs.specs.Inputs.{inputsFit, inputsFine, inputsRise}
 use Rattle.epoch_record.specs.declared.Epoch.{Epoch}
 use Rattle.residuals.specs.declared.Verdict.{Verdict}
 use Rattle.residuals.specs.declared.Verdict.the-variants.{Kept, NotKept, Refused}
 use Rattle.residuals.specs.declared.EpochAnswer.{EpochAnswer}
-use Rattle.residuals.specs.Inputs.{Inputs, epochOf}
+use Rattle.residuals.specs.Inputs.{epochOf}
 use Rattle.epoch.specs.declared.Made.{Made}
-use Rattle.epoch.specs.Kept.{Keyed, observations}
+use Rattle.epoch.specs.Kept.{observations}
 use Rattle.epoch.specs.Work.{noEpoch}
 
 -- ---- a verdict: document 01's number, 0 where nothing is refused, and whether the epoch is kept; its record stands beside it
@@ -38,33 +39,12 @@ verdictValue (Refused n) = none
 
 -- ---- refusals 1 to 5
 
--- tests of the lists that both calls are lent
-abbrev pub inputsCounted : Inputs → Bool
-inputsCounted inp =
-    countsFine (length (inp .model .times)) (length (inp .statesC .keys)) (length (inp .statesD .keys)) (length (inp .accC .keys)) (length (inp .accD .keys))
-
-abbrev pub inputsFit : Inputs → Bool
-inputsFit inp =
-    modelFits (inp .model .degree) (length (inp .model .times)) (length (inp .model .field)) (length (inp .model .added)) (length (inp .a)) (length (inp .b))
-    && tablesFit (length (inp .statesC .keys)) (length (inp .statesC .values)) (length (inp .statesD .keys)) (length (inp .statesD .values)) (length (inp .accC .keys)) (length (inp .accC .values)) (length (inp .accD .keys)) (length (inp .accD .values))
-
-abbrev pub rowsFine : Keyed → Bool
-rowsFine l = keyedFine (l .keys) (l .values)
-
-abbrev pub inputsFine : Inputs → Bool
-inputsFine inp =
-    modelFine (inp .model .field) (inp .a) (inp .b) (inp .model .times) (inp .model .added)
-    && ((rowsFine (inp .statesC) && rowsFine (inp .statesD)) && (rowsFine (inp .accC) && rowsFine (inp .accD)))
-
-abbrev pub inputsRise : Inputs → Bool
-inputsRise inp = rise (inp .model .times) (inp .statesC .keys) (inp .statesD .keys) (inp .accC .keys) (inp .accD .keys)
-
 -- of one epoch at t with an observed value v
 unfoldable pub epochRefusal : Inputs → Float → Float → ℕ → ℕ
 epochRefusal inp t v scratch =
-    firstOf (degreeFine (inp .model .degree)) (inputsCounted inp)
-    (inputsFit inp && scratchFits (inp .model .degree) (length (inp .model .times)) 0 scratch)
-    (inputsFine inp && (isTime t && finite v)) (inputsRise inp)
+    firstOf (degreeFine (inp .model .fixed .degree)) (inputsCounted inp)
+    (inputsFit inp && scratchFits (inp .model .fixed .degree) (length (inp .model .fields .fieldTimes)) 0 scratch)
+    (inputsFine inp && (isTime t && finite v)) (inputsRise inp) 0
 
 -- ---- one epoch
 
@@ -90,9 +70,13 @@ abbrev pub epochLeft : ℕ → Option Epoch → List Float → Left EpochAnswer
 epochLeft (suc n) e scratch = left (refused (suc n)) [] scratch
 epochLeft zero e scratch = left (answered e) [] (cleared scratch)
 
+-- from the epoch that is kept, or none
+abbrev pub epochFrom : Option Epoch → Inputs → Observation → List Float → Left EpochAnswer
+epochFrom e inp o scratch = epochLeft (epochRefusal inp (o .at) (o .observed) (length scratch)) e scratch
+
 -- `epoch`
 abbrev pub epochCall : Inputs → Observation → List Float → Left EpochAnswer
-epochCall inp o scratch = epochLeft (epochRefusal inp (o .at) (o .observed) (length scratch)) (epochOf inp o) scratch
+epochCall inp o scratch = epochFrom (epochOf inp o) inp o scratch
 
 -- ---- all epochs
 
@@ -112,26 +96,18 @@ pub record Lists : Type 0 where
 abbrev pub lists : List Float → List Float → List (List Float) → List (List Float) → List (List Float) → Lists
 lists times residuals terms mids vels = record { times = times; residuals = residuals; terms = terms; mids = mids; vels = vels }
 
--- the observations' times, values and good bytes
-pub record Sightings : Type 0 where
-  pub times : List Float
-  pub values : List Float
-  pub good : List ℕ
-
-abbrev pub sightings : List Float → List Float → List ℕ → Sightings
-sightings times values good = record { times = times; values = values; good = good }
-
-abbrev pub outputsFit : Sightings → Lists → Bool
+abbrev pub outputsFit : Observed → Lists → Bool
 outputsFit obs outs =
-    samplesFit (length (obs .times)) (length (obs .values)) (length (obs .good)) (length (outs .times)) (length (outs .residuals)) (length (outs .terms)) (length (outs .mids)) (length (outs .vels))
+    samplesFit (length (obs .obsTimes)) (length (obs .values)) (length (obs .good)) (length (outs .times)) (length (outs .residuals)) (length (outs .terms))
+    (length (outs .mids)) (length (outs .vels))
 
 -- `samples`: whether the observations' lists and the outputs fit
-unfoldable pub residualsRefusal : Inputs → Sightings → Bool → ℕ → ℕ
+unfoldable pub residualsRefusal : Inputs → Observed → Bool → ℕ → ℕ
 residualsRefusal inp obs samples scratch =
-    firstOf (degreeFine (inp .model .degree)) (inputsCounted inp && leb (length (obs .times)) 100000)
-    ((inputsFit inp && scratchFits (inp .model .degree) (length (inp .model .times)) (length (obs .times)) scratch) && samples)
-    (inputsFine inp && (all isTime (obs .times) && all finite (obs .values)))
-    (inputsRise inp && rising (obs .times))
+    firstOf (degreeFine (inp .model .fixed .degree)) (inputsCounted inp && leb (length (obs .obsTimes)) 100000)
+    ((inputsFit inp && scratchFits (inp .model .fixed .degree) (length (inp .model .fields .fieldTimes)) (length (obs .obsTimes)) scratch) && samples)
+    (inputsFine inp && (all isTime (obs .obsTimes) && all finite (obs .values)))
+    (inputsRise inp && rising (obs .obsTimes)) 0
 
 -- the records' numbers, +0.0 after the last
 unfoldable pub listsOf : ℕ → List Epoch → Lists
@@ -161,9 +137,16 @@ settledLists (suc n) m es outs scratch = listsLeft (NotFilled (suc n)) outs scra
 settledLists zero m es outs scratch = handedOut (all epochFinite es) m es scratch
 
 -- the records of the epochs that are kept
-unfoldable pub keptIn : Inputs → Sightings → List Epoch
-keptIn inp obs = keptOf (epochOf inp) (observations (obs .times) (obs .values) (obs .good))
+abbrev pub keptFrom : (Observation → Option Epoch) → Observed → List Epoch
+keptFrom epoch obs = keptOf epoch (observations (obs .obsTimes) (obs .values) (obs .good))
+
+unfoldable pub keptIn : Inputs → Observed → List Epoch
+keptIn inp obs = keptFrom (epochOf inp) obs
+
+-- from the epochs that are kept
+abbrev pub residualsFrom : List Epoch → Inputs → Observed → Lists → List Float → ListsLeft
+residualsFrom es inp obs outs scratch = settledLists (residualsRefusal inp obs (outputsFit obs outs) (length scratch)) (length (obs .obsTimes)) es outs scratch
 
 -- `residuals`
-abbrev pub residualsCall : Inputs → Sightings → Lists → List Float → ListsLeft
-residualsCall inp obs outs scratch = settledLists (residualsRefusal inp obs (outputsFit obs outs) (length scratch)) (length (obs .times)) (keptIn inp obs) outs scratch
+abbrev pub residualsCall : Inputs → Observed → Lists → List Float → ListsLeft
+residualsCall inp obs outs scratch = residualsFrom (keptIn inp obs) inp obs outs scratch

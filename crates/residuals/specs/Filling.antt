@@ -5,6 +5,7 @@ use mathlib.Core.Bool.{true, false, _&&_}
 use mathlib.Core.List.{List, []}
 use lib.Ieee.{Float}
 use lib.ListN.{length, take, set, replicate}
+use Rattle.inputs.specs.Inputs.{Observed, Inputs}
 use Rattle.finality.specs.Sheet.{keptOf}
 use Rattle.laws.specs.Checks.{all}
 use Rattle.laws.specs.Floats.{zero64}
@@ -14,20 +15,21 @@ use Rattle.epoch.specs.declared.Made.{Made}
 use Rattle.epoch.specs.Kept.{observations}
 use Rattle.epoch.specs.Work.{Usable}
 use Rattle.residuals.specs.declared.filling.Filled.{Filled}
-use Rattle.residuals.specs.Inputs.{Inputs, epochOf}
-use Rattle.residuals.specs.Calls.{Lists, Sightings, lists, listsOf, epochFinite, keptIn}
+use Rattle.residuals.specs.Inputs.{epochOf}
+use Rattle.residuals.specs.Calls.{Lists, lists, listsOf, epochFinite, keptIn}
 
 -- +0.0 in each of the arrays
 abbrev pub zeros : ℕ → ℕ → List (List Float)
 zeros n width = replicate n (replicate width zero64)
 
 -- the records of the first i observations that are kept
-unfoldable pub keptTo : Inputs → Sightings → ℕ → List Epoch
-keptTo inp obs i = keptOf (epochOf inp) (take i (observations (obs .times) (obs .values) (obs .good)))
+unfoldable pub keptTo : Inputs → Observed → ℕ → List Epoch
+keptTo inp obs i = keptOf (epochOf inp) (take i (observations (obs .obsTimes) (obs .values) (obs .good)))
 
 -- a record stored at place k
 abbrev pub stored : ℕ → Epoch → Lists → Lists
-stored k e l = lists (set (l .times) k (e .t)) (set (l .residuals) k (e .residual)) (set (l .terms) k (e .terms)) (set (l .mids) k (e .mid)) (set (l .vels) k (e .vel))
+stored k e l = lists (set (l .times) k (e .t)) (set (l .residuals) k (e .residual)) (set (l .terms) k (e .terms)) (set (l .mids) k (e .mid))
+    (set (l .vels) k (e .vel))
 
 -- one place in each output for each of m observations
 pub record Long (m : ℕ) (l : Lists) : Type 0 where
@@ -48,21 +50,21 @@ pub record Added (m : Made) (f r : Filled) (l l' : Lists) : Type 0 where
   pub same : m .kept ≡ false → r ≡ f
   pub still : m .kept ≡ false → l' ≡ l
 
-pub record SoFar (inp : Inputs) (obs : Sightings) (base i : ℕ) (f : Filled) (l : Lists) (w : List Float) : Type 0 where
+pub record SoFar (inp : Inputs) (obs : Observed) (base i : ℕ) (f : Filled) (l : Lists) (w : List Float) : Type 0 where
   pub count : f .count ≡ length (keptTo inp obs i)
   pub fine : f .fine ≡ all epochFinite (keptTo inp obs i)
-  pub outputs : l ≡ listsOf (length (obs .times)) (keptTo inp obs i)
+  pub outputs : l ≡ listsOf (length (obs .obsTimes)) (keptTo inp obs i)
   pub room : base ≤ length w
   pub usable : Usable (inp .model) (take base w)
 
 -- nothing is stored, and the work slice is usable
-pub record Begun (inp : Inputs) (obs : Sightings) (base : ℕ) (l : Lists) (w : List Float) : Type 0 where
-  pub outputs : l ≡ listsOf (length (obs .times)) []
+pub record Begun (inp : Inputs) (obs : Observed) (base : ℕ) (l : Lists) (w : List Float) : Type 0 where
+  pub outputs : l ≡ listsOf (length (obs .obsTimes)) []
   pub room : base ≤ length w
   pub usable : Usable (inp .model) (take base w)
 
 -- all observations are done
-pub record Done (inp : Inputs) (obs : Sightings) (r : Filled) (l : Lists) : Type 0 where
+pub record Done (inp : Inputs) (obs : Observed) (r : Filled) (l : Lists) : Type 0 where
   pub count : r .count ≡ length (keptIn inp obs)
   pub fine : r .fine ≡ all epochFinite (keptIn inp obs)
-  pub outputs : l ≡ listsOf (length (obs .times)) (keptIn inp obs)
+  pub outputs : l ≡ listsOf (length (obs .obsTimes)) (keptIn inp obs)

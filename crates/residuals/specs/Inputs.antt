@@ -1,25 +1,18 @@
--- What the calls are lent (the source's `Inputs`), and the epochs that are kept of it (document 01, module 5). Assumes nothing.
+-- The epochs that are kept of what the calls are lent (document 01, module 5; the source's `Inputs`). Assumes nothing.
 use mathlib.Core.Option.{Option}
-use mathlib.Core.List.{List}
-use lib.Ieee.{Float}
 use Rattle.finality.specs.Sheet.{Observation}
+use lib.Ieee.{Float}
+use Rattle.vectors.specs.declared.Vector.{Vector}
 use Rattle.epoch_record.specs.declared.Epoch.{Epoch}
-use Rattle.integrate.specs.Force.{Model}
-use Rattle.epoch.specs.Kept.{Keyed, states, numbers, epochBy}
+use Rattle.inputs.specs.Inputs.{Inputs}
+use Rattle.epoch.specs.Kept.{states, numbers, recordBy, seenWith, epochOver, epochBy}
 
--- the time-variable model, the Legendre tables a and b, and for the satellites C and D their states, six numbers each, and their accelerometer values
-pub record Inputs : Type 0 where
-  pub model : Model
-  pub a : List Float
-  pub b : List Float
-  pub statesC : Keyed
-  pub statesD : Keyed
-  pub accC : Keyed
-  pub accD : Keyed
+-- an epoch that is kept, the field's gravity being a function of the time and the place
+abbrev pub epochUnder : (Float → Vector → Vector) → Inputs → Observation → Option Epoch
+epochUnder gravity inp =
+    epochOver (seenWith (recordBy gravity) (inp .model .fields .fieldTimes)) (states (inp .states .c)) (states (inp .states .d))
+    (numbers (inp .accs .c)) (numbers (inp .accs .d))
 
-abbrev pub inputs : Model → List Float → List Float → Keyed → Keyed → Keyed → Keyed → Inputs
-inputs m a b statesC statesD accC accD = record { model = m; a = a; b = b; statesC = statesC; statesD = statesD; accC = accC; accD = accD }
-
--- an epoch that is kept
+-- the same with the gravity of the model (`gravityAt`)
 abbrev pub epochOf : Inputs → Observation → Option Epoch
-epochOf inp = epochBy (inp .model) (inp .a) (inp .b) (states (inp .statesC)) (states (inp .statesD)) (numbers (inp .accC)) (numbers (inp .accD))
+epochOf inp = epochBy (inp .model) (states (inp .states .c)) (states (inp .states .d)) (numbers (inp .accs .c)) (numbers (inp .accs .d))

@@ -6,12 +6,12 @@ use mathlib.Core.List.{List}
 use lib.Ieee.{Float}
 use lib.IntN.{ℤ}
 use lib.ListN.{length, take}
-use Rattle.inputs.specs.Inputs.{frontSize}
+use Rattle.inputs.specs.Inputs.{frontSize, Inputs}
 use Rattle.laws.specs.Checks.{risingSeconds}
 use Rattle.finality.specs.Sheet.{Observation}
 use Rattle.epoch.specs.declared.Made.{Made}
 use Rattle.epoch.specs.Work.{madeOf, Usable}
-use Rattle.residuals.specs.Inputs.{Inputs, epochOf}
+use Rattle.residuals.specs.Inputs.{epochOf}
 
 -- a list can be searched, and its rows' places fit
 pub record Searchable (keys : List ℤ) : Type 0 where

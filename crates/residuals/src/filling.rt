@@ -2,12 +2,9 @@
 ghost use mathlib.Core.Path.{_≡_};
 ghost use Prim.Native.Nat.{_+_, _<_};
 ghost use lib.ListN.{length};
-ghost use Rattle.inputs.specs.Inputs.{frontSize};
-ghost use Rattle.integrate.specs.Force.{model};
-ghost use Rattle.epoch.specs.Kept.{keyed};
-ghost use Rattle.residuals.specs.Inputs.{inputs};
+ghost use Rattle.inputs.specs.Inputs.{modelOf, frontSize, lentList, pairOf, observedOf, inputs};
 ghost use Rattle.residuals.specs.Work.{Searchable, Ready};
-ghost use Rattle.residuals.specs.Calls.{lists, sightings};
+ghost use Rattle.residuals.specs.Calls.{lists};
 ghost use Rattle.residuals.specs.Filling.{zeros, blank, Long, Added, SoFar, Begun, Done};
 
 // How many records are stored, and whether all their numbers are finite.
@@ -48,8 +45,10 @@ fn add(
     outmids: &mut [[f64; 3]],
     outvels: &mut [[f64; 3]],
 ) -> Filled
-    requires { ⌜ (filled .count < length (now outtimes)) × (filled .count < length (now outresiduals)) × (filled .count < length (now outterms)) × (filled .count < length (now outmids)) × (filled .count < length (now outvels)) ⌝ }
-    ensures { λ r. ⌜ Added made filled r (lists (now (outtimes .entry)) (now (outresiduals .entry)) (now (outterms .entry)) (now (outmids .entry)) (now (outvels .entry))) (lists (now (outtimes .exit)) (now (outresiduals .exit)) (now (outterms .exit)) (now (outmids .exit)) (now (outvels .exit))) ⌝ }
+    requires { ⌜ (filled .count < length (now outtimes)) × (filled .count < length (now outresiduals)) × (filled .count < length (now outterms))
+        × (filled .count < length (now outmids)) × (filled .count < length (now outvels)) ⌝ }
+    ensures { λ r. ⌜ Added made filled r (lists (now (outtimes .entry)) (now (outresiduals .entry)) (now (outterms .entry)) (now (outmids .entry))
+        (now (outvels .entry))) (lists (now (outtimes .exit)) (now (outresiduals .exit)) (now (outterms .exit)) (now (outmids .exit)) (now (outvels .exit))) ⌝ }
 {
     if made.kept {
         let e = made.epoch;
@@ -69,21 +68,13 @@ fn add(
 }
 
 // Observation i.
-fn turn(
+fn turn<'a>(
     degree: usize,
-    field: &[f64],
-    a: &[f64],
-    b: &[f64],
-    times: &[f64],
-    added: &[f64],
-    ckeys: &[i64],
-    cstates: &[f64],
-    dkeys: &[i64],
-    dstates: &[f64],
-    cacckeys: &[i64],
-    caccs: &[f64],
-    dacckeys: &[i64],
-    daccs: &[f64],
+    model: inputs::Model<'a>,
+    keys: inputs::Keys<'a>,
+    states: inputs::Rows<'a>,
+    acckeys: inputs::Keys<'a>,
+    accs: inputs::Rows<'a>,
     obstimes: &[f64],
     obsvalues: &[f64],
     good: &[u8],
@@ -97,24 +88,22 @@ fn turn(
     outvels: &mut [[f64; 3]],
     w: &mut [f64],
 ) -> Filled
-    requires { ⌜ Searchable (now ckeys) × Searchable (now dkeys) × Searchable (now cacckeys) × Searchable (now dacckeys) × (base ≡ frontSize degree) × (i < length (now obstimes)) × (length (now obsvalues) ≡ length (now obstimes)) × (length (now good) ≡ length (now obstimes)) × SoFar (inputs (model degree (now field) (now times) (now added)) (now a) (now b) (keyed (now ckeys) (now cstates)) (keyed (now dkeys) (now dstates)) (keyed (now cacckeys) (now caccs)) (keyed (now dacckeys) (now daccs))) (sightings (now obstimes) (now obsvalues) (now good)) base i filled (lists (now outtimes) (now outresiduals) (now outterms) (now outmids) (now outvels)) (now w) ⌝ }
-    ensures { λ r. ⌜ SoFar (inputs (model degree (now (field .entry)) (now (times .entry)) (now (added .entry))) (now (a .entry)) (now (b .entry)) (keyed (now (ckeys .entry)) (now (cstates .entry))) (keyed (now (dkeys .entry)) (now (dstates .entry))) (keyed (now (cacckeys .entry)) (now (caccs .entry))) (keyed (now (dacckeys .entry)) (now (daccs .entry)))) (sightings (now (obstimes .entry)) (now (obsvalues .entry)) (now (good .entry))) base (i + 1) r (lists (now (outtimes .exit)) (now (outresiduals .exit)) (now (outterms .exit)) (now (outmids .exit)) (now (outvels .exit))) (now (w .exit)) ⌝ }
+    requires { ⌜ Searchable (lentList keys 0) × Searchable (lentList keys 1) × Searchable (lentList acckeys 0) × Searchable (lentList acckeys 1)
+        × (base ≡ frontSize degree) × (i < length (now obstimes)) × (length (now obsvalues) ≡ length (now obstimes))
+        × (length (now good) ≡ length (now obstimes))
+        × SoFar (inputs (modelOf degree model) (pairOf keys states) (pairOf acckeys accs)) (observedOf (now obstimes) (now obsvalues) (now good)) base i
+        filled (lists (now outtimes) (now outresiduals) (now outterms) (now outmids) (now outvels)) (now w) ⌝ }
+    ensures { λ r. ⌜ SoFar (inputs (modelOf degree (model .entry)) (pairOf (keys .entry) (states .entry)) (pairOf (acckeys .entry) (accs .entry)))
+        (observedOf (now (obstimes .entry)) (now (obsvalues .entry)) (now (good .entry))) base (i + 1) r
+        (lists (now (outtimes .exit)) (now (outresiduals .exit)) (now (outterms .exit)) (now (outmids .exit)) (now (outvels .exit))) (now (w .exit)) ⌝ }
 {
     let made = crate::work::try_epoch(
         degree,
-        field,
-        a,
-        b,
-        times,
-        added,
-        ckeys,
-        cstates,
-        dkeys,
-        dstates,
-        cacckeys,
-        caccs,
-        dacckeys,
-        daccs,
+        model,
+        keys,
+        states,
+        acckeys,
+        accs,
         integrate::kernel::element(obstimes, i),
         integrate::kernel::element(obsvalues, i),
         good[i],
@@ -133,21 +122,13 @@ fn turn(
 }
 
 // From an empty beginning.
-fn fill_from(
+fn fill_from<'a>(
     degree: usize,
-    field: &[f64],
-    a: &[f64],
-    b: &[f64],
-    times: &[f64],
-    added: &[f64],
-    ckeys: &[i64],
-    cstates: &[f64],
-    dkeys: &[i64],
-    dstates: &[f64],
-    cacckeys: &[i64],
-    caccs: &[f64],
-    dacckeys: &[i64],
-    daccs: &[f64],
+    model: inputs::Model<'a>,
+    keys: inputs::Keys<'a>,
+    states: inputs::Rows<'a>,
+    acckeys: inputs::Keys<'a>,
+    accs: inputs::Rows<'a>,
     obstimes: &[f64],
     obsvalues: &[f64],
     good: &[u8],
@@ -159,8 +140,13 @@ fn fill_from(
     outvels: &mut [[f64; 3]],
     w: &mut [f64],
 ) -> Filled
-    requires { ⌜ Searchable (now ckeys) × Searchable (now dkeys) × Searchable (now cacckeys) × Searchable (now dacckeys) × (base ≡ frontSize degree) × (length (now obsvalues) ≡ length (now obstimes)) × (length (now good) ≡ length (now obstimes)) × Begun (inputs (model degree (now field) (now times) (now added)) (now a) (now b) (keyed (now ckeys) (now cstates)) (keyed (now dkeys) (now dstates)) (keyed (now cacckeys) (now caccs)) (keyed (now dacckeys) (now daccs))) (sightings (now obstimes) (now obsvalues) (now good)) base (lists (now outtimes) (now outresiduals) (now outterms) (now outmids) (now outvels)) (now w) ⌝ }
-    ensures { λ r. ⌜ Done (inputs (model degree (now (field .entry)) (now (times .entry)) (now (added .entry))) (now (a .entry)) (now (b .entry)) (keyed (now (ckeys .entry)) (now (cstates .entry))) (keyed (now (dkeys .entry)) (now (dstates .entry))) (keyed (now (cacckeys .entry)) (now (caccs .entry))) (keyed (now (dacckeys .entry)) (now (daccs .entry)))) (sightings (now (obstimes .entry)) (now (obsvalues .entry)) (now (good .entry))) r (lists (now (outtimes .exit)) (now (outresiduals .exit)) (now (outterms .exit)) (now (outmids .exit)) (now (outvels .exit))) ⌝ }
+    requires { ⌜ Searchable (lentList keys 0) × Searchable (lentList keys 1) × Searchable (lentList acckeys 0) × Searchable (lentList acckeys 1)
+        × (base ≡ frontSize degree) × (length (now obsvalues) ≡ length (now obstimes)) × (length (now good) ≡ length (now obstimes))
+        × Begun (inputs (modelOf degree model) (pairOf keys states) (pairOf acckeys accs)) (observedOf (now obstimes) (now obsvalues) (now good)) base
+        (lists (now outtimes) (now outresiduals) (now outterms) (now outmids) (now outvels)) (now w) ⌝ }
+    ensures { λ r. ⌜ Done (inputs (modelOf degree (model .entry)) (pairOf (keys .entry) (states .entry)) (pairOf (acckeys .entry) (accs .entry)))
+        (observedOf (now (obstimes .entry)) (now (obsvalues .entry)) (now (good .entry))) r
+        (lists (now (outtimes .exit)) (now (outresiduals .exit)) (now (outterms .exit)) (now (outmids .exit)) (now (outvels .exit))) ⌝ }
 {
     let mut filled = Filled {
         count: 0,
@@ -170,19 +156,11 @@ fn fill_from(
     while i < obstimes.len() {
         filled = turn(
             degree,
-            field,
-            a,
-            b,
-            times,
-            added,
-            ckeys,
-            cstates,
-            dkeys,
-            dstates,
-            cacckeys,
-            caccs,
-            dacckeys,
-            daccs,
+            model,
+            keys,
+            states,
+            acckeys,
+            accs,
             obstimes,
             obsvalues,
             good,
@@ -209,7 +187,8 @@ pub(crate) fn clear_lists(
     outmids: &mut [[f64; 3]],
     outvels: &mut [[f64; 3]],
 )
-    ensures { λ _. ⌜ lists (now (outtimes .exit)) (now (outresiduals .exit)) (now (outterms .exit)) (now (outmids .exit)) (now (outvels .exit)) ≡ blank (lists (now (outtimes .entry)) (now (outresiduals .entry)) (now (outterms .entry)) (now (outmids .entry)) (now (outvels .entry))) ⌝ }
+    ensures { λ _. ⌜ lists (now (outtimes .exit)) (now (outresiduals .exit)) (now (outterms .exit)) (now (outmids .exit)) (now (outvels .exit)) ≡ blank
+        (lists (now (outtimes .entry)) (now (outresiduals .entry)) (now (outterms .entry)) (now (outmids .entry)) (now (outvels .entry))) ⌝ }
 {
     slices::clear(outtimes);
     slices::clear(outresiduals);
@@ -219,21 +198,13 @@ pub(crate) fn clear_lists(
 }
 
 // The records of the epochs that are kept, in order; +0.0 after the last.
-pub(crate) fn fill(
+pub(crate) fn fill<'a>(
     degree: usize,
-    field: &[f64],
-    a: &[f64],
-    b: &[f64],
-    times: &[f64],
-    added: &[f64],
-    ckeys: &[i64],
-    cstates: &[f64],
-    dkeys: &[i64],
-    dstates: &[f64],
-    cacckeys: &[i64],
-    caccs: &[f64],
-    dacckeys: &[i64],
-    daccs: &[f64],
+    model: inputs::Model<'a>,
+    keys: inputs::Keys<'a>,
+    states: inputs::Rows<'a>,
+    acckeys: inputs::Keys<'a>,
+    accs: inputs::Rows<'a>,
     obstimes: &[f64],
     obsvalues: &[f64],
     good: &[u8],
@@ -244,27 +215,23 @@ pub(crate) fn fill(
     outvels: &mut [[f64; 3]],
     w: &mut [f64],
 ) -> Filled
-    requires { ⌜ Ready degree (now ckeys) (now dkeys) (now cacckeys) (now dacckeys) (length (now w)) × (length (now obsvalues) ≡ length (now obstimes)) × (length (now good) ≡ length (now obstimes)) × Long (length (now obstimes)) (lists (now outtimes) (now outresiduals) (now outterms) (now outmids) (now outvels)) ⌝ }
-    ensures { λ r. ⌜ Done (inputs (model degree (now (field .entry)) (now (times .entry)) (now (added .entry))) (now (a .entry)) (now (b .entry)) (keyed (now (ckeys .entry)) (now (cstates .entry))) (keyed (now (dkeys .entry)) (now (dstates .entry))) (keyed (now (cacckeys .entry)) (now (caccs .entry))) (keyed (now (dacckeys .entry)) (now (daccs .entry)))) (sightings (now (obstimes .entry)) (now (obsvalues .entry)) (now (good .entry))) r (lists (now (outtimes .exit)) (now (outresiduals .exit)) (now (outterms .exit)) (now (outmids .exit)) (now (outvels .exit))) ⌝ }
+    requires { ⌜ Ready degree (lentList keys 0) (lentList keys 1) (lentList acckeys 0) (lentList acckeys 1) (length (now w))
+        × (length (now obsvalues) ≡ length (now obstimes)) × (length (now good) ≡ length (now obstimes))
+        × Long (length (now obstimes)) (lists (now outtimes) (now outresiduals) (now outterms) (now outmids) (now outvels)) ⌝ }
+    ensures { λ r. ⌜ Done (inputs (modelOf degree (model .entry)) (pairOf (keys .entry) (states .entry)) (pairOf (acckeys .entry) (accs .entry)))
+        (observedOf (now (obstimes .entry)) (now (obsvalues .entry)) (now (good .entry))) r
+        (lists (now (outtimes .exit)) (now (outresiduals .exit)) (now (outterms .exit)) (now (outmids .exit)) (now (outvels .exit))) ⌝ }
 {
     let base = inputs::front_size(degree);
     clear_lists(outtimes, outresiduals, outterms, outmids, outvels);
     epoch::open(degree, base, w);
     fill_from(
         degree,
-        field,
-        a,
-        b,
-        times,
-        added,
-        ckeys,
-        cstates,
-        dkeys,
-        dstates,
-        cacckeys,
-        caccs,
-        dacckeys,
-        daccs,
+        model,
+        keys,
+        states,
+        acckeys,
+        accs,
         obstimes,
         obsvalues,
         good,

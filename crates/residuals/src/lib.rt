@@ -6,12 +6,13 @@ ghost use mathlib.Core.Path.{_≡_};
 ghost use mathlib.Core.Bool.{_&&_};
 ghost use mathlib.Core.List.{[]};
 ghost use lib.ListN.{length};
+ghost use Rattle.inputs.specs.Inputs.{modelOf, lentList, pairOf, observedOf, inputs};
 ghost use Rattle.slices.specs.Calls.{left};
-ghost use Rattle.integrate.specs.Force.{model};
-ghost use Rattle.epoch.specs.Kept.{keyed, observation};
-ghost use Rattle.residuals.specs.Inputs.{inputs, epochOf};
+ghost use Rattle.epoch.specs.Kept.{observation};
+ghost use Rattle.residuals.specs.Inputs.{epochOf};
 ghost use Rattle.residuals.specs.Work.{Ready};
-ghost use Rattle.residuals.specs.Calls.{epochRefusal, epochFinite, refused as refusedOf, answered, told, epochCall, samplesFit, residualsRefusal, lists, sightings, listsLeft, residualsCall};
+ghost use Rattle.residuals.specs.Calls.{epochRefusal, epochFinite, refused as refusedOf, answered, told, epochCall, samplesFit, residualsRefusal};
+ghost use Rattle.residuals.specs.Calls.{lists, listsLeft, residualsCall};
 
 pub enum Verdict {
     Kept,
@@ -27,70 +28,34 @@ pub struct EpochAnswer {
 
 // ---- what is refused
 
-fn epoch_refusal(
+fn epoch_refusal<'a>(
     degree: usize,
-    field: &[f64],
-    a: &[f64],
-    b: &[f64],
-    times: &[f64],
-    added: &[f64],
-    ckeys: &[i64],
-    cstates: &[f64],
-    dkeys: &[i64],
-    dstates: &[f64],
-    cacckeys: &[i64],
-    caccs: &[f64],
-    dacckeys: &[i64],
-    daccs: &[f64],
+    model: inputs::Model<'a>,
+    keys: inputs::Keys<'a>,
+    states: inputs::Rows<'a>,
+    acckeys: inputs::Keys<'a>,
+    accs: inputs::Rows<'a>,
     t: f64,
     observed: f64,
     scratch: usize,
 ) -> u8
-    ensures { λ r. ⌜ r ≡ epochRefusal (inputs (model degree (now (field .entry)) (now (times .entry)) (now (added .entry))) (now (a .entry)) (now (b .entry)) (keyed (now (ckeys .entry)) (now (cstates .entry))) (keyed (now (dkeys .entry)) (now (dstates .entry))) (keyed (now (cacckeys .entry)) (now (caccs .entry))) (keyed (now (dacckeys .entry)) (now (daccs .entry)))) t observed scratch ⌝ }
+    ensures { λ r. ⌜ r ≡ epochRefusal (inputs (modelOf degree (model .entry)) (pairOf (keys .entry) (states .entry)) (pairOf (acckeys .entry) (accs .entry)))
+        t observed scratch ⌝ }
 {
+    let times = model[inputs::FIELD_TIMES];
     let fields = times.len();
-    let counts = inputs::counts_fine(
-        fields,
-        ckeys.len(),
-        dkeys.len(),
-        cacckeys.len(),
-        dacckeys.len(),
-    );
-    let lists = inputs::lists_fit(
-        degree,
-        field,
-        a,
-        b,
-        times,
-        added,
-        ckeys,
-        cstates,
-        dkeys,
-        dstates,
-        cacckeys,
-        caccs,
-        dacckeys,
-        daccs,
-    );
+    let counts = inputs::inputs_counted(model, keys, acckeys);
+    let lists = inputs::inputs_fit(degree, model, keys, states, acckeys, accs);
     let lengths = slices::both(lists, inputs::scratch_fits(degree, fields, 0, scratch));
-    let rows = inputs::rows_fine(
-        ckeys,
-        cstates,
-        dkeys,
-        dstates,
-        cacckeys,
-        caccs,
-        dacckeys,
-        daccs,
-    );
-    let values = slices::both(inputs::model_fine(field, a, b, times, added), rows);
+    let values = inputs::inputs_fine(model, keys, states, acckeys, accs);
     let own = slices::both(slices::is_time(t), numbers::is_finite(observed));
     inputs::first_of(
         inputs::degree_fine(degree),
         counts,
         lengths,
         slices::both(values, own),
-        inputs::rise(times, ckeys, dkeys, cacckeys, dacckeys),
+        inputs::inputs_rise(model, keys, acckeys),
+        0,
     )
 }
 
@@ -114,74 +79,38 @@ fn samples_fit(
     )
 }
 
-fn residuals_refusal(
+fn residuals_refusal<'a>(
     degree: usize,
-    field: &[f64],
-    a: &[f64],
-    b: &[f64],
-    times: &[f64],
-    added: &[f64],
-    ckeys: &[i64],
-    cstates: &[f64],
-    dkeys: &[i64],
-    dstates: &[f64],
-    cacckeys: &[i64],
-    caccs: &[f64],
-    dacckeys: &[i64],
-    daccs: &[f64],
+    model: inputs::Model<'a>,
+    keys: inputs::Keys<'a>,
+    states: inputs::Rows<'a>,
+    acckeys: inputs::Keys<'a>,
+    accs: inputs::Rows<'a>,
     obstimes: &[f64],
     obsvalues: &[f64],
     good: &[u8],
     samples: bool,
     scratch: usize,
 ) -> u8
-    ensures { λ r. ⌜ r ≡ residualsRefusal (inputs (model degree (now (field .entry)) (now (times .entry)) (now (added .entry))) (now (a .entry)) (now (b .entry)) (keyed (now (ckeys .entry)) (now (cstates .entry))) (keyed (now (dkeys .entry)) (now (dstates .entry))) (keyed (now (cacckeys .entry)) (now (caccs .entry))) (keyed (now (dacckeys .entry)) (now (daccs .entry)))) (sightings (now (obstimes .entry)) (now (obsvalues .entry)) (now (good .entry))) samples scratch ⌝ }
+    ensures { λ r. ⌜ r ≡ residualsRefusal (inputs (modelOf degree (model .entry)) (pairOf (keys .entry) (states .entry))
+        (pairOf (acckeys .entry) (accs .entry))) (observedOf (now (obstimes .entry)) (now (obsvalues .entry)) (now (good .entry))) samples scratch ⌝ }
 {
+    let times = model[inputs::FIELD_TIMES];
     let fields = times.len();
     let count = obstimes.len();
-    let counts = inputs::counts_fine(
-        fields,
-        ckeys.len(),
-        dkeys.len(),
-        cacckeys.len(),
-        dacckeys.len(),
-    );
-    let lists = inputs::lists_fit(
-        degree,
-        field,
-        a,
-        b,
-        times,
-        added,
-        ckeys,
-        cstates,
-        dkeys,
-        dstates,
-        cacckeys,
-        caccs,
-        dacckeys,
-        daccs,
-    );
+    let counts = inputs::inputs_counted(model, keys, acckeys);
+    let lists = inputs::inputs_fit(degree, model, keys, states, acckeys, accs);
     let lengths = slices::both(lists, inputs::scratch_fits(degree, fields, count, scratch));
-    let rows = inputs::rows_fine(
-        ckeys,
-        cstates,
-        dkeys,
-        dstates,
-        cacckeys,
-        caccs,
-        dacckeys,
-        daccs,
-    );
-    let values = slices::both(inputs::model_fine(field, a, b, times, added), rows);
+    let values = inputs::inputs_fine(model, keys, states, acckeys, accs);
     let own = slices::both(slices::all_times(obstimes), slices::all_finite(obsvalues));
-    let rise = inputs::rise(times, ckeys, dkeys, cacckeys, dacckeys);
+    let rise = inputs::inputs_rise(model, keys, acckeys);
     inputs::first_of(
         inputs::degree_fine(degree),
         slices::both(counts, count <= 100000),
         slices::both(lengths, samples),
         slices::both(values, own),
         slices::both(rise, slices::rising(obstimes)),
+        0,
     )
 }
 
@@ -234,46 +163,31 @@ fn judged(made: epoch::Made) -> EpochAnswer
 
 // ---- the calls
 
-fn epoch_work(
+fn epoch_work<'a>(
     degree: usize,
-    field: &[f64],
-    a: &[f64],
-    b: &[f64],
-    times: &[f64],
-    added: &[f64],
-    ckeys: &[i64],
-    cstates: &[f64],
-    dkeys: &[i64],
-    dstates: &[f64],
-    cacckeys: &[i64],
-    caccs: &[f64],
-    dacckeys: &[i64],
-    daccs: &[f64],
+    model: inputs::Model<'a>,
+    keys: inputs::Keys<'a>,
+    states: inputs::Rows<'a>,
+    acckeys: inputs::Keys<'a>,
+    accs: inputs::Rows<'a>,
     t: f64,
     observed: f64,
     good: u8,
     scratch: &mut [f64],
 ) -> EpochAnswer
-    requires { ⌜ Ready degree (now ckeys) (now dkeys) (now cacckeys) (now dacckeys) (length (now scratch)) ⌝ }
-    ensures { λ r. ⌜ (r ≡ answered (epochOf (inputs (model degree (now (field .entry)) (now (times .entry)) (now (added .entry))) (now (a .entry)) (now (b .entry)) (keyed (now (ckeys .entry)) (now (cstates .entry))) (keyed (now (dkeys .entry)) (now (dstates .entry))) (keyed (now (cacckeys .entry)) (now (caccs .entry))) (keyed (now (dacckeys .entry)) (now (daccs .entry)))) (observation t observed good))) × (length (now (scratch .exit)) ≡ length (now (scratch .entry))) ⌝ }
+    requires { ⌜ Ready degree (lentList keys 0) (lentList keys 1) (lentList acckeys 0) (lentList acckeys 1) (length (now scratch)) ⌝ }
+    ensures { λ r. ⌜ (r ≡ answered (epochOf (inputs (modelOf degree (model .entry)) (pairOf (keys .entry) (states .entry))
+        (pairOf (acckeys .entry) (accs .entry))) (observation t observed good))) × (length (now (scratch .exit)) ≡ length (now (scratch .entry))) ⌝ }
 {
     let base = inputs::front_size(degree);
     epoch::open(degree, base, scratch);
     let made = work::try_epoch(
         degree,
-        field,
-        a,
-        b,
-        times,
-        added,
-        ckeys,
-        cstates,
-        dkeys,
-        dstates,
-        cacckeys,
-        caccs,
-        dacckeys,
-        daccs,
+        model,
+        keys,
+        states,
+        acckeys,
+        accs,
         t,
         observed,
         good,
@@ -284,43 +198,29 @@ fn epoch_work(
 }
 
 // One epoch's record, where it is kept.
-pub fn epoch(
+pub fn epoch<'a>(
     degree: usize,
-    field: &[f64],
-    a: &[f64],
-    b: &[f64],
-    times: &[f64],
-    added: &[f64],
-    ckeys: &[i64],
-    cstates: &[f64],
-    dkeys: &[i64],
-    dstates: &[f64],
-    cacckeys: &[i64],
-    caccs: &[f64],
-    dacckeys: &[i64],
-    daccs: &[f64],
+    model: inputs::Model<'a>,
+    keys: inputs::Keys<'a>,
+    states: inputs::Rows<'a>,
+    acckeys: inputs::Keys<'a>,
+    accs: inputs::Rows<'a>,
     t: f64,
     observed: f64,
     good: u8,
     scratch: &mut [f64],
 ) -> EpochAnswer
-    ensures { λ r. ⌜ left r [] (now (scratch .exit)) ≡ epochCall (inputs (model degree (now (field .entry)) (now (times .entry)) (now (added .entry))) (now (a .entry)) (now (b .entry)) (keyed (now (ckeys .entry)) (now (cstates .entry))) (keyed (now (dkeys .entry)) (now (dstates .entry))) (keyed (now (cacckeys .entry)) (now (caccs .entry))) (keyed (now (dacckeys .entry)) (now (daccs .entry)))) (observation t observed good) (now (scratch .entry)) ⌝ }
+    ensures { λ r. ⌜ left r [] (now (scratch .exit)) ≡ epochCall
+        (inputs (modelOf degree (model .entry)) (pairOf (keys .entry) (states .entry)) (pairOf (acckeys .entry) (accs .entry))) (observation t observed good)
+        (now (scratch .entry)) ⌝ }
 {
     let n = epoch_refusal(
         degree,
-        field,
-        a,
-        b,
-        times,
-        added,
-        ckeys,
-        cstates,
-        dkeys,
-        dstates,
-        cacckeys,
-        caccs,
-        dacckeys,
-        daccs,
+        model,
+        keys,
+        states,
+        acckeys,
+        accs,
         t,
         observed,
         scratch.len(),
@@ -330,19 +230,11 @@ pub fn epoch(
     }
     let answer = epoch_work(
         degree,
-        field,
-        a,
-        b,
-        times,
-        added,
-        ckeys,
-        cstates,
-        dkeys,
-        dstates,
-        cacckeys,
-        caccs,
-        dacckeys,
-        daccs,
+        model,
+        keys,
+        states,
+        acckeys,
+        accs,
         t,
         observed,
         good,
@@ -353,21 +245,13 @@ pub fn epoch(
 }
 
 // The records of the epochs that are kept, in order: how many, and their numbers in five lists.
-pub fn residuals(
+pub fn residuals<'a>(
     degree: usize,
-    field: &[f64],
-    a: &[f64],
-    b: &[f64],
-    times: &[f64],
-    added: &[f64],
-    ckeys: &[i64],
-    cstates: &[f64],
-    dkeys: &[i64],
-    dstates: &[f64],
-    cacckeys: &[i64],
-    caccs: &[f64],
-    dacckeys: &[i64],
-    daccs: &[f64],
+    model: inputs::Model<'a>,
+    keys: inputs::Keys<'a>,
+    states: inputs::Rows<'a>,
+    acckeys: inputs::Keys<'a>,
+    accs: inputs::Rows<'a>,
     obstimes: &[f64],
     obsvalues: &[f64],
     good: &[u8],
@@ -378,7 +262,11 @@ pub fn residuals(
     outvels: &mut [[f64; 3]],
     scratch: &mut [f64],
 ) -> slices::Counted
-    ensures { λ r. ⌜ listsLeft r (lists (now (outtimes .exit)) (now (outresiduals .exit)) (now (outterms .exit)) (now (outmids .exit)) (now (outvels .exit))) (now (scratch .exit)) ≡ residualsCall (inputs (model degree (now (field .entry)) (now (times .entry)) (now (added .entry))) (now (a .entry)) (now (b .entry)) (keyed (now (ckeys .entry)) (now (cstates .entry))) (keyed (now (dkeys .entry)) (now (dstates .entry))) (keyed (now (cacckeys .entry)) (now (caccs .entry))) (keyed (now (dacckeys .entry)) (now (daccs .entry)))) (sightings (now (obstimes .entry)) (now (obsvalues .entry)) (now (good .entry))) (lists (now (outtimes .entry)) (now (outresiduals .entry)) (now (outterms .entry)) (now (outmids .entry)) (now (outvels .entry))) (now (scratch .entry)) ⌝ }
+    ensures { λ r. ⌜ listsLeft r (lists (now (outtimes .exit)) (now (outresiduals .exit)) (now (outterms .exit)) (now (outmids .exit)) (now (outvels .exit)))
+        (now (scratch .exit)) ≡ residualsCall (inputs (modelOf degree (model .entry)) (pairOf (keys .entry) (states .entry))
+        (pairOf (acckeys .entry) (accs .entry))) (observedOf (now (obstimes .entry)) (now (obsvalues .entry)) (now (good .entry)))
+        (lists (now (outtimes .entry)) (now (outresiduals .entry)) (now (outterms .entry)) (now (outmids .entry)) (now (outvels .entry)))
+        (now (scratch .entry)) ⌝ }
 {
     let samples = samples_fit(
         obstimes.len(),
@@ -392,19 +280,11 @@ pub fn residuals(
     );
     let n = residuals_refusal(
         degree,
-        field,
-        a,
-        b,
-        times,
-        added,
-        ckeys,
-        cstates,
-        dkeys,
-        dstates,
-        cacckeys,
-        caccs,
-        dacckeys,
-        daccs,
+        model,
+        keys,
+        states,
+        acckeys,
+        accs,
         obstimes,
         obsvalues,
         good,
@@ -416,19 +296,11 @@ pub fn residuals(
     }
     let filled = filling::fill(
         degree,
-        field,
-        a,
-        b,
-        times,
-        added,
-        ckeys,
-        cstates,
-        dkeys,
-        dstates,
-        cacckeys,
-        caccs,
-        dacckeys,
-        daccs,
+        model,
+        keys,
+        states,
+        acckeys,
+        accs,
         obstimes,
         obsvalues,
         good,

@@ -1,28 +1,27 @@
--- The detrended and the passed column, and the ends of the lists that the horizon looks at, from the code's lists to the submission's. Assumes nothing.
+-- The columns that follow from times and raw residuals, and the ends of the lists that the horizon looks at, from the code's lists to the submission's. Assumes nothing.
 use mathlib.Core.Path.{_≡_, refl, sym, ap, _∙_}
 use mathlib.Core.Option.{Option, none, some}
 use Prim.Native.Nat.{ℕ}
 use mathlib.Core.List.{List, [], _∷_, map}
 use lib.Ieee.{Float}
 use lib.ListN.{length-map}
+use Rattle.inputs.specs.Inputs.{Fixed, Lists}
 use Rattle.laws.specs.Times.{end, secondTime}
 use Rattle.finality.specs.Tables.{keyOf}
 use Rattle.finality.specs.Stages.{timeOf}
-use Rattle.finality.specs.Kernels.{stagesOf}
 use Rattle.finality.specs.Sheet.{obsTime, kept, times, detrended, passedValues, countTo, endsOf as submissionEnds}
 use Rattle.finality.specs.Detrending.{Sample, detrend}
 use Rattle.epoch_record.specs.declared.Epoch.{Epoch}
 use Rattle.epoch_record.specs.EpochRecord.{time, residual}
 use Rattle.detrend.specs.Revolutions.{revolvedOf, removedOf}
-use Rattle.detrend.proofs.Split.{samplesOf, removed-split}
+use Rattle.detrend.proofs.SplitAtNodes.{samplesOf, removed-split}
 use Rattle.filter.specs.Filter.{bandPass}
 use Rattle.horizon.specs.Horizon.{endsOf, horizonAnswer, horizonAt}
 use Rattle.horizon.specs.declared.kernel.HorizonNode.{HorizonNode}
 use Rattle.model.specs.Stages.{timed}
 use Rattle.model.proofs.Stages.{timed-times}
-use Rattle.windows.specs.Stage.{Setting, statesIn}
-use Rattle.sheet.specs.Stages.{kernels}
-use Rattle.sheet.specs.Submission.{Lists, submissionOf, valuesIn, observationsIn}
+use Rattle.windows.specs.Stage.{statesIn}
+use Rattle.sheet.specs.Submission.{stages, submissionOf, valuesIn, observationsIn}
 use Rattle.sheet.proofs.Grown.{states-keys, values-keys, observed-times}
 
 -- ---- the last entry of a list is that of its keys or times
@@ -42,28 +41,39 @@ samples-are : (es : List Epoch) → samplesOf (map time es) (map residual es) �
 samples-are [] = refl
 samples-are (e ∷ es) = ap (λ (l : List Sample). (time e, residual e) ∷ l) (samples-are es)
 
-module _ (S : Setting) (l : Lists) where
+module _ (S : Fixed) (l : Lists) where
   abbrev es : List Epoch
-  es = kept (stagesOf (kernels S)) (submissionOf S l)
+  es = kept (stages S) (submissionOf S l)
 
-  pub detrended-is : removedOf (l .nodes) (map time es) (map residual es) ≡ detrended (stagesOf (kernels S)) (submissionOf S l)
+  detrended-is : removedOf (l .tracks .nodes) (map time es) (map residual es) ≡ detrended (stages S) (submissionOf S l)
   detrended-is =
-      removed-split (l .nodes) (map time es) (map residual es) (length-map es time ∙ sym (length-map es residual))
-      ∙ ap (detrend revolvedOf (l .nodes)) (samples-are es)
+      removed-split (l .tracks .nodes) (map time es) (map residual es) (length-map es time ∙ sym (length-map es residual))
+      ∙ ap (detrend revolvedOf (l .tracks .nodes)) (samples-are es)
 
-  pub passed-is : bandPass (map time es) (removedOf (l .nodes) (map time es) (map residual es)) ≡ passedValues (stagesOf (kernels S)) (submissionOf S l)
-  passed-is = ap (bandPass (map time es)) detrended-is
+  -- detrended, and then passed
+  abbrev pub following : List Float → List Float → List (List Float)
+  following ts rs = removedOf (l .tracks .nodes) ts rs ∷ bandPass ts (removedOf (l .tracks .nodes) ts rs) ∷ []
+
+  pub following-are : following (map time es) (map residual es) ≡ detrended (stages S) (submissionOf S l) ∷ passedValues (stages S) (submissionOf S l) ∷ []
+  following-are = ap (λ (d : List Float). d ∷ bandPass (map time es) d ∷ []) detrended-is
 
   -- ---- the ends
 
-  pub ends-are : endsOf (l .keysC) (l .keysD) (l .accKeysC) (l .accKeysD) (l .fieldTimes) (l .times) ≡ submissionEnds (stagesOf (kernels S)) (submissionOf S l)
+  pub ends-are : endsOf (l .tracks .states .c .keys) (l .tracks .states .d .keys) (l .tracks .accs .c .keys) (l .tracks .accs .d .keys) (l .fields .fieldTimes) (l .tracks .observed .obsTimes) ≡
+      submissionEnds (stages S) (submissionOf S l)
   ends-are = λ i. record {
-    statesC = end-is secondTime keyOf (statesIn (l .keysC) (l .statesC)) (l .keysC) (states-keys (l .keysC) (l .statesC)) i;
-    statesD = end-is secondTime keyOf (statesIn (l .keysD) (l .statesD)) (l .keysD) (states-keys (l .keysD) (l .statesD)) i;
-    accC = end-is secondTime keyOf (valuesIn (l .accKeysC) (l .accC)) (l .accKeysC) (values-keys (l .accKeysC) (l .accC)) i;
-    accD = end-is secondTime keyOf (valuesIn (l .accKeysD) (l .accD)) (l .accKeysD) (values-keys (l .accKeysD) (l .accD)) i;
-    fields = end-is (λ (t : Float). t) timeOf (timed (S .degree) (l .fieldTimes) (l .added)) (l .fieldTimes) (timed-times (S .degree) (l .fieldTimes) (l .added)) i;
-    obs = end-is (λ (t : Float). t) obsTime (observationsIn (l .times) (l .values) (l .good)) (l .times) (observed-times (l .times) (l .values) (l .good)) i;
+    statesC = end-is secondTime keyOf (statesIn (l .tracks .states .c .keys) (l .tracks .states .c .values)) (l .tracks .states .c .keys)
+        (states-keys (l .tracks .states .c .keys) (l .tracks .states .c .values)) i;
+    statesD = end-is secondTime keyOf (statesIn (l .tracks .states .d .keys) (l .tracks .states .d .values)) (l .tracks .states .d .keys)
+        (states-keys (l .tracks .states .d .keys) (l .tracks .states .d .values)) i;
+    accC = end-is secondTime keyOf (valuesIn (l .tracks .accs .c .keys) (l .tracks .accs .c .values)) (l .tracks .accs .c .keys) (values-keys (l .tracks .accs .c .keys) (l .tracks .accs .c .values))
+        i;
+    accD = end-is secondTime keyOf (valuesIn (l .tracks .accs .d .keys) (l .tracks .accs .d .values)) (l .tracks .accs .d .keys) (values-keys (l .tracks .accs .d .keys) (l .tracks .accs .d .values))
+        i;
+    fields = end-is (λ (t : Float). t) timeOf (timed (S .degree) (l .fields .fieldTimes) (l .fields .added)) (l .fields .fieldTimes)
+        (timed-times (S .degree) (l .fields .fieldTimes) (l .fields .added)) i;
+    obs = end-is (λ (t : Float). t) obsTime (observationsIn (l .tracks .observed .obsTimes) (l .tracks .observed .values) (l .tracks .observed .good)) (l .tracks .observed .obsTimes)
+        (observed-times (l .tracks .observed .obsTimes) (l .tracks .observed .values) (l .tracks .observed .good)) i;
   }
 
 -- ---- the horizon's answer and back

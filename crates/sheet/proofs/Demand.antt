@@ -1,121 +1,77 @@
--- DEMAND 3 of the call itself. Two calls with one degree, one static field and one pair of Legendre tables are accepted, with k and f, and with k' and f'; each list of the second begins with the
--- whole of the first's. Then `FinalSheet`: the first f entries of each column are the same, f' is not below f, f is the number of kept epochs in runs that end more than 3.0 s before the
--- horizon, and there are so many. And what outputs and scratch held before plays no part (`same-sheet`). Assumes nothing.
-use mathlib.Core.Path.{_≡_, refl, sym, ap, _∙_}
+-- DEMAND 3 of the call itself. Document 01, module 9, of the horizon z: "F counts kept epochs in runs whose last epoch e has z − e > 3.0; without a horizon, as when one of these lists is
+-- empty, F is 0." And: "In demand 3 a submission is accepted when the whole path, called on it, returns no refusal; a list begins with another when it is no shorter and has the same
+-- bits at each of the other's places; degree and static field are equal by bits, and so are any Legendre tables lent to the two calls; the published lists are those of 8. What the lent
+-- outputs and scratch held before makes no difference."
+--
+-- So let two calls with one setting S be accepted, the first with k kept and f final epochs, the second with k' and f', and let each list of the second begin with the whole of the first's.
+-- Then the first f entries of each column are the same, f' is not below f, and f and f' are the F of their calls (`FinalSheet`). What outputs and scratch held before plays no part
+-- (`same-sheet`). Assumes nothing.
+use mathlib.Core.Path.{_≡_, sym, _∙_}
 use mathlib.Core.Option.{Option, none, some}
-use mathlib.Core.Bool.{Bool, true, false}
-use mathlib.Core.List.{List, [], _∷_, map}
-use Prim.Native.Nat.{ℕ, zero, suc, _≤_}
+use mathlib.Core.List.{List, map}
+use Prim.Native.Nat.{ℕ, _≤_}
 use native.Mathlib.Omega.{arith}
 use lib.Ieee.{Float}
-use lib.Ieee.Scale.{finite}
-use lib.ListN.{length, take, length-map}
-use Rattle.laws.specs.Checks.{all}
+use lib.ListN.{take}
+use Rattle.inputs.specs.Inputs.{Fixed, Lists}
 use Rattle.laws.specs.Runs.{runsOf}
-use Rattle.slices.specs.Calls.{handed, settled}
-use Rattle.finality.specs.Kernels.{stagesOf}
-use Rattle.finality.specs.Sheet.{Submission, times, kept, horizon, final, countTo, countRuns}
-use Rattle.finality.proofs.Counts.{count-le}
-use Rattle.windows.specs.Stage.{Setting}
-use Rattle.sheet.specs.Stages.{kernels}
-use Rattle.sheet.specs.Submission.{Lists, submissionOf, ListsGrow}
-use Rattle.sheet.specs.Calls.{sheetRefusal, columnsOf, keptCount, finalCount, sheetCall}
-use Rattle.sheet.specs.declared.SheetAnswer.{SheetAnswer}
-use Rattle.sheet.specs.declared.SheetAnswer.the-variants.{Accepted, Refused}
-use Rattle.sheet.proofs.Accepted.{accepts, passed}
-use Rattle.sheet.proofs.Final.{final-entries, counted, none-counted}
+use Rattle.finality.specs.Sheet.{times, horizon, countRuns}
+use Rattle.sheet.specs.Submission.{stages, submissionOf, ListsGrow}
+use Rattle.sheet.specs.Calls.{columnsOf, keptCount, finalCount, sheetCall}
+use Rattle.sheet.specs.declared.SheetAnswer.the-variants.{Accepted}
+use Rattle.sheet.proofs.Final.{final-entries, counted, none-counted, within-kept}
+use Rattle.sheet.proofs.AcceptedCalls.{Answered, answered}
 
--- ---- an accepted call
+-- the times of the kept epochs, and the horizon
+abbrev pub keptTimes : Fixed → Lists → List Float
+keptTimes S l = times (stages S) (submissionOf S l)
 
-abbrev keptIn : SheetAnswer → ℕ
-keptIn (Accepted k f) = k
-keptIn (Refused n) = 0
+abbrev pub horizonIn : Fixed → Lists → Option Float
+horizonIn S l = horizon (stages S) (submissionOf S l)
 
-abbrev finalIn : SheetAnswer → ℕ
-finalIn (Accepted k f) = f
-finalIn (Refused n) = 0
-
-abbrev accepted : SheetAnswer → ℕ
-accepted (Accepted k f) = 1
-accepted (Refused n) = 0
-
-other : {X : Type 0} (n k f : ℕ) → Refused n ≡ Accepted k f → X
-other n k f h = absurd (let z : _≡_ {A = ℕ} 0 1 = ap accepted h in omega arith)
-
-module _ (a : SheetAnswer) (new outputs : List (List Float)) (scratch : List Float) (k f : ℕ) where
-  handed-only : (b : Bool) → handed a Refused b new outputs scratch .answer ≡ Accepted k f → (a ≡ Accepted k f) × (handed a Refused b new outputs scratch .outputs ≡ new)
-  handed-only true h = (h, refl)
-  handed-only false h = other 10 k f h
-
-  settled-only : (n : ℕ) → settled a Refused n 0 new outputs scratch .answer ≡ Accepted k f → (n ≡ 0) × (a ≡ Accepted k f) × (settled a Refused n 0 new outputs scratch .outputs ≡ new)
-  settled-only zero h = let r = handed-only (all (all finite) new) h in (refl, r .0, r .1)
-  settled-only (suc n) h = other (suc n) k f h
-
-pub record Answered (S : Setting) (l : Lists) (outputs : List (List Float)) (scratch : List Float) (k f : ℕ) : Type 0 where
-  pub tests : sheetRefusal S l outputs (length scratch) ≡ 0
-  pub kept : k ≡ keptCount S l
-  pub final : f ≡ finalCount S l
-  pub columns : sheetCall S l outputs scratch .outputs ≡ columnsOf S l
-
-pub answered : (S : Setting) (l : Lists) (outputs : List (List Float)) (scratch : List Float) (k f : ℕ) → sheetCall S l outputs scratch .answer ≡ Accepted k f → Answered S l outputs scratch k f
-answered S l outputs scratch k f h =
-    let r = settled-only (Accepted (keptCount S l) (finalCount S l)) (columnsOf S l) outputs scratch k f (sheetRefusal S l outputs (length scratch)) h in
-    record { tests = r .0; kept = sym (ap keptIn (r .1)); final = sym (ap finalIn (r .1)); columns = r .2 }
-
--- ---- F of one call
-
-count-to-le : (z : Option Float) (ts : List Float) → countTo z ts ≤ length ts
-count-to-le none ts = omega arith
-count-to-le (some z) ts = count-le z ts
-
-pub record Counted (S : Setting) (l : Lists) (k f : ℕ) : Type 0 where
+-- f of the k kept epochs are final: those in runs that end more than 3.0 s before the horizon
+pub record Counted (S : Fixed) (l : Lists) (k f : ℕ) : Type 0 where
   pub within : f ≤ k
-  pub none-final : horizon (stagesOf (kernels S)) (submissionOf S l) ≡ none → f ≡ 0
-  pub final-runs : (z : Float) → horizon (stagesOf (kernels S)) (submissionOf S l) ≡ some z →
-      f ≡ countRuns z (runsOf (times (stagesOf (kernels S)) (submissionOf S l))) (times (stagesOf (kernels S)) (submissionOf S l))
+  pub none-final : horizonIn S l ≡ none → f ≡ 0
+  pub final-runs : (z : Float) → horizonIn S l ≡ some z → f ≡ countRuns z (runsOf (keptTimes S l)) (keptTimes S l)
 
-pub counts : (S : Setting) (l : Lists) (outputs : List (List Float)) (scratch : List Float) (k f : ℕ) → sheetCall S l outputs scratch .answer ≡ Accepted k f → Counted S l k f
-unfolding keptCount finalCount
-counts S l outputs scratch k f h =
-    let a = answered S l outputs scratch k f h in
-    let s : Submission (stagesOf (kernels S)) = submissionOf S l in
-    record {
-      within = omega (arith, a .kept, a .final, count-to-le (horizon (stagesOf (kernels S)) s) (times (stagesOf (kernels S)) s), length-map (kept (stagesOf (kernels S)) s) (kernels S .time));
-      none-final = λ e. a .final ∙ none-counted S l e;
-      final-runs = λ z e. a .final ∙ counted S l z e;
-    }
-
--- ---- of two calls
-
-pub record FinalSheet (S : Setting) (l l' : Lists) (outputs outputs' : List (List Float)) (scratch scratch' : List Float) (k f k' f' : ℕ) : Type 0 where
-  pub same-entries : map (take f) (sheetCall S l outputs scratch .outputs) ≡ map (take f) (sheetCall S l' outputs' scratch' .outputs)
+-- the first f entries of each column are the same, and f never falls
+pub record FinalSheet (S : Fixed) (l l' : Lists) (columns columns' : List (List Float)) (k f k' f' : ℕ) : Type 0 where
+  pub same-entries : map (take f) columns ≡ map (take f) columns'
   pub never-falls : f ≤ f'
   pub first : Counted S l k f
   pub second : Counted S l' k' f'
 
-pub final-sheet : (S : Setting) (l l' : Lists) (outputs outputs' : List (List Float)) (scratch scratch' : List Float) (k f k' f' : ℕ) →
-    sheetCall S l outputs scratch .answer ≡ Accepted k f → sheetCall S l' outputs' scratch' .answer ≡ Accepted k' f' → ListsGrow l l' →
-    FinalSheet S l l' outputs outputs' scratch scratch' k f k' f'
+counts : (S : Fixed) (l : Lists) (outputs : List (List Float)) (scratch : List Float) (k f : ℕ) → Answered S l outputs scratch k f → Counted S l k f
+unfolding keptCount finalCount
+counts S l outputs scratch k f a =
+    record {
+      within = omega (arith, a .kept, a .final, within-kept S l);
+      none-final = λ e. a .final ∙ none-counted S l e;
+      final-runs = λ z e. a .final ∙ counted S l z e;
+    }
+
+pub final-sheet : (S : Fixed) (l l' : Lists) (outputs outputs' : List (List Float)) (scratch scratch' : List Float) (k f k' f' : ℕ) →
+    sheetCall S l outputs scratch .answer ≡ Accepted k f →
+    sheetCall S l' outputs' scratch' .answer ≡ Accepted k' f' →
+    ListsGrow l l' →
+    FinalSheet S l l' (sheetCall S l outputs scratch .outputs) (sheetCall S l' outputs' scratch' .outputs) k f k' f'
 unfolding columnsOf finalCount
 final-sheet S l l' outputs outputs' scratch scratch' k f k' f' h h' g =
     let a = answered S l outputs scratch k f h in
     let a' = answered S l' outputs' scratch' k' f' h' in
-    let p = passed S l outputs (length scratch) (accepts S l outputs (length scratch) (a .tests)) in
-    let p' = passed S l' outputs' (length scratch') (accepts S l' outputs' (length scratch') (a' .tests)) in
-    let e = final-entries S l l' p p' g in
+    let e = final-entries S l l' (a .tests) (a' .tests) g in
     record {
-      same-entries =
-          (λ i. map (take (a .final i)) (a .columns i))
-          ∙ (λ i. e .same-times i ∷ e .same-raws i ∷ e .same-detrended i ∷ e .same-passed i ∷ [])
-          ∙ (λ i. map (take (sym (a .final) i)) (sym (a' .columns) i));
+      same-entries = (λ i. map (take (a .final i)) (a .columns i)) ∙ e .same-entries ∙ (λ i. map (take (sym (a .final) i)) (sym (a' .columns) i));
       never-falls = omega (arith, a .final, a' .final, e .count-never-falls);
-      first = counts S l outputs scratch k f h;
-      second = counts S l' outputs' scratch' k' f' h';
+      first = counts S l outputs scratch k f a;
+      second = counts S l' outputs' scratch' k' f' a';
     }
 
--- ---- what outputs and scratch held before
-pub same-sheet : (S : Setting) (l : Lists) (outputs outputs' : List (List Float)) (scratch scratch' : List Float) (k f k' f' : ℕ) →
-    sheetCall S l outputs scratch .answer ≡ Accepted k f → sheetCall S l outputs' scratch' .answer ≡ Accepted k' f' →
+-- what outputs and scratch held before
+pub same-sheet : (S : Fixed) (l : Lists) (outputs outputs' : List (List Float)) (scratch scratch' : List Float) (k f k' f' : ℕ) →
+    sheetCall S l outputs scratch .answer ≡ Accepted k f →
+    sheetCall S l outputs' scratch' .answer ≡ Accepted k' f' →
     (k ≡ k') × (f ≡ f') × (sheetCall S l outputs scratch .outputs ≡ sheetCall S l outputs' scratch' .outputs)
 same-sheet S l outputs outputs' scratch scratch' k f k' f' h h' =
     let a = answered S l outputs scratch k f h in

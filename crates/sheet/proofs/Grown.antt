@@ -6,9 +6,10 @@ use Prim.Native.Nat.{ℕ, _+_, _*_, _≤_}
 use native.Mathlib.Omega.{arith}
 use lib.Dec.{eqb}
 use lib.IntN.{ℤ}
-use lib.ListN.{length, take, drop, take-append-drop}
+use lib.ListN.{length, take, drop, length-map}
 use lib.Seq.{take-at, drop-append-le}
 use lib.Ieee.{Float}
+use Rattle.finality.proofs.Begins.{glue}
 use Rattle.finality.specs.Tables.{Table, keyOf}
 use Rattle.finality.specs.Sheet.{Observation, obsTime, Begins}
 use Rattle.integrate.specs.Room.{stateIn}
@@ -32,6 +33,9 @@ pub observed-times : (ts vs : List Float) (gs : List ℕ) → map obsTime (obser
 unfolding observationsIn
 observed-times [] vs gs = refl
 observed-times (t ∷ ts) vs gs = ap (λ (l : List Float). t ∷ l) (observed-times ts (drop 1 vs) (drop 1 gs))
+
+pub observed-count : (ts vs : List Float) (gs : List ℕ) → length (observationsIn ts vs gs) ≡ length ts
+observed-count ts vs gs = sym (length-map (observationsIn ts vs gs) obsTime) ∙ ap length (observed-times ts vs gs)
 
 -- ---- appended lists
 
@@ -74,25 +78,22 @@ observed-append (t ∷ ts) us (v ∷ vs) ws (b ∷ gs) hs h g =
 
 -- ---- a list that begins with another is that list and more
 
-pub more : {A : Type 0} (xs ys : List A) → Begins xs ys → xs ++ drop (length xs) ys ≡ ys
-more {A = A} xs ys h = ap (λ (l : List A). l ++ drop (length xs) ys) (sym h) ∙ take-append-drop (length xs) ys
-
 pub begins-of : {A : Type 0} (xs ys zs : List A) → zs ≡ xs ++ ys → Begins xs zs
 begins-of xs ys zs e = ap (take (length xs)) e ∙ take-at xs ys (length xs) refl
 
 pub states-begin : (ks ks' : List ℤ) (xs xs' : List Float) → length xs ≡ 6 * length ks → Begins ks ks' → Begins xs xs' → Begins (statesIn ks xs) (statesIn ks' xs')
 states-begin ks ks' xs xs' h a b =
     begins-of (statesIn ks xs) (statesIn (drop (length ks) ks') (drop (length xs) xs')) (statesIn ks' xs')
-    ((λ i. statesIn (sym (more ks ks' a) i) (sym (more xs xs' b) i)) ∙ states-append ks (drop (length ks) ks') xs (drop (length xs) xs') h)
+    ((λ i. statesIn (sym (glue ks ks' a) i) (sym (glue xs xs' b) i)) ∙ states-append ks (drop (length ks) ks') xs (drop (length xs) xs') h)
 
 pub values-begin : (ks ks' : List ℤ) (xs xs' : List Float) → length xs ≡ length ks → Begins ks ks' → Begins xs xs' → Begins (valuesIn ks xs) (valuesIn ks' xs')
 values-begin ks ks' xs xs' h a b =
     begins-of (valuesIn ks xs) (valuesIn (drop (length ks) ks') (drop (length xs) xs')) (valuesIn ks' xs')
-    ((λ i. valuesIn (sym (more ks ks' a) i) (sym (more xs xs' b) i)) ∙ values-append ks (drop (length ks) ks') xs (drop (length xs) xs') h)
+    ((λ i. valuesIn (sym (glue ks ks' a) i) (sym (glue xs xs' b) i)) ∙ values-append ks (drop (length ks) ks') xs (drop (length xs) xs') h)
 
 pub observed-begin : (ts ts' vs vs' : List Float) (gs gs' : List ℕ) → length vs ≡ length ts → length gs ≡ length ts → Begins ts ts' → Begins vs vs' → Begins gs gs' →
     Begins (observationsIn ts vs gs) (observationsIn ts' vs' gs')
 observed-begin ts ts' vs vs' gs gs' h g a b c =
     begins-of (observationsIn ts vs gs) (observationsIn (drop (length ts) ts') (drop (length vs) vs') (drop (length gs) gs')) (observationsIn ts' vs' gs')
-    ((λ i. observationsIn (sym (more ts ts' a) i) (sym (more vs vs' b) i) (sym (more gs gs' c) i))
+    ((λ i. observationsIn (sym (glue ts ts' a) i) (sym (glue vs vs' b) i) (sym (glue gs gs' c) i))
     ∙ observed-append ts (drop (length ts) ts') vs (drop (length vs) vs') gs (drop (length gs) gs') h g)

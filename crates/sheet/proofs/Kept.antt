@@ -13,23 +13,22 @@ use lib.ListN.{length, drop, getD}
 use lib.Seq.{drop-drop, getD-drop}
 use lib.Ieee.{Float, nan}
 use borrow.Author.Tests.{eqb-true, eqb-false, lt-ltb, le-ltb}
+use Rattle.inputs.specs.Inputs.{keyed, Fixed, Lists, modelIn}
 use Rattle.laws.specs.Lists.{All, all-map}
 use Rattle.laws.specs.Times.{Time}
 use Rattle.laws.specs.Bools.{by}
 use Rattle.numbers.proofs.Seconds.{second-of-time}
 use Rattle.finality.specs.Tables.{find}
 use Rattle.finality.specs.Kernels.{stagesOf}
-use Rattle.finality.specs.Sheet.{Observation, Submission, Valid, fieldIn, fitted, whereFound, epochOf, kept, keptOf}
+use Rattle.finality.specs.Sheet.{Observation, Submission, Valid, fieldIn, fitted, whereFound, epochFrom, epochOf, kept, keptOf}
 use Rattle.finality.proofs.Keeping.{kept-same}
-use Rattle.integrate.specs.Force.{model}
 use Rattle.integrate.specs.declared.kernel.State.{State}
 use Rattle.epoch_record.specs.declared.Epoch.{Epoch}
-use Rattle.windows.specs.Stage.{Setting, fieldGravity}
-use Rattle.windows.proofs.Meaning.{front-is}
+use Rattle.windows.proofs.Meaning.{gravity-is}
 use Rattle.epoch.specs.Epoch.{epochWith}
-use Rattle.epoch.specs.Kept.{keyed, rowsFrom, numbers, recordAt, seenBy, epochBy, observations}
-use Rattle.sheet.specs.Stages.{epochStage, kernels}
-use Rattle.sheet.specs.Submission.{Lists, submissionOf, valuesIn, observationsIn}
+use Rattle.epoch.specs.Kept.{rowsFrom, numbers, recordAt, seenBy, epochBy, observations}
+use Rattle.sheet.specs.Stages.{epochUnder, epochStage, kernels}
+use Rattle.sheet.specs.Submission.{submissionOf, valuesIn, observationsIn}
 use Rattle.sheet.proofs.Orbits.{ModelFits, field-is, covered-is}
 
 -- ---- lists of the call as the submission's
@@ -68,22 +67,21 @@ keep-same f g P os h a = kept-same f g os (all-map P (λ (o : Observation). f o 
 
 -- ---- one epoch
 
-module _ (S : Setting) (l : Lists) (few : 2 ≤ length (l .fieldTimes)) (fits : ModelFits S l) where
+module _ (S : Fixed) (l : Lists) (few : 2 ≤ length (l .fields .fieldTimes)) (fits : ModelFits S l) where
   abbrev sub : Submission (stagesOf (kernels S))
   sub = submissionOf S l
 
   record-is : (t v : Float) (c d : State) (p q : Float) →
-      recordAt (model (S .degree) (S .static) (l .fieldTimes) (l .added)) (S .a) (S .b) t v c d p q ≡ epochStage S t v (fieldIn (stagesOf (kernels S)) sub t) c d p q
-  unfolding recordAt epochStage fieldGravity
+      recordAt (modelIn S l) t v c d p q ≡ epochStage S t v (fieldIn (stagesOf (kernels S)) sub t) c d p q
+  unfolding recordAt epochUnder
   record-is t v c d p q =
-      (λ i. epochWith (λ x. Rattle.forces.specs.Forces.gravityWith (S .degree) (Rattle.model.specs.Field.gm (S .static)) (Rattle.model.specs.Field.radius (S .static)) (S .a) (S .b)
-      (front-is (S .degree) (S .static) (l .fieldTimes) (l .added) t fits i) x) t v (c .position) (c .velocity) (d .position) (d .velocity) p q)
+      (λ i. epochWith (λ x. gravity-is (modelIn S l) fits t x i) t v (c .position) (c .velocity) (d .position) (d .velocity) p q)
       ∙ (λ i. epochStage S t v (field-is S l few t i) c d p q)
 
   epoch-is : (o : Observation) → Time (o .at) →
-      epochBy (model (S .degree) (S .static) (l .fieldTimes) (l .added)) (S .a) (S .b) (fitted (stagesOf (kernels S)) sub (sub .statesC)) (fitted (stagesOf (kernels S)) sub (sub .statesD))
+      epochBy (modelIn S l) (fitted (stagesOf (kernels S)) sub (sub .statesC)) (fitted (stagesOf (kernels S)) sub (sub .statesD))
       (sub .accC) (sub .accD) o ≡ epochOf (stagesOf (kernels S)) sub o
-  unfolding epochBy seenBy epochOf
+  unfolding epochBy seenBy epochFrom
   epoch-is o h =
       let k = second-of-time (o .at) h in
       (λ i. cond (o .good && covered-is S l few (o .at) i)
@@ -91,11 +89,13 @@ module _ (S : Setting) (l : Lists) (few : 2 ≤ length (l .fieldTimes)) (fits : 
       (find (k i) (sub .accC)) (find (k i) (sub .accD))) none)
 
   -- all of them
-  pub kept-is : Valid (stagesOf (kernels S)) sub → length (l .values) ≡ length (l .times) → length (l .good) ≡ length (l .times) →
-      keptOf (epochBy (model (S .degree) (S .static) (l .fieldTimes) (l .added)) (S .a) (S .b) (fitted (stagesOf (kernels S)) sub (sub .statesC)) (fitted (stagesOf (kernels S)) sub (sub .statesD))
-      (numbers (keyed (l .accKeysC) (l .accC))) (numbers (keyed (l .accKeysD) (l .accD)))) (observations (l .times) (l .values) (l .good))
+  pub kept-is : Valid (stagesOf (kernels S)) sub → length (l .tracks .observed .values) ≡ length (l .tracks .observed .obsTimes)
+      → length (l .tracks .observed .good) ≡ length (l .tracks .observed .obsTimes) →
+      keptOf (epochBy (modelIn S l) (fitted (stagesOf (kernels S)) sub (sub .statesC)) (fitted (stagesOf (kernels S)) sub (sub .statesD))
+      (numbers (l .tracks .accs .c)) (numbers (l .tracks .accs .d))) (observations (l .tracks .observed .obsTimes) (l .tracks .observed .values) (l .tracks .observed .good))
       ≡ kept (stagesOf (kernels S)) sub
   kept-is v hv hg =
-      (λ i. keptOf (epochBy (model (S .degree) (S .static) (l .fieldTimes) (l .added)) (S .a) (S .b) (fitted (stagesOf (kernels S)) sub (sub .statesC)) (fitted (stagesOf (kernels S)) sub (sub .statesD))
-      (values-are (l .accKeysC) (l .accC) i) (values-are (l .accKeysD) (l .accD) i)) (observations-are (l .times) (l .values) (l .good) hv hg i))
+      (λ i. keptOf (epochBy (modelIn S l) (fitted (stagesOf (kernels S)) sub (sub .statesC)) (fitted (stagesOf (kernels S)) sub (sub .statesD))
+      (values-are (l .tracks .accs .c .keys) (l .tracks .accs .c .values) i) (values-are (l .tracks .accs .d .keys) (l .tracks .accs .d .values) i))
+      (observations-are (l .tracks .observed .obsTimes) (l .tracks .observed .values) (l .tracks .observed .good) hv hg i))
       ∙ keep-same _ _ (λ (o : Observation). Time (o .at)) (sub .obs) epoch-is (v .obs-times)

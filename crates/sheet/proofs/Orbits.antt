@@ -13,9 +13,8 @@ use lib.ListN.{length, getD}
 use mathlib.Core.List.{append-assoc, append-nil}
 use lib.Ieee.{Float, nan, le, lt, ofInt}
 use lib.Ieee.Fits.{and-i}
-use lib.ListN.{replicate}
-use Rattle.inputs.specs.Inputs.{frontSize}
-use Rattle.laws.specs.Floats.{zero64, zero⁺}
+use Rattle.inputs.specs.Inputs.{Fixed, Lists, modelIn}
+use Rattle.laws.specs.Floats.{zero⁺}
 use Rattle.laws.specs.Lists.{All}
 use Rattle.laws.specs.Order.{lt-le-tr}
 use Rattle.laws.specs.Checks.{isKey}
@@ -25,34 +24,33 @@ use Rattle.finality.specs.Brackets.{covers}
 use Rattle.finality.specs.Arcs.{windowOf}
 use Rattle.finality.specs.Kernels.{stagesOf}
 use Rattle.finality.specs.Sheet.{orbits, coveredIn, fieldIn}
-use Rattle.finality.proofs.Fits.{starts, ends, rises, leaves}
-use Rattle.legendre.specs.Prepared.{prepared}
+use Rattle.finality.proofs.ArcFits.{starts, ends, rises, leaves}
 use Rattle.model.specs.Model.{fieldAt}
-use Rattle.model.specs.Calls.{atFits}
 use Rattle.model.proofs.Stages.{timed-times, field-bracketed}
-use Rattle.integrate.specs.Force.{model, fullForce}
+use Rattle.integrate.specs.Force.{fullForce}
+use Rattle.integrate.proofs.Published.{Sized}
 use Rattle.integrate.specs.declared.kernel.State.{State}
 use Rattle.fit.specs.Fit.{stateFor}
-use Rattle.windows.specs.Stage.{Setting, fitStage, statesIn}
+use Rattle.windows.specs.Stage.{fitStage, statesIn}
 use Rattle.windows.specs.Windows.{windowBy, Ends}
 use Rattle.windows.proofs.Lawful.{lawful-fit}
 use Rattle.windows.proofs.StageWindows.{window-is}
 use Rattle.slots.specs.LookUp.{joined, Orderly}
 use Rattle.sheet.specs.Stages.{kernels}
-use Rattle.sheet.specs.Submission.{Lists, submissionOf}
+use Rattle.sheet.specs.Submission.{submissionOf}
 
 -- ---- the model
 
--- the lengths of a setting and of a submission's fields fit, as the model's kernel tests them
-abbrev pub ModelFits : Setting → Lists → Type 0
-ModelFits S l = atFits (S .degree) (length (S .static)) (length (l .fieldTimes)) (length (l .added)) (length (prepared (S .degree) (replicate (frontSize (S .degree)) zero64))) ≡ true
+-- the lengths of a setting and of a submission's fields are those of an accepted model
+abbrev pub ModelFits : Fixed → Lists → Type 0
+ModelFits S l = Sized (modelIn S l)
 
-module _ (S : Setting) (l : Lists) (few : 2 ≤ length (l .fieldTimes)) where
-  pub field-is : (t : Float) → fieldAt (S .degree) (S .static) (l .fieldTimes) (l .added) t ≡ fieldIn (stagesOf (kernels S)) (submissionOf S l) t
-  field-is t = field-bracketed (S .degree) [] (S .static) (l .fieldTimes) (l .added) t few
+module _ (S : Fixed) (l : Lists) (few : 2 ≤ length (l .fields .fieldTimes)) where
+  pub field-is : (t : Float) → fieldAt (modelIn S l) t ≡ fieldIn (stagesOf (kernels S)) (submissionOf S l) t
+  field-is t = field-bracketed (S .degree) [] (S .static) (S .a) (S .b) (l .fields .fieldTimes) (l .fields .added) t few
 
-  pub covered-is : (t : Float) → covers (l .fieldTimes) t ≡ coveredIn (stagesOf (kernels S)) (submissionOf S l) t
-  covered-is t = ap (λ (ts : List Float). covers ts t) (sym (timed-times (S .degree) (l .fieldTimes) (l .added)))
+  pub covered-is : (t : Float) → covers (l .fields .fieldTimes) t ≡ coveredIn (stagesOf (kernels S)) (submissionOf S l) t
+  covered-is t = ap (λ (ts : List Float). covers ts t) (sym (timed-times (S .degree) (l .fields .fieldTimes) (l .fields .added)))
 
   -- ---- one window
 
@@ -60,9 +58,9 @@ module _ (S : Setting) (l : Lists) (few : 2 ≤ length (l .fieldTimes)) where
   windowIn keys states = windowOf (fitStage S) (coveredIn (stagesOf (kernels S)) (submissionOf S l)) (fieldIn (stagesOf (kernels S)) (submissionOf S l)) (λ (k : ℤ). find k (statesIn keys states))
 
   pub fitted-window : ModelFits S l → (keys : List ℤ) (states : List Float) (a b : Float) → Ends a b →
-      windowBy (covers (l .fieldTimes)) (fullForce (model (S .degree) (S .static) (l .fieldTimes) (l .added)) (S .a) (S .b)) (stateFor keys states) a b ≡ windowIn keys states a b
+      windowBy (covers (l .fields .fieldTimes)) (fullForce (modelIn S l)) (stateFor keys states) a b ≡ windowIn keys states a b
   fitted-window fits keys states a b e =
-      window-is (S .degree) (S .static) (S .a) (S .b) (l .fieldTimes) (l .added) keys states fits a b e
+      window-is (modelIn S l) keys states fits a b e
       ∙ (λ i. windowOf (fitStage S) (λ t. covered-is t i) (λ t. field-is t i) (λ (k : ℤ). find k (statesIn keys states)) a b)
 
 -- ---- all windows end to end
@@ -72,7 +70,7 @@ unfolding joined
 joined-front tables zero = sym (append-nil (tables 0))
 joined-front {X} tables (suc n) = ap (λ (t : Table X). t ++ tables (suc n)) (joined-front tables n) ∙ append-assoc (tables 0) (joined (λ (w : ℕ). tables (suc w)) n) (tables (suc n))
 
-module _ (S : Setting) (c : Float → Bool) (m : Float → List Float) (g : ℤ → Option State) where
+module _ (S : Fixed) (c : Float → Bool) (m : Float → List Float) (g : ℤ → Option State) where
   -- window w of a list of nodes
   abbrev pub windowAt : List Float → ℕ → Table State
   windowAt nodes w = windowOf (fitStage S) c m g (getD nodes w nan) (getD nodes (w + 1) nan)
@@ -123,7 +121,7 @@ both : {X : Type 0} (P Q R : X → Type 0) (xs : List X) → ((x : X) → P x �
 both P Q R [] f p q = tt
 both P Q R (x ∷ xs) f p q = (f x (p .0) (q .0), both P Q R xs f (p .1) (q .1))
 
-pub window-orderly : (S : Setting) (c : Float → Bool) (m : Float → List Float) (g : ℤ → Option State) (a b : Float) → Ends a b → Orderly (windowOf (fitStage S) c m g a b)
+pub window-orderly : (S : Fixed) (c : Float → Bool) (m : Float → List Float) (g : ℤ → Option State) (a b : Float) → Ends a b → Orderly (windowOf (fitStage S) c m g a b)
 window-orderly S c m g a b e = record {
   few = leaves (fitStage S) (lawful-fit S) a b (e .from) (e .to) (e .order) c m g;
   rises = rises (fitStage S) (lawful-fit S) a b (e .from) (e .to) (e .order) c m g;

@@ -3,7 +3,7 @@ use mathlib.Core.Path.{_≡_}
 use Prim.Native.Nat.{ℕ}
 use mathlib.Core.Bool.{Bool, _&&_}
 use mathlib.Core.Option.{Option, none, some}
-use mathlib.Core.List.{List, [], _∷_}
+use mathlib.Core.List.{List}
 use lib.Dec.{leb, eqb}
 use lib.IntN.{ℤ}
 use lib.Ieee.{Float}
@@ -11,12 +11,11 @@ use lib.Ieee.Scale.{finite}
 use lib.ListN.{length}
 use Rattle.laws.specs.Checks.{all, isTime, rising, degreeFine}
 use Rattle.slices.specs.Calls.{Left, settled}
-use Rattle.finality.specs.Kernels.{stagesOf}
 use Rattle.finality.specs.Sheet.{sheet, kept, final}
-use Rattle.inputs.specs.Inputs.{firstOf, countsFine, modelFits, tablesFit, wholeScratchFits, modelFine, keyedFine, rise}
-use Rattle.windows.specs.Stage.{Setting}
-use Rattle.sheet.specs.Stages.{kernels}
-use Rattle.sheet.specs.Submission.{Lists, submissionOf}
+use Rattle.inputs.specs.Inputs.{Fixed, Lists, firstOf, inputsIn, inputsCounted, inputsFit, inputsFine, inputsRise, wholeScratchFits}
+use Rattle.vectors.specs.declared.Vector.{Vector}
+use Rattle.windows.specs.Stage.{fieldGravity}
+use Rattle.sheet.specs.Submission.{stagesBy, submissionBy}
 use Rattle.sheet.specs.declared.SheetAnswer.{SheetAnswer}
 use Rattle.sheet.specs.declared.SheetAnswer.the-variants.{Accepted, Refused}
 
@@ -32,83 +31,66 @@ sheetValues (Refused n) = none
 
 -- ---- which refusal: 2, 3, 4 and 5 of all lists
 
--- of fields, of states and accelerometer values of C and D, of nodes, of observations
-unfoldable pub countsAllowed : ℕ → ℕ → ℕ → ℕ → ℕ → ℕ → ℕ → Bool
-countsAllowed fields c d accC accD nodes observations = countsFine fields c d accC accD && (leb nodes 64 && leb observations 100000)
+unfoldable pub listsCounted : Fixed → Lists → Bool
+listsCounted F l = inputsCounted (inputsIn F l) && (leb (length (l .tracks .nodes)) 64 && leb (length (l .tracks .observed .obsTimes)) 100000)
 
 -- a value and a byte for each observation, and the outputs as long, as `outputs` says
-unfoldable pub lengthsAgree : Setting → Lists → Bool → ℕ → Bool
-lengthsAgree S l outputs room =
-    (modelFits (S .degree) (length (l .fieldTimes)) (length (S .static)) (length (l .added)) (length (S .a)) (length (S .b))
-    && tablesFit (length (l .keysC)) (length (l .statesC)) (length (l .keysD)) (length (l .statesD)) (length (l .accKeysC)) (length (l .accC)) (length (l .accKeysD)) (length (l .accD)))
-    && (((eqb (length (l .values)) (length (l .times)) && eqb (length (l .good)) (length (l .times))) && outputs)
-    && wholeScratchFits (S .degree) (length (l .fieldTimes)) (length (l .nodes)) (length (l .times)) room)
+unfoldable pub listsFit : Fixed → Lists → Bool → ℕ → Bool
+listsFit F l outputs room =
+    let obs = l .tracks .observed in
+    let m = length (obs .obsTimes) in
+    inputsFit (inputsIn F l)
+    && (((eqb (length (obs .values)) m && eqb (length (obs .good)) m) && outputs)
+    && wholeScratchFits (F .degree) (length (l .fields .fieldTimes)) (length (l .tracks .nodes)) m room)
 
-unfoldable pub numbersFine : Setting → Lists → Bool
-numbersFine S l =
-    (modelFine (S .static) (S .a) (S .b) (l .fieldTimes) (l .added)
-    && ((keyedFine (l .keysC) (l .statesC) && keyedFine (l .keysD) (l .statesD)) && (keyedFine (l .accKeysC) (l .accC) && keyedFine (l .accKeysD) (l .accD))))
-    && (all isTime (l .nodes) && (all isTime (l .times) && all finite (l .values)))
+unfoldable pub listsFine : Fixed → Lists → Bool
+listsFine F l =
+    inputsFine (inputsIn F l)
+    && (all isTime (l .tracks .nodes) && (all isTime (l .tracks .observed .obsTimes) && all finite (l .tracks .observed .values)))
 
--- times of fields, keys of C and D and of their accelerometer values, nodes, times of observations
-unfoldable pub listsRise : List Float → List ℤ → List ℤ → List ℤ → List ℤ → List Float → List Float → Bool
-listsRise fields keysC keysD accKeysC accKeysD nodes times = rise fields keysC keysD accKeysC accKeysD && (rising nodes && rising times)
+unfoldable pub listsRise : Fixed → Lists → Bool
+listsRise F l = inputsRise (inputsIn F l) && (rising (l .tracks .nodes) && rising (l .tracks .observed .obsTimes))
 
-unfoldable pub refusalOf : Setting → Lists → Bool → ℕ → ℕ
-refusalOf S l outputs room =
-    firstOf (degreeFine (S .degree))
-    (countsAllowed (length (l .fieldTimes)) (length (l .keysC)) (length (l .keysD)) (length (l .accKeysC)) (length (l .accKeysD)) (length (l .nodes)) (length (l .times)))
-    (lengthsAgree S l outputs room) (numbersFine S l)
-    (listsRise (l .fieldTimes) (l .keysC) (l .keysD) (l .accKeysC) (l .accKeysD) (l .nodes) (l .times))
+unfoldable pub refusalOf : Fixed → Lists → Bool → ℕ → ℕ
+refusalOf F l outputs room =
+    firstOf (degreeFine (F .degree)) (listsCounted F l) (listsFit F l outputs room) (listsFine F l) (listsRise F l) 0
 
 -- a place for each observation in each output
 abbrev pub placesFit : Lists → List (List Float) → Bool
-placesFit l outputs = all (λ (o : List Float). eqb (length o) (length (l .times))) outputs
+placesFit l outputs = all (λ (o : List Float). eqb (length o) (length (l .tracks .observed .obsTimes))) outputs
 
-abbrev pub sheetRefusal : Setting → Lists → List (List Float) → ℕ → ℕ
+abbrev pub sheetRefusal : Fixed → Lists → List (List Float) → ℕ → ℕ
 sheetRefusal S l outputs room = refusalOf S l (placesFit l outputs) room
 
 -- ---- what is published: for each kept epoch its time, raw residual, detrended residual and passed value, +0.0 after the last
 
-unfoldable pub columnsOf : Setting → Lists → List (List Float)
-columnsOf S l =
-    let columns = sheet (stagesOf (kernels S)) (submissionOf S l) in
-    columns .time ∷ columns .raw ∷ columns .detrended ∷ columns .passed ∷ []
+-- with a field's gravity
+abbrev pub columnsBy : (List Float → Vector → Vector) → Fixed → Lists → List (List Float)
+columnsBy gravity S l = sheet (stagesBy gravity S) (submissionBy gravity S l)
+
+unfoldable pub columnsOf : Fixed → Lists → List (List Float)
+columnsOf S l = columnsBy (fieldGravity S) S l
 
 -- how many epochs are kept, and how many of them are final
-unfoldable pub keptCount : Setting → Lists → ℕ
-keptCount S l = length (kept (stagesOf (kernels S)) (submissionOf S l))
+abbrev pub keptBy : (List Float → Vector → Vector) → Fixed → Lists → ℕ
+keptBy gravity S l = length (kept (stagesBy gravity S) (submissionBy gravity S l))
 
-unfoldable pub finalCount : Setting → Lists → ℕ
-finalCount S l = final (stagesOf (kernels S)) (submissionOf S l)
+unfoldable pub keptCount : Fixed → Lists → ℕ
+keptCount S l = keptBy (fieldGravity S) S l
 
--- ---- the arguments of the call
+abbrev pub finalBy : (List Float → Vector → Vector) → Fixed → Lists → ℕ
+finalBy gravity S l = final (stagesBy gravity S) (submissionBy gravity S l)
 
-abbrev pub lists : List Float → List Float → List ℤ → List Float → List ℤ → List Float → List ℤ → List Float → List ℤ → List Float → List Float → List Float → List Float → List ℕ → Lists
-lists fieldTimes added keysC statesC keysD statesD accKeysC accC accKeysD accD nodes times values good = record {
-  fieldTimes = fieldTimes;
-  added = added;
-  keysC = keysC;
-  statesC = statesC;
-  keysD = keysD;
-  statesD = statesD;
-  accKeysC = accKeysC;
-  accC = accC;
-  accKeysD = accKeysD;
-  accD = accD;
-  nodes = nodes;
-  times = times;
-  values = values;
-  good = good;
-}
+unfoldable pub finalCount : Fixed → Lists → ℕ
+finalCount S l = finalBy (fieldGravity S) S l
 
 -- ---- what the work leaves: all epochs that are kept, and the columns
-pub record Worked (S : Setting) (l : Lists) (kept : ℕ) (columns : List (List Float)) (s s' : List Float) : Type 0 where
+pub record Worked (S : Fixed) (l : Lists) (kept : ℕ) (columns : List (List Float)) (s s' : List Float) : Type 0 where
   pub count : kept ≡ keptCount S l
   pub columns-are : columns ≡ columnsOf S l
   pub long : length s' ≡ length s
 
--- ---- the call; its outputs are the four columns, in this order
-abbrev pub sheetCall : Setting → Lists → List (List Float) → List Float → Left SheetAnswer
+-- ---- the call; its outputs are the columns, in this order
+abbrev pub sheetCall : Fixed → Lists → List (List Float) → List Float → Left SheetAnswer
 sheetCall S l outputs scratch =
     settled (Accepted (keptCount S l) (finalCount S l)) Refused (sheetRefusal S l outputs (length scratch)) 0 (columnsOf S l) outputs scratch

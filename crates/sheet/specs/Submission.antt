@@ -1,5 +1,5 @@
--- A submission, from the lists that a call is lent: keys beside six numbers a state, keys beside accelerometer values, field times beside the fields end to end, and
--- observations as times, values and bytes that are 0 when not good. Assumes nothing.
+-- A submission, from the lists that a call is lent: keys beside six numbers a state, keys beside accelerometer values, field times beside the fields
+-- end to end, and observations as times, values and bytes that are 0 when not good. Assumes nothing.
 use mathlib.Core.Path.{_≡_}
 use Prim.Native.Nat.{ℕ, _*_, _<_}
 use mathlib.Core.Bool.{not}
@@ -8,14 +8,16 @@ use lib.Dec.{T, eqb}
 use lib.IntN.{ℤ}
 use lib.ListN.{length, drop, getD}
 use lib.Ieee.{Float, nan}
-use Rattle.inputs.specs.Inputs.{fieldSize}
+use Rattle.inputs.specs.Inputs.{Fixed, Lists, fieldSize}
 use Rattle.finality.specs.Tables.{Table}
+use Rattle.finality.specs.Stages.{Stages}
 use Rattle.finality.specs.Kernels.{stagesOf}
 use Rattle.finality.specs.Sheet.{Observation, Submission, Begins}
 use Rattle.laws.specs.Checks.{all, isTime, rising, risingSeconds}
 use Rattle.model.specs.Stages.{timed}
-use Rattle.windows.specs.Stage.{Setting, statesIn}
-use Rattle.sheet.specs.Stages.{kernels}
+use Rattle.vectors.specs.declared.Vector.{Vector}
+use Rattle.windows.specs.Stage.{fieldGravity, statesIn}
+use Rattle.sheet.specs.Stages.{kernelsBy, kernels}
 
 -- keys, each with its value
 unfoldable pub valuesIn : List ℤ → List Float → Table Float
@@ -27,66 +29,59 @@ observationsIn [] values good = []
 observationsIn (t ∷ ts) values good =
     record { at = t; observed = getD values 0 nan; good = not (eqb (getD good 0 0) 0) } ∷ observationsIn ts (drop 1 values) (drop 1 good)
 
--- the lists of a call
-pub record Lists : Type 0 where
-  pub fieldTimes : List Float
-  pub added : List Float
-  pub keysC : List ℤ
-  pub statesC : List Float
-  pub keysD : List ℤ
-  pub statesD : List Float
-  pub accKeysC : List ℤ
-  pub accC : List Float
-  pub accKeysD : List ℤ
-  pub accD : List Float
-  pub nodes : List Float
-  pub times : List Float
-  pub values : List Float
-  pub good : List ℕ
+-- the stages of crate `finality`, by the modules' own work, from a field's gravity
+abbrev pub stagesBy : (List Float → Vector → Vector) → Fixed → Stages
+stagesBy gravity S = stagesOf (kernelsBy gravity (S .degree) (S .static))
 
-abbrev pub submissionOf : (S : Setting) → Lists → Submission (stagesOf (kernels S))
-submissionOf S l =
+abbrev pub stages : Fixed → Stages
+stages S = stagesOf (kernels S)
+
+abbrev pub submissionBy : (gravity : List Float → Vector → Vector) (S : Fixed) → Lists → Submission (stagesBy gravity S)
+submissionBy gravity S l =
     record {
-      fields = timed (S .degree) (l .fieldTimes) (l .added);
-      statesC = statesIn (l .keysC) (l .statesC);
-      statesD = statesIn (l .keysD) (l .statesD);
-      accC = valuesIn (l .accKeysC) (l .accC);
-      accD = valuesIn (l .accKeysD) (l .accD);
-      nodes = l .nodes;
-      obs = observationsIn (l .times) (l .values) (l .good);
+      fields = timed (S .degree) (l .fields .fieldTimes) (l .fields .added);
+      statesC = statesIn (l .tracks .states .c .keys) (l .tracks .states .c .values);
+      statesD = statesIn (l .tracks .states .d .keys) (l .tracks .states .d .values);
+      accC = valuesIn (l .tracks .accs .c .keys) (l .tracks .accs .c .values);
+      accD = valuesIn (l .tracks .accs .d .keys) (l .tracks .accs .d .values);
+      nodes = l .tracks .nodes;
+      obs = observationsIn (l .tracks .observed .obsTimes) (l .tracks .observed .values) (l .tracks .observed .good);
     }
 
+abbrev pub submissionOf : (S : Fixed) → Lists → Submission (stages S)
+submissionOf S l = submissionBy (fieldGravity S) S l
+
 -- what the tests 1 to 5 of the whole path say of its lists, as far as final entries depend on them
-pub record Passed (S : Setting) (l : Lists) : Type 0 where
-  pub fields : 1 < length (l .fieldTimes)
-  pub added : length (l .added) ≡ length (l .fieldTimes) * fieldSize (S .degree)
-  pub statesC : length (l .statesC) ≡ 6 * length (l .keysC)
-  pub statesD : length (l .statesD) ≡ 6 * length (l .keysD)
-  pub accC : length (l .accC) ≡ length (l .accKeysC)
-  pub accD : length (l .accD) ≡ length (l .accKeysD)
-  pub values : length (l .values) ≡ length (l .times)
-  pub good : length (l .good) ≡ length (l .times)
-  pub field-times : T (all isTime (l .fieldTimes)) × T (rising (l .fieldTimes))
-  pub keysC-rise : T (risingSeconds (l .keysC))
-  pub keysD-rise : T (risingSeconds (l .keysD))
-  pub accKeysC-rise : T (risingSeconds (l .accKeysC))
-  pub accKeysD-rise : T (risingSeconds (l .accKeysD))
-  pub node-times : T (all isTime (l .nodes)) × T (rising (l .nodes))
-  pub observed-times : T (all isTime (l .times)) × T (rising (l .times))
+pub record Passed (S : Fixed) (l : Lists) : Type 0 where
+  pub fields : 1 < length (l .fields .fieldTimes)
+  pub added : length (l .fields .added) ≡ length (l .fields .fieldTimes) * fieldSize (S .degree)
+  pub statesC : length (l .tracks .states .c .values) ≡ 6 * length (l .tracks .states .c .keys)
+  pub statesD : length (l .tracks .states .d .values) ≡ 6 * length (l .tracks .states .d .keys)
+  pub accC : length (l .tracks .accs .c .values) ≡ length (l .tracks .accs .c .keys)
+  pub accD : length (l .tracks .accs .d .values) ≡ length (l .tracks .accs .d .keys)
+  pub values : length (l .tracks .observed .values) ≡ length (l .tracks .observed .obsTimes)
+  pub good : length (l .tracks .observed .good) ≡ length (l .tracks .observed .obsTimes)
+  pub field-times : T (all isTime (l .fields .fieldTimes)) × T (rising (l .fields .fieldTimes))
+  pub keysC-rise : T (risingSeconds (l .tracks .states .c .keys))
+  pub keysD-rise : T (risingSeconds (l .tracks .states .d .keys))
+  pub accKeysC-rise : T (risingSeconds (l .tracks .accs .c .keys))
+  pub accKeysD-rise : T (risingSeconds (l .tracks .accs .d .keys))
+  pub node-times : T (all isTime (l .tracks .nodes)) × T (rising (l .tracks .nodes))
+  pub observed-times : T (all isTime (l .tracks .observed .obsTimes)) × T (rising (l .tracks .observed .obsTimes))
 
 -- each list of the second begins with the whole of the first's
 pub record ListsGrow (l l' : Lists) : Type 0 where
-  pub fieldTimes : Begins (l .fieldTimes) (l' .fieldTimes)
-  pub added : Begins (l .added) (l' .added)
-  pub keysC : Begins (l .keysC) (l' .keysC)
-  pub statesC : Begins (l .statesC) (l' .statesC)
-  pub keysD : Begins (l .keysD) (l' .keysD)
-  pub statesD : Begins (l .statesD) (l' .statesD)
-  pub accKeysC : Begins (l .accKeysC) (l' .accKeysC)
-  pub accC : Begins (l .accC) (l' .accC)
-  pub accKeysD : Begins (l .accKeysD) (l' .accKeysD)
-  pub accD : Begins (l .accD) (l' .accD)
-  pub nodes : Begins (l .nodes) (l' .nodes)
-  pub times : Begins (l .times) (l' .times)
-  pub values : Begins (l .values) (l' .values)
-  pub good : Begins (l .good) (l' .good)
+  pub fieldTimes : Begins (l .fields .fieldTimes) (l' .fields .fieldTimes)
+  pub added : Begins (l .fields .added) (l' .fields .added)
+  pub keysC : Begins (l .tracks .states .c .keys) (l' .tracks .states .c .keys)
+  pub statesC : Begins (l .tracks .states .c .values) (l' .tracks .states .c .values)
+  pub keysD : Begins (l .tracks .states .d .keys) (l' .tracks .states .d .keys)
+  pub statesD : Begins (l .tracks .states .d .values) (l' .tracks .states .d .values)
+  pub accKeysC : Begins (l .tracks .accs .c .keys) (l' .tracks .accs .c .keys)
+  pub accC : Begins (l .tracks .accs .c .values) (l' .tracks .accs .c .values)
+  pub accKeysD : Begins (l .tracks .accs .d .keys) (l' .tracks .accs .d .keys)
+  pub accD : Begins (l .tracks .accs .d .values) (l' .tracks .accs .d .values)
+  pub nodes : Begins (l .tracks .nodes) (l' .tracks .nodes)
+  pub times : Begins (l .tracks .observed .obsTimes) (l' .tracks .observed .obsTimes)
+  pub values : Begins (l .tracks .observed .values) (l' .tracks .observed .values)
+  pub good : Begins (l .tracks .observed .good) (l' .tracks .observed .good)

@@ -1,15 +1,15 @@
-// Module 8 of document 01, the whole path: one call from a submission to the four columns of its sheet, with the number of kept epochs and of final ones.
+// Module 8 of document 01, the whole path: one call from a submission to the columns of its sheet, with the number of kept epochs and of final ones.
 mod tests;
 mod work;
 
 ghost use mathlib.Core.Path.{_≡_};
-ghost use mathlib.Core.List.{[], _∷_};
+ghost use mathlib.Core.List.{[], _∷_, map};
 ghost use lib.Ieee.Scale.{finite};
 ghost use Rattle.laws.specs.Checks.{all};
 ghost use Rattle.laws.specs.Loops.{cleared};
 ghost use Rattle.slices.specs.Calls.{left};
-ghost use Rattle.windows.specs.Stage.{setting};
-ghost use Rattle.sheet.specs.Calls.{lists, sheetCall};
+ghost use Rattle.inputs.specs.Inputs.{modelOf, pairOf, observedOf, lists};
+ghost use Rattle.sheet.specs.Calls.{sheetCall};
 
 // How many epochs are kept and how many of them are final, or a refusal's number.
 pub enum SheetAnswer {
@@ -18,7 +18,7 @@ pub enum SheetAnswer {
 }
 
 fn columns_finite(times: &[f64], raws: &[f64], detrended: &[f64], passed: &[f64]) -> bool
-    ensures { λ r. ⌜ r ≡ all (all finite) ((now (times .entry)) ∷ (now (raws .entry)) ∷ (now (detrended .entry)) ∷ (now (passed .entry)) ∷ []) ⌝ }
+    ensures { λ r. ⌜ r ≡ all (all finite) (now (times .entry) ∷ now (raws .entry) ∷ now (detrended .entry) ∷ now (passed .entry) ∷ []) ⌝ }
 {
     let filtered = slices::both(slices::all_finite(detrended), slices::all_finite(passed));
     slices::both(
@@ -28,7 +28,8 @@ fn columns_finite(times: &[f64], raws: &[f64], detrended: &[f64], passed: &[f64]
 }
 
 fn clear_columns(times: &mut [f64], raws: &mut [f64], detrended: &mut [f64], passed: &mut [f64])
-    ensures { λ _. ⌜ (now (times .exit) ∷ now (raws .exit) ∷ now (detrended .exit) ∷ now (passed .exit) ∷ []) ≡ (cleared (now (times .entry)) ∷ cleared (now (raws .entry)) ∷ cleared (now (detrended .entry)) ∷ cleared (now (passed .entry)) ∷ []) ⌝ }
+    ensures { λ _. ⌜ (now (times .exit) ∷ now (raws .exit) ∷ now (detrended .exit) ∷ now (passed .exit) ∷ []) ≡ map cleared
+        (now (times .entry) ∷ now (raws .entry) ∷ now (detrended .entry) ∷ now (passed .entry) ∷ []) ⌝ }
 {
     slices::clear(times);
     slices::clear(raws);
@@ -37,21 +38,13 @@ fn clear_columns(times: &mut [f64], raws: &mut [f64], detrended: &mut [f64], pas
 }
 
 // The sheet of a submission: time, raw residual, detrended residual and passed value of each epoch that is kept.
-pub fn sheet(
+pub fn sheet<'a>(
     degree: usize,
-    field: &[f64],
-    a: &[f64],
-    b: &[f64],
-    times: &[f64],
-    added: &[f64],
-    ckeys: &[i64],
-    cstates: &[f64],
-    dkeys: &[i64],
-    dstates: &[f64],
-    cacckeys: &[i64],
-    caccs: &[f64],
-    dacckeys: &[i64],
-    daccs: &[f64],
+    model: inputs::Model<'a>,
+    keys: inputs::Keys<'a>,
+    states: inputs::Rows<'a>,
+    acckeys: inputs::Keys<'a>,
+    accs: inputs::Rows<'a>,
     nodes: &[f64],
     obstimes: &[f64],
     obsvalues: &[f64],
@@ -62,7 +55,11 @@ pub fn sheet(
     outpassed: &mut [f64],
     scratch: &mut [f64],
 ) -> SheetAnswer
-    ensures { λ r. ⌜ left r (now (outtimes .exit) ∷ now (outraws .exit) ∷ now (outdetrended .exit) ∷ now (outpassed .exit) ∷ []) (now (scratch .exit)) ≡ sheetCall (setting degree (now (field .entry)) (now (a .entry)) (now (b .entry))) (lists (now (times .entry)) (now (added .entry)) (now (ckeys .entry)) (now (cstates .entry)) (now (dkeys .entry)) (now (dstates .entry)) (now (cacckeys .entry)) (now (caccs .entry)) (now (dacckeys .entry)) (now (daccs .entry)) (now (nodes .entry)) (now (obstimes .entry)) (now (obsvalues .entry)) (now (good .entry))) (now (outtimes .entry) ∷ now (outraws .entry) ∷ now (outdetrended .entry) ∷ now (outpassed .entry) ∷ []) (now (scratch .entry)) ⌝ }
+    ensures { λ r. ⌜ left r (now (outtimes .exit) ∷ now (outraws .exit) ∷ now (outdetrended .exit) ∷ now (outpassed .exit) ∷ []) (now (scratch .exit)) ≡
+        sheetCall (modelOf degree (model .entry) .fixed)
+        (lists (modelOf degree (model .entry)) (pairOf (keys .entry) (states .entry)) (pairOf (acckeys .entry) (accs .entry)) (now (nodes .entry))
+        (observedOf (now (obstimes .entry)) (now (obsvalues .entry)) (now (good .entry))))
+        (now (outtimes .entry) ∷ now (outraws .entry) ∷ now (outdetrended .entry) ∷ now (outpassed .entry) ∷ []) (now (scratch .entry)) ⌝ }
 {
     let outputs = tests::outputs_fit(
         obstimes.len(),
@@ -73,19 +70,11 @@ pub fn sheet(
     );
     let number = tests::refusal(
         degree,
-        field,
-        a,
-        b,
-        times,
-        added,
-        ckeys,
-        cstates,
-        dkeys,
-        dstates,
-        cacckeys,
-        caccs,
-        dacckeys,
-        daccs,
+        model,
+        keys,
+        states,
+        acckeys,
+        accs,
         nodes,
         obstimes,
         obsvalues,
@@ -98,19 +87,11 @@ pub fn sheet(
     }
     let kept = work::work(
         degree,
-        field,
-        a,
-        b,
-        times,
-        added,
-        ckeys,
-        cstates,
-        dkeys,
-        dstates,
-        cacckeys,
-        caccs,
-        dacckeys,
-        daccs,
+        model,
+        keys,
+        states,
+        acckeys,
+        accs,
         nodes,
         obstimes,
         obsvalues,
@@ -124,11 +105,9 @@ pub fn sheet(
     slices::clear(scratch);
     if columns_finite(outtimes, outraws, outdetrended, outpassed) {
         let last = work::count_final(
-            times,
-            ckeys,
-            dkeys,
-            cacckeys,
-            dacckeys,
+            model[inputs::FIELD_TIMES],
+            keys,
+            acckeys,
             nodes,
             obstimes,
             &outtimes[0..kept],

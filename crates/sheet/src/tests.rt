@@ -1,30 +1,14 @@
 // The tests 1 to 5 of the whole path, over all its lists.
 ghost use mathlib.Core.Path.{_≡_};
 ghost use mathlib.Core.List.{[], _∷_};
-ghost use lib.Dec.{eqb};
-ghost use Rattle.laws.specs.Checks.{all};
-ghost use Rattle.windows.specs.Stage.{setting};
-ghost use Rattle.sheet.specs.Calls.{countsAllowed, lengthsAgree, numbersFine, listsRise, refusalOf, lists};
+ghost use mathlib.Core.Bool.{_&&_};
+ghost use lib.Dec.{leb, eqb};
+ghost use lib.ListN.{length};
+ghost use Rattle.laws.specs.Checks.{all, rising};
+ghost use Rattle.inputs.specs.Inputs.{modelOf, countsFine, rise, lentList, pairOf, observedOf, lists};
+ghost use Rattle.sheet.specs.Calls.{listsFit, listsFine, refusalOf};
 
-// Counts of fields, states, accelerometer values, nodes and observations.
-fn counts_allowed(
-    fields: usize,
-    c: usize,
-    d: usize,
-    cacc: usize,
-    dacc: usize,
-    nodes: usize,
-    observations: usize,
-) -> bool
-    ensures { λ r. ⌜ r ≡ countsAllowed fields c d cacc dacc nodes observations ⌝ }
-{
-    slices::both(
-        inputs::counts_fine(fields, c, d, cacc, dacc),
-        slices::both(nodes <= 64, observations <= 100000),
-    )
-}
-
-// Four outputs of length m.
+// Outputs of length m.
 pub(crate) fn outputs_fit(
     m: usize,
     times: usize,
@@ -38,21 +22,29 @@ pub(crate) fn outputs_fit(
     slices::both(times == m, slices::both(raws == m, filtered))
 }
 
-fn lengths_agree(
+fn lists_counted<'a>(
+    model: inputs::Model<'a>,
+    keys: inputs::Keys<'a>,
+    acckeys: inputs::Keys<'a>,
+    nodes: usize,
+    observations: usize,
+) -> bool
+    ensures { λ r. ⌜ r ≡ countsFine (length (lentList (model .entry) 3)) (length (lentList (keys .entry) 0)) (length (lentList (keys .entry) 1))
+        (length (lentList (acckeys .entry) 0)) (length (lentList (acckeys .entry) 1)) && (leb nodes 64 && leb observations 100000) ⌝ }
+{
+    slices::both(
+        inputs::inputs_counted(model, keys, acckeys),
+        slices::both(nodes <= 64, observations <= 100000),
+    )
+}
+
+fn lists_fit<'a>(
     degree: usize,
-    field: &[f64],
-    a: &[f64],
-    b: &[f64],
-    times: &[f64],
-    added: &[f64],
-    ckeys: &[i64],
-    cstates: &[f64],
-    dkeys: &[i64],
-    dstates: &[f64],
-    cacckeys: &[i64],
-    caccs: &[f64],
-    dacckeys: &[i64],
-    daccs: &[f64],
+    model: inputs::Model<'a>,
+    keys: inputs::Keys<'a>,
+    states: inputs::Rows<'a>,
+    acckeys: inputs::Keys<'a>,
+    accs: inputs::Rows<'a>,
     nodes: &[f64],
     obstimes: &[f64],
     obsvalues: &[f64],
@@ -60,103 +52,66 @@ fn lengths_agree(
     outputs: bool,
     room: usize,
 ) -> bool
-    ensures { λ r. ⌜ r ≡ lengthsAgree (setting degree (now (field .entry)) (now (a .entry)) (now (b .entry))) (lists (now (times .entry)) (now (added .entry)) (now (ckeys .entry)) (now (cstates .entry)) (now (dkeys .entry)) (now (dstates .entry)) (now (cacckeys .entry)) (now (caccs .entry)) (now (dacckeys .entry)) (now (daccs .entry)) (now (nodes .entry)) (now (obstimes .entry)) (now (obsvalues .entry)) (now (good .entry))) outputs room ⌝ }
+    ensures { λ r. ⌜ r ≡ listsFit (modelOf degree (model .entry) .fixed)
+        (lists (modelOf degree (model .entry)) (pairOf (keys .entry) (states .entry)) (pairOf (acckeys .entry) (accs .entry)) (now (nodes .entry))
+        (observedOf (now (obstimes .entry)) (now (obsvalues .entry)) (now (good .entry)))) outputs room ⌝ }
 {
-    let lists = inputs::lists_fit(
-        degree,
-        field,
-        a,
-        b,
-        times,
-        added,
-        ckeys,
-        cstates,
-        dkeys,
-        dstates,
-        cacckeys,
-        caccs,
-        dacckeys,
-        daccs,
-    );
+    let inputs = inputs::inputs_fit(degree, model, keys, states, acckeys, accs);
     let m = obstimes.len();
     let observed = slices::both(obsvalues.len() == m, good.len() == m);
+    let times = model[inputs::FIELD_TIMES];
     let scratch = inputs::whole_scratch_fits(degree, times.len(), nodes.len(), m, room);
     slices::both(
-        lists,
+        inputs,
         slices::both(slices::both(observed, outputs), scratch),
     )
 }
 
-fn numbers_fine(
+fn lists_fine<'a>(
     degree: usize,
-    field: &[f64],
-    a: &[f64],
-    b: &[f64],
-    times: &[f64],
-    added: &[f64],
-    ckeys: &[i64],
-    cstates: &[f64],
-    dkeys: &[i64],
-    dstates: &[f64],
-    cacckeys: &[i64],
-    caccs: &[f64],
-    dacckeys: &[i64],
-    daccs: &[f64],
+    model: inputs::Model<'a>,
+    keys: inputs::Keys<'a>,
+    states: inputs::Rows<'a>,
+    acckeys: inputs::Keys<'a>,
+    accs: inputs::Rows<'a>,
     nodes: &[f64],
     obstimes: &[f64],
     obsvalues: &[f64],
     good: &[u8],
 ) -> bool
-    ensures { λ r. ⌜ r ≡ numbersFine (setting degree (now (field .entry)) (now (a .entry)) (now (b .entry))) (lists (now (times .entry)) (now (added .entry)) (now (ckeys .entry)) (now (cstates .entry)) (now (dkeys .entry)) (now (dstates .entry)) (now (cacckeys .entry)) (now (caccs .entry)) (now (dacckeys .entry)) (now (daccs .entry)) (now (nodes .entry)) (now (obstimes .entry)) (now (obsvalues .entry)) (now (good .entry))) ⌝ }
+    ensures { λ r. ⌜ r ≡ listsFine (modelOf degree (model .entry) .fixed)
+        (lists (modelOf degree (model .entry)) (pairOf (keys .entry) (states .entry)) (pairOf (acckeys .entry) (accs .entry)) (now (nodes .entry))
+        (observedOf (now (obstimes .entry)) (now (obsvalues .entry)) (now (good .entry)))) ⌝ }
 {
-    let rows = inputs::rows_fine(
-        ckeys,
-        cstates,
-        dkeys,
-        dstates,
-        cacckeys,
-        caccs,
-        dacckeys,
-        daccs,
-    );
-    let lists = slices::both(inputs::model_fine(field, a, b, times, added), rows);
+    let inputs = inputs::inputs_fine(model, keys, states, acckeys, accs);
     let observed = slices::both(slices::all_times(obstimes), slices::all_finite(obsvalues));
-    slices::both(lists, slices::both(slices::all_times(nodes), observed))
+    slices::both(inputs, slices::both(slices::all_times(nodes), observed))
 }
 
-fn lists_rise(
-    times: &[f64],
-    ckeys: &[i64],
-    dkeys: &[i64],
-    cacckeys: &[i64],
-    dacckeys: &[i64],
+fn lists_rise<'a>(
+    model: inputs::Model<'a>,
+    keys: inputs::Keys<'a>,
+    acckeys: inputs::Keys<'a>,
     nodes: &[f64],
     obstimes: &[f64],
 ) -> bool
-    ensures { λ r. ⌜ r ≡ listsRise (now (times .entry)) (now (ckeys .entry)) (now (dkeys .entry)) (now (cacckeys .entry)) (now (dacckeys .entry)) (now (nodes .entry)) (now (obstimes .entry)) ⌝ }
+    ensures { λ r. ⌜ r ≡ rise (lentList (model .entry) 3) (lentList (keys .entry) 0) (lentList (keys .entry) 1) (lentList (acckeys .entry) 0)
+        (lentList (acckeys .entry) 1) && (rising (now (nodes .entry)) && rising (now (obstimes .entry))) ⌝ }
 {
     slices::both(
-        inputs::rise(times, ckeys, dkeys, cacckeys, dacckeys),
+        inputs::inputs_rise(model, keys, acckeys),
         slices::both(slices::rising(nodes), slices::rising(obstimes)),
     )
 }
 
 // The number of the first of the tests 1 to 5 that fails; `outputs` is whether the outputs are as long as they must be.
-pub(crate) fn refusal(
+pub(crate) fn refusal<'a>(
     degree: usize,
-    field: &[f64],
-    a: &[f64],
-    b: &[f64],
-    times: &[f64],
-    added: &[f64],
-    ckeys: &[i64],
-    cstates: &[f64],
-    dkeys: &[i64],
-    dstates: &[f64],
-    cacckeys: &[i64],
-    caccs: &[f64],
-    dacckeys: &[i64],
-    daccs: &[f64],
+    model: inputs::Model<'a>,
+    keys: inputs::Keys<'a>,
+    states: inputs::Rows<'a>,
+    acckeys: inputs::Keys<'a>,
+    accs: inputs::Rows<'a>,
     nodes: &[f64],
     obstimes: &[f64],
     obsvalues: &[f64],
@@ -164,32 +119,18 @@ pub(crate) fn refusal(
     outputs: bool,
     room: usize,
 ) -> u8
-    ensures { λ r. ⌜ r ≡ refusalOf (setting degree (now (field .entry)) (now (a .entry)) (now (b .entry))) (lists (now (times .entry)) (now (added .entry)) (now (ckeys .entry)) (now (cstates .entry)) (now (dkeys .entry)) (now (dstates .entry)) (now (cacckeys .entry)) (now (caccs .entry)) (now (dacckeys .entry)) (now (daccs .entry)) (now (nodes .entry)) (now (obstimes .entry)) (now (obsvalues .entry)) (now (good .entry))) outputs room ⌝ }
+    ensures { λ r. ⌜ r ≡ refusalOf (modelOf degree (model .entry) .fixed)
+        (lists (modelOf degree (model .entry)) (pairOf (keys .entry) (states .entry)) (pairOf (acckeys .entry) (accs .entry)) (now (nodes .entry))
+        (observedOf (now (obstimes .entry)) (now (obsvalues .entry)) (now (good .entry)))) outputs room ⌝ }
 {
-    let counts = counts_allowed(
-        times.len(),
-        ckeys.len(),
-        dkeys.len(),
-        cacckeys.len(),
-        dacckeys.len(),
-        nodes.len(),
-        obstimes.len(),
-    );
-    let lengths = lengths_agree(
+    let counts = lists_counted(model, keys, acckeys, nodes.len(), obstimes.len());
+    let lengths = lists_fit(
         degree,
-        field,
-        a,
-        b,
-        times,
-        added,
-        ckeys,
-        cstates,
-        dkeys,
-        dstates,
-        cacckeys,
-        caccs,
-        dacckeys,
-        daccs,
+        model,
+        keys,
+        states,
+        acckeys,
+        accs,
         nodes,
         obstimes,
         obsvalues,
@@ -197,26 +138,25 @@ pub(crate) fn refusal(
         outputs,
         room,
     );
-    let values = numbers_fine(
+    let values = lists_fine(
         degree,
-        field,
-        a,
-        b,
-        times,
-        added,
-        ckeys,
-        cstates,
-        dkeys,
-        dstates,
-        cacckeys,
-        caccs,
-        dacckeys,
-        daccs,
+        model,
+        keys,
+        states,
+        acckeys,
+        accs,
         nodes,
         obstimes,
         obsvalues,
         good,
     );
-    let order = lists_rise(times, ckeys, dkeys, cacckeys, dacckeys, nodes, obstimes);
-    inputs::first_of(inputs::degree_fine(degree), counts, lengths, values, order)
+    let order = lists_rise(model, keys, acckeys, nodes, obstimes);
+    inputs::first_of(
+        inputs::degree_fine(degree),
+        counts,
+        lengths,
+        values,
+        order,
+        0,
+    )
 }

@@ -5,8 +5,8 @@ ghost use Prim.Native.Nat.{_-_};
 ghost use lib.ListN.{length};
 ghost use Rattle.finality.specs.Sheet.{horizonOf, countTo};
 ghost use Rattle.horizon.specs.Horizon.{endsOf};
-ghost use Rattle.windows.specs.Stage.{setting};
-ghost use Rattle.sheet.specs.Calls.{sheetRefusal, lists, Worked};
+ghost use Rattle.inputs.specs.Inputs.{modelOf, lentList, pairOf, observedOf, lists};
+ghost use Rattle.sheet.specs.Calls.{sheetRefusal, Worked};
 
 // How many pairs of neighbouring nodes there are.
 fn windows_of(nodes: usize) -> usize
@@ -15,22 +15,14 @@ fn windows_of(nodes: usize) -> usize
     if nodes == 0 { 0 } else { nodes - 1 }
 }
 
-// The four columns; how many epochs are kept.
-pub(crate) fn work(
+// The columns; how many epochs are kept.
+pub(crate) fn work<'a>(
     degree: usize,
-    field: &[f64],
-    a: &[f64],
-    b: &[f64],
-    times: &[f64],
-    added: &[f64],
-    ckeys: &[i64],
-    cstates: &[f64],
-    dkeys: &[i64],
-    dstates: &[f64],
-    cacckeys: &[i64],
-    caccs: &[f64],
-    dacckeys: &[i64],
-    daccs: &[f64],
+    model: inputs::Model<'a>,
+    keys: inputs::Keys<'a>,
+    states: inputs::Rows<'a>,
+    acckeys: inputs::Keys<'a>,
+    accs: inputs::Rows<'a>,
     nodes: &[f64],
     obstimes: &[f64],
     obsvalues: &[f64],
@@ -41,35 +33,21 @@ pub(crate) fn work(
     outpassed: &mut [f64],
     s: &mut [f64],
 ) -> usize
-    requires { ⌜ sheetRefusal (setting degree (now field) (now a) (now b)) (lists (now times) (now added) (now ckeys) (now cstates) (now dkeys) (now dstates) (now cacckeys) (now caccs) (now dacckeys) (now daccs) (now nodes) (now obstimes) (now obsvalues) (now good)) (now outtimes ∷ now outraws ∷ now outdetrended ∷ now outpassed ∷ []) (length (now s)) ≡ 0 ⌝ }
-    ensures { λ r. ⌜ Worked (setting degree (now (field .entry)) (now (a .entry)) (now (b .entry))) (lists (now (times .entry)) (now (added .entry)) (now (ckeys .entry)) (now (cstates .entry)) (now (dkeys .entry)) (now (dstates .entry)) (now (cacckeys .entry)) (now (caccs .entry)) (now (dacckeys .entry)) (now (daccs .entry)) (now (nodes .entry)) (now (obstimes .entry)) (now (obsvalues .entry)) (now (good .entry))) r (now (outtimes .exit) ∷ now (outraws .exit) ∷ now (outdetrended .exit) ∷ now (outpassed .exit) ∷ []) (now (s .entry)) (now (s .exit)) ⌝ }
+    requires { ⌜ sheetRefusal (modelOf degree model .fixed)
+        (lists (modelOf degree model) (pairOf keys states) (pairOf acckeys accs) (now nodes) (observedOf (now obstimes) (now obsvalues) (now good)))
+        (now outtimes ∷ now outraws ∷ now outdetrended ∷ now outpassed ∷ []) (length (now s)) ≡ 0 ⌝ }
+    ensures { λ r. ⌜ Worked (modelOf degree (model .entry) .fixed)
+        (lists (modelOf degree (model .entry)) (pairOf (keys .entry) (states .entry)) (pairOf (acckeys .entry) (accs .entry)) (now (nodes .entry))
+        (observedOf (now (obstimes .entry)) (now (obsvalues .entry)) (now (good .entry)))) r
+        (now (outtimes .exit) ∷ now (outraws .exit) ∷ now (outdetrended .exit) ∷ now (outpassed .exit) ∷ []) (now (s .entry)) (now (s .exit)) ⌝ }
 {
-    slots::fill(
-        degree,
-        field,
-        a,
-        b,
-        times,
-        added,
-        ckeys,
-        cstates,
-        dkeys,
-        dstates,
-        nodes,
-        s,
-    );
+    slots::fill(degree, model, keys, states, nodes, s);
     let windows = windows_of(nodes.len());
     let kept = kept_epochs::gather(
         degree,
-        field,
-        a,
-        b,
-        times,
-        added,
-        cacckeys,
-        caccs,
-        dacckeys,
-        daccs,
+        model,
+        acckeys,
+        accs,
         windows,
         obstimes,
         obsvalues,
@@ -83,18 +61,25 @@ pub(crate) fn work(
 }
 
 // How many of the kept epochs at these times are final.
-pub(crate) fn count_final(
+pub(crate) fn count_final<'a>(
     times: &[f64],
-    ckeys: &[i64],
-    dkeys: &[i64],
-    cacckeys: &[i64],
-    dacckeys: &[i64],
+    keys: inputs::Keys<'a>,
+    acckeys: inputs::Keys<'a>,
     nodes: &[f64],
     obstimes: &[f64],
     kept: &[f64],
 ) -> usize
-    ensures { λ r. ⌜ r ≡ countTo (horizonOf (endsOf (now (ckeys .entry)) (now (dkeys .entry)) (now (cacckeys .entry)) (now (dacckeys .entry)) (now (times .entry)) (now (obstimes .entry))) (now (nodes .entry))) (now (kept .entry)) ⌝ }
+    ensures { λ r. ⌜ r ≡ countTo (horizonOf (endsOf (lentList (keys .entry) 0) (lentList (keys .entry) 1) (lentList (acckeys .entry) 0)
+        (lentList (acckeys .entry) 1) (now (times .entry)) (now (obstimes .entry))) (now (nodes .entry))) (now (kept .entry)) ⌝ }
 {
-    let z = horizon::kernel::horizon(nodes, ckeys, dkeys, cacckeys, dacckeys, times, obstimes);
+    let z = horizon::kernel::horizon(
+        nodes,
+        keys[inputs::C],
+        keys[inputs::D],
+        acckeys[inputs::C],
+        acckeys[inputs::D],
+        times,
+        obstimes,
+    );
     horizon::kernel::final_count(z, kept)
 }

@@ -12,7 +12,7 @@ use borrow.Rule.Slice.PartMut.{putMid, postOf}
 use lib.Ieee.{Float, nan, binary64, toBits}
 use Rattle.laws.specs.Loops.{fill-turn, fill-done, take-set}
 use Rattle.hex.specs.Digits.{digitsOf, written, decimalOf}
-use Rattle.hex.proofs.Printing.{then, written-prints, refused-prints, printed-fits}
+use Rattle.hex.proofs.Printing.{then, written-prints, refused-prints, printed-counts}
 use Rattle.hex.proofs.Laws.{digits-length}
 use Rattle.hex.specs.Printing.{lineFeed, refusedText, Printed}
 use Rattle.io.specs.Counts.{Counts}
@@ -49,7 +49,8 @@ next-is numbers at words n e = ap (λ (k : ℕ). at + 1 + words * k) e
 
 -- ---- places
 
-pub places-are : (numbers : List Float) (c a1 a2 a3 a4 a5 a6 a7 a8 : ℕ) → a1 ≡ nextAt numbers 0 1 → a2 ≡ nextAt numbers a1 (2 + c) → a3 ≡ nextAt numbers a2 (3 + c) → a4 ≡ nextAt numbers a3 7 → a5 ≡ nextAt numbers a4 2 → a6 ≡ nextAt numbers a5 7 → a7 ≡ nextAt numbers a6 2 → a8 ≡ nextAt numbers a7 1 →
+pub places-are : (numbers : List Float) (c a1 a2 a3 a4 a5 a6 a7 a8 : ℕ) → a1 ≡ nextAt numbers 0 1 → a2 ≡ nextAt numbers a1 (2 + c) → a3 ≡ nextAt numbers a2 (3 + c) → a4 ≡ nextAt numbers a3 7 →
+    a5 ≡ nextAt numbers a4 2 → a6 ≡ nextAt numbers a5 7 → a7 ≡ nextAt numbers a6 2 → a8 ≡ nextAt numbers a7 1 →
     record { held = a1; fields = a2; cstates = a3; caccs = a4; dstates = a5; daccs = a6; nodes = a7; observations = a8 } ≡ placesOf·program numbers c
 unfolding placesOf·program
 places-are numbers c a1 a2 a3 a4 a5 a6 a7 a8 e1 e2 e3 e4 e5 e6 e7 e8 =
@@ -73,7 +74,8 @@ step-far step i h k = mul-le-mul h (let q : i ≤ 100000 = omega arith in q)
 pub floats-start : (numbers : List Float) (from step width : ℕ) (out : List Float) → floatsFrom numbers from step width 0 (length out - 0) ≡ floatsFrom numbers from step width 0 (length out)
 floats-start numbers from step width out = let b : length out - 0 ≡ length out = omega arith in (λ i. floatsFrom numbers from step width 0 (b i))
 
-pub floats-turn : (numbers : List Float) (from step width : ℕ) (out out₀ : List Float) (k j : ℕ) (y : Float) → length out ≡ length out₀ → k < length out → j ≡ step * (k / width) + k % width → y ≡ numberAt numbers (from + j) →
+pub floats-turn : (numbers : List Float) (from step width : ℕ) (out out₀ : List Float) (k j : ℕ) (y : Float) → length out ≡ length out₀ → k < length out → j ≡ step * (k / width) + k % width →
+    y ≡ numberAt numbers (from + j) →
     take k out ++ floatsFrom numbers from step width k (length out₀ - k) ≡ floatsFrom numbers from step width 0 (length out₀) →
     take (k + 1) (set out k y) ++ floatsFrom numbers from step width (k + 1) (length out₀ - (k + 1)) ≡ floatsFrom numbers from step width 0 (length out₀)
 unfolding floatsFrom
@@ -212,9 +214,6 @@ rows-done ts xs ys zs i n k o out h g inv =
       text = sym (append-nil (take (68 * k) out)) ∙ ap (λ (x : ℕ). take (68 * k) out ++ rowsText (i + k) x ts xs ys zs) (sym z) ∙ inv;
     }
 
-pub printed-counts : (bytes before after : List ℕ) (r : ℕ) → Printed bytes before 0 after r → Counts r after
-printed-counts bytes before after r p = let h : r ≤ length after = printed-fits bytes before after r p in (h, sym (length-take-le r after h))
-
 pub counts : (n : ℕ) (xs : List ℕ) → n ≤ length xs → Counts n xs
 counts n xs h = (h, sym (length-take-le n xs h))
 
@@ -233,7 +232,8 @@ head-few o o1 o2 o3 o4 o5 a b c d r p1 h1 p2 h2 p3 =
     let e3 : r ≡ d + 1 = p3 .ends in
     omega arith
 
-pub refused-counts : (n : ℕ) (o o1 o2 o3 : List ℕ) (a b r : ℕ) → Printed (114 ∷ 101 ∷ 102 ∷ 117 ∷ 115 ∷ 101 ∷ 100 ∷ 32 ∷ []) o 0 o1 a → Printed (decimalOf n) o1 a o2 b → Printed lineFeed o2 b o3 r → Counts r o3
+pub refused-counts : (n : ℕ) (o o1 o2 o3 : List ℕ) (a b r : ℕ) → Printed (114 ∷ 101 ∷ 102 ∷ 117 ∷ 115 ∷ 101 ∷ 100 ∷ 32 ∷ []) o 0 o1 a → Printed (decimalOf n) o1 a o2 b →
+    Printed lineFeed o2 b o3 r → Counts r o3
 refused-counts n o o1 o2 o3 a b r p q s = printed-counts (refusedText n) o o3 r (refused-prints n o o1 o2 o3 a b r p q s)
 
 pub rows-count : (out out₀ : List ℕ) (n k : ℕ) → length out ≡ length out₀ → 34000 ≤ length out₀ → n ≤ 500 → k ≤ n → Counts (68 * k) out

@@ -1,2 +1,4 @@
--- What the proofs cite.
+-- What the functions' proofs cite.
+--
+--   Laws   where the sections of the numbers read begin, lists copied from them, and what is printed
 pub mod Laws

@@ -60,12 +60,22 @@ placesOf numbers c =
     let dstates = nextAt numbers caccs 2 in
     let daccs = nextAt numbers dstates 7 in
     let nodes = nextAt numbers daccs 2 in
-    record { held = held; fields = fields; cstates = cstates; caccs = caccs; dstates = dstates; daccs = daccs; nodes = nodes; observations = nextAt numbers nodes 1 }
+    record {
+      held = held;
+      fields = fields;
+      cstates = cstates;
+      caccs = caccs;
+      dstates = dstates;
+      daccs = daccs;
+      nodes = nodes;
+      observations = nextAt numbers nodes 1;
+    }
 
 -- all before the end of any text
 abbrev pub Near : Places → Type 0
 Near p =
-    (p .held ≤ 20000000) × (p .fields ≤ 20000000) × (p .cstates ≤ 20000000) × (p .caccs ≤ 20000000) × (p .dstates ≤ 20000000) × (p .daccs ≤ 20000000) × (p .nodes ≤ 20000000) × (p .observations ≤ 20000000)
+    (p .held ≤ 20000000) × (p .fields ≤ 20000000) × (p .cstates ≤ 20000000) × (p .caccs ≤ 20000000) × (p .dstates ≤ 20000000) × (p .daccs ≤ 20000000) ×
+    (p .nodes ≤ 20000000) × (p .observations ≤ 20000000)
 
 -- ---- output
 

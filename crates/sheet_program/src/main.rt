@@ -1,4 +1,5 @@
-// The sheet of one submission: its text on standard input, line by line (crate `submission_text`), and the sheet on standard output. `answer` decides what is printed.
+// The sheet of one submission: its text on standard input, line by line (crate `submission_text`), and the sheet on standard output. `answer` decides what
+// is printed.
 ghost use mathlib.Core.Path.{_≡_};
 ghost use mathlib.Core.List.{_++_, _∷_, []};
 ghost use Prim.Native.Nat.{_+_, _*_, _/_, _%_, _≤_, _<_, min};
@@ -9,7 +10,8 @@ ghost use Rattle.io.specs.Counts.{Counts};
 ghost use Rattle.hex.specs.Digits.{decimalOf};
 ghost use Rattle.submission_text.specs.Text.{coefficients};
 ghost use Rattle.hex.specs.Printing.{refusedText, Printed};
-ghost use Rattle.sheet_program.specs.Text.{numberAt, wholeAt, countAt, nextAt, keyAt, byteAt, floatsFrom, keysFrom, bytesFrom, placesOf, Near, headText, termText, rowText, rowsText};
+ghost use Rattle.sheet_program.specs.Text.{numberAt, wholeAt, countAt, nextAt, keyAt, byteAt, floatsFrom, keysFrom, bytesFrom, placesOf, Near, headText};
+ghost use Rattle.sheet_program.specs.Text.{termText, rowText, rowsText};
 use hex;
 use io;
 use legendre;
@@ -178,7 +180,8 @@ fn put_row(
     at: usize,
 )
     requires { ⌜ at + 68 ≤ length (now out) ⌝ }
-    ensures { λ _. ⌜ Printed (rowText i (now (times .entry)) (now (raws .entry)) (now (detrended .entry)) (now (passed .entry))) (now (out .entry)) at (now (out .exit)) (at + 68) ⌝ }
+    ensures { λ _. ⌜ Printed (rowText i (now (times .entry)) (now (raws .entry)) (now (detrended .entry)) (now (passed .entry))) (now (out .entry)) at
+        (now (out .exit)) (at + 68) ⌝ }
 {
     put_term(number_at(times, i), 32, out, at);
     put_term(number_at(raws, i), 32, out, at + 17);
@@ -197,7 +200,8 @@ fn put_rows(
     out: &mut [u8],
 ) -> usize
     requires { ⌜ (i ≤ 100000) × (n ≤ 500) × (34000 ≤ length (now out)) ⌝ }
-    ensures { λ r. ⌜ (Printed (rowsText i n (now (times .entry)) (now (raws .entry)) (now (detrended .entry)) (now (passed .entry))) (now (out .entry)) 0 (now (out .exit)) r) × Counts r (now (out .exit)) ⌝ }
+    ensures { λ r. ⌜ (Printed (rowsText i n (now (times .entry)) (now (raws .entry)) (now (detrended .entry)) (now (passed .entry))) (now (out .entry)) 0
+        (now (out .exit)) r) × Counts r (now (out .exit)) ⌝ }
 {
     let mut k = 0;
     while k < n {
@@ -290,7 +294,8 @@ fn places_in(numbers: &[f64], c: usize) -> Places
 // The keys of a section, in the first places of out.
 fn keys_in<'a>(numbers: &[f64], at: usize, step: usize, out: &'a mut [i64]) -> &'a [i64]
     requires { ⌜ (at ≤ 20000000) × (step ≤ 185) × (length (now out) ≤ 100000) ⌝ }
-    ensures { λ r. ⌜ now r ≡ take (min (countAt (now (numbers .entry)) at) (length (now (out .entry)))) (keysFrom (now (numbers .entry)) (at + 1) step 0 (length (now (out .entry)))) ⌝ }
+    ensures { λ r. ⌜ now r ≡ take (min (countAt (now (numbers .entry)) at) (length (now (out .entry))))
+        (keysFrom (now (numbers .entry)) (at + 1) step 0 (length (now (out .entry)))) ⌝ }
 {
     keys_from(numbers, at + 1, step, out);
     let n = least(count_at(numbers, at), out.len());
@@ -301,7 +306,8 @@ fn keys_in<'a>(numbers: &[f64], at: usize, step: usize, out: &'a mut [i64]) -> &
 // The good bytes, the third word of each line.
 fn bytes_in<'a>(numbers: &[f64], at: usize, step: usize, out: &'a mut [u8]) -> &'a [u8]
     requires { ⌜ (at ≤ 20000000) × (step ≤ 185) × (length (now out) ≤ 100000) ⌝ }
-    ensures { λ r. ⌜ now r ≡ take (min (countAt (now (numbers .entry)) at) (length (now (out .entry)))) (bytesFrom (now (numbers .entry)) (at + 3) step 0 (length (now (out .entry)))) ⌝ }
+    ensures { λ r. ⌜ now r ≡ take (min (countAt (now (numbers .entry)) at) (length (now (out .entry))))
+        (bytesFrom (now (numbers .entry)) (at + 3) step 0 (length (now (out .entry)))) ⌝ }
 {
     bytes_from(numbers, at + 3, step, out);
     let n = least(count_at(numbers, at), out.len());
@@ -326,7 +332,8 @@ fn floats_in<'a>(
     out: &'a mut [f64],
 ) -> &'a [f64]
     requires { ⌜ (at ≤ 20000000) × (skip ≤ 2) × (step ≤ 185) × (0 < width) × (width ≤ 185) × (length (now out) ≤ 100000) ⌝ }
-    ensures { λ r. ⌜ now r ≡ take (min (width * countAt (now (numbers .entry)) at) (length (now (out .entry)))) (floatsFrom (now (numbers .entry)) (at + skip) step width 0 (length (now (out .entry)))) ⌝ }
+    ensures { λ r. ⌜ now r ≡ take (min (width * countAt (now (numbers .entry)) at) (length (now (out .entry))))
+        (floatsFrom (now (numbers .entry)) (at + skip) step width 0 (length (now (out .entry)))) ⌝ }
 {
     floats_from(numbers, at + skip, step, width, out);
     let n = least(product(width, count_at(numbers, at)), out.len());
@@ -346,21 +353,13 @@ fn say(answer: sheet::SheetAnswer, times: &[f64], raws: &[f64], detrended: &[f64
 }
 
 // The sheet of a submission's lists, or its refusal.
-fn told(
+fn told<'a>(
     degree: usize,
-    field: &[f64],
-    a: &[f64],
-    b: &[f64],
-    times: &[f64],
-    added: &[f64],
-    ckeys: &[i64],
-    cstates: &[f64],
-    dkeys: &[i64],
-    dstates: &[f64],
-    cacckeys: &[i64],
-    caccs: &[f64],
-    dacckeys: &[i64],
-    daccs: &[f64],
+    model: inputs::Model<'a>,
+    keys: inputs::Keys<'a>,
+    states: inputs::Rows<'a>,
+    acckeys: inputs::Keys<'a>,
+    accs: inputs::Rows<'a>,
     nodes: &[f64],
     obstimes: &[f64],
     obsvalues: &[f64],
@@ -378,19 +377,11 @@ fn told(
     let outpassed = &mut z[0..n];
     let answer = sheet::sheet(
         degree,
-        field,
-        a,
-        b,
-        times,
-        added,
-        ckeys,
-        cstates,
-        dkeys,
-        dstates,
-        cacckeys,
-        caccs,
-        dacckeys,
-        daccs,
+        model,
+        keys,
+        states,
+        acckeys,
+        accs,
         nodes,
         obstimes,
         obsvalues,
@@ -411,22 +402,14 @@ fn told(
 }
 
 // The lists are taken from the numbers, which stand at the head of scratch: nodes and observations.
-fn with_observations(
+fn with_observations<'a>(
     p: Places,
     degree: usize,
-    field: &[f64],
-    a: &[f64],
-    b: &[f64],
-    times: &[f64],
-    added: &[f64],
-    ckeys: &[i64],
-    cstates: &[f64],
-    dkeys: &[i64],
-    dstates: &[f64],
-    cacckeys: &[i64],
-    caccs: &[f64],
-    dacckeys: &[i64],
-    daccs: &[f64],
+    model: inputs::Model<'a>,
+    keys: inputs::Keys<'a>,
+    states: inputs::Rows<'a>,
+    acckeys: inputs::Keys<'a>,
+    accs: inputs::Rows<'a>,
     scratch: &mut [f64],
 )
     requires { ⌜ Near p ⌝ }
@@ -441,103 +424,15 @@ fn with_observations(
     let good = bytes_in(&scratch[..], p.observations, 3, &mut g);
     told(
         degree,
-        field,
-        a,
-        b,
-        times,
-        added,
-        ckeys,
-        cstates,
-        dkeys,
-        dstates,
-        cacckeys,
-        caccs,
-        dacckeys,
-        daccs,
+        model,
+        keys,
+        states,
+        acckeys,
+        accs,
         nodes,
         obstimes,
         obsvalues,
         good,
-        scratch,
-    );
-}
-
-fn with_accelerometers(
-    p: Places,
-    degree: usize,
-    field: &[f64],
-    a: &[f64],
-    b: &[f64],
-    times: &[f64],
-    added: &[f64],
-    ckeys: &[i64],
-    cstates: &[f64],
-    dkeys: &[i64],
-    dstates: &[f64],
-    scratch: &mut [f64],
-)
-    requires { ⌜ Near p ⌝ }
-{
-    let mut c = [0i64; 12000];
-    let mut x = [0.0; 12000];
-    let mut d = [0i64; 12000];
-    let mut y = [0.0; 12000];
-    let cacckeys = keys_in(&scratch[..], p.caccs, 2, &mut c);
-    let caccs = floats_in(&scratch[..], p.caccs, 2, 2, 1, &mut x);
-    let dacckeys = keys_in(&scratch[..], p.daccs, 2, &mut d);
-    let daccs = floats_in(&scratch[..], p.daccs, 2, 2, 1, &mut y);
-    with_observations(
-        p,
-        degree,
-        field,
-        a,
-        b,
-        times,
-        added,
-        ckeys,
-        cstates,
-        dkeys,
-        dstates,
-        cacckeys,
-        caccs,
-        dacckeys,
-        daccs,
-        scratch,
-    );
-}
-
-fn with_states(
-    p: Places,
-    degree: usize,
-    field: &[f64],
-    a: &[f64],
-    b: &[f64],
-    times: &[f64],
-    added: &[f64],
-    scratch: &mut [f64],
-)
-    requires { ⌜ Near p ⌝ }
-{
-    let mut c = [0i64; 12000];
-    let mut x = [0.0; 72000];
-    let mut d = [0i64; 12000];
-    let mut y = [0.0; 72000];
-    let ckeys = keys_in(&scratch[..], p.cstates, 7, &mut c);
-    let cstates = floats_in(&scratch[..], p.cstates, 2, 7, 6, &mut x);
-    let dkeys = keys_in(&scratch[..], p.dstates, 7, &mut d);
-    let dstates = floats_in(&scratch[..], p.dstates, 2, 7, 6, &mut y);
-    with_accelerometers(
-        p,
-        degree,
-        field,
-        a,
-        b,
-        times,
-        added,
-        ckeys,
-        cstates,
-        dkeys,
-        dstates,
         scratch,
     );
 }
@@ -552,36 +447,48 @@ fn table_in<'a>(f: legendre::Factor, degree: usize, n: usize, out: &'a mut [f64]
     &terms[0..m]
 }
 
-fn with_tables(
-    p: Places,
-    degree: usize,
-    c: usize,
-    field: &[f64],
-    times: &[f64],
-    added: &[f64],
-    scratch: &mut [f64],
-)
-    requires { ⌜ Near p ⌝ }
-{
-    let mut x = [0.0; 91];
-    let mut y = [0.0; 91];
-    let a = table_in(legendre::Factor::RecursionA, degree, c / 2, &mut x);
-    let b = table_in(legendre::Factor::RecursionB, degree, c / 2, &mut y);
-    with_states(p, degree, field, a, b, times, added, scratch);
-}
-
-fn with_fields(p: Places, degree: usize, c: usize, scratch: &mut [f64])
+// The model, states and accelerometer values; bundles share one lifetime, so all are made here.
+fn with_lists(p: Places, degree: usize, c: usize, scratch: &mut [f64])
     requires { ⌜ Near p × (c ≤ 182) ⌝ }
 {
     let words = 2 + c;
     let step = 3 + c;
     let mut h = [0.0; 184];
+    let mut x = [0.0; 91];
+    let mut y = [0.0; 91];
     let mut t = [0.0; 8];
     let mut g = [0.0; 1472];
+    let mut ck = [0i64; 12000];
+    let mut cs = [0.0; 72000];
+    let mut dk = [0i64; 12000];
+    let mut ds = [0.0; 72000];
+    let mut ak = [0i64; 12000];
+    let mut av = [0.0; 12000];
+    let mut bk = [0i64; 12000];
+    let mut bv = [0.0; 12000];
     let field = floats_in(&scratch[..], p.held, 1, words, words, &mut h);
+    let a = table_in(legendre::Factor::RecursionA, degree, c / 2, &mut x);
+    let b = table_in(legendre::Factor::RecursionB, degree, c / 2, &mut y);
     let times = floats_in(&scratch[..], p.fields, 1, step, 1, &mut t);
     let added = floats_in(&scratch[..], p.fields, 2, step, words, &mut g);
-    with_tables(p, degree, c, field, times, added, scratch);
+    let ckeys = keys_in(&scratch[..], p.cstates, 7, &mut ck);
+    let cstates = floats_in(&scratch[..], p.cstates, 2, 7, 6, &mut cs);
+    let dkeys = keys_in(&scratch[..], p.dstates, 7, &mut dk);
+    let dstates = floats_in(&scratch[..], p.dstates, 2, 7, 6, &mut ds);
+    let cacckeys = keys_in(&scratch[..], p.caccs, 2, &mut ak);
+    let caccs = floats_in(&scratch[..], p.caccs, 2, 2, 1, &mut av);
+    let dacckeys = keys_in(&scratch[..], p.daccs, 2, &mut bk);
+    let daccs = floats_in(&scratch[..], p.daccs, 2, 2, 1, &mut bv);
+    with_observations(
+        p,
+        degree,
+        [field, a, b, times, added],
+        [ckeys, dkeys],
+        [cstates, dstates],
+        [cacckeys, dacckeys],
+        [caccs, daccs],
+        scratch,
+    );
 }
 
 // Answers a text that was read.
@@ -599,7 +506,7 @@ fn answer(at: submission_text::Reading, scratch: &mut [f64]) {
     }
     let c = submission_text::coefficients(degree);
     let p = places_in(&scratch[..], c);
-    with_fields(p, degree, c, scratch);
+    with_lists(p, degree, c, scratch);
 }
 
 // ---- the program

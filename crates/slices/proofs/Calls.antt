@@ -9,7 +9,7 @@ use lib.ListN.{length, replicate}
 use lib.Ieee.Scale.{finite}
 use Rattle.laws.specs.Checks.{all}
 use Rattle.laws.specs.Floats.{zero64}
-use Rattle.laws.specs.Loops.{cleared}
+use Rattle.laws.specs.Loops.{cleared, same-cleared}
 use Rattle.slices.specs.Calls.{left, leftClear, handed, settled}
 
 -- a chain of tests that ends in 0: the first is passed, and so is the rest
@@ -41,7 +41,7 @@ module _ {Answer : Type 0} (accepted : Answer) (refused : ℕ → Answer) (new o
 -- ---- a call with one output, after whose work only 10 can refuse: `work` is worked out, and y, as long as what stood there, is what the code has of it
 
 cleared-like : (z s s' : List Float) → z ≡ cleared s' → length s' ≡ length s → z ≡ cleared s
-cleared-like z s s' e l = e ∙ ap (λ (k : ℕ). replicate k zero64) l
+cleared-like z s s' e l = e ∙ same-cleared s' s l
 
 module _ {Answer : Type 0} (accepted : Answer) (refused : ℕ → Answer) (work old s : List Float) (n g : ℕ) (e : n ≡ g) where
   judged : (b : Bool) (y : List Float) → n ≡ 0 → y ≡ work → b ≡ all finite y →

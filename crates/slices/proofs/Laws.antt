@@ -6,8 +6,8 @@ use native.Mathlib.Nat.{le-refl}
 use native.Mathlib.Numerals.{add-one}
 use native.Mathlib.Omega.{arith}
 use borrow.Author.Tests.{eq-eqb, ne-eqb}
-use lib.ListN.{length, take, drop, getD, set, length-set, length-drop, length-reverse, take-append-drop}
-use lib.Seq.{split-at, getD-at, take-suc-set, take-set-le, take-set-lt, drop-set-lt, drop-cons, append-snoc, take-suc, drop-append-le, length-take-le, getD-take, getD-set-same, take-length, drop-length, take-take}
+use lib.ListN.{length, take, drop, getD, set, length-set, length-drop, take-append-drop}
+use lib.Seq.{take-suc-set, take-set-le, take-set-lt, drop-set-lt, drop-cons, append-snoc, take-suc, drop-append-le, length-take-le, getD-take, getD-set-same, take-length, drop-length, take-take}
 use lib.Ieee.{Float, nan}
 use Rattle.slices.specs.Slices.{copied}
 
@@ -38,16 +38,6 @@ reverse-short {ℓ} : {A : Type ℓ} (l : List A) → length l < 2 → reverse l
 reverse-short [] h = refl
 reverse-short (x ∷ []) h = refl
 reverse-short (x ∷ y ∷ l) h = absurd (omega arith)
-
--- element i of a reversed list is element j, as far from the end
-pub getD-reverse {ℓ} : {A : Type ℓ} (x : List A) (i j : ℕ) (d : A) → i + suc j ≡ length x → getD (reverse x) i d ≡ getD x j d
-getD-reverse {A = A} x i j d e =
-    let y : A = getD x j d in
-    let a : List A = take j x in
-    let b : List A = drop (suc j) x in
-    let s : reverse x ≡ reverse b ++ (y ∷ reverse a) =
-    ap reverse (split-at x j d (omega arith)) ∙ reverse-append a (y ∷ b) ∙ ap (λ (l : List A). l ++ reverse a) (reverse-cons y b) ∙ append-snoc (reverse b) y (reverse a) in
-    ap (λ (l : List A). getD l i d) s ∙ getD-at (reverse b) y (reverse a) d i (simp (length-reverse, length-drop) (omega arith))
 
 -- one more from the front of a list that is reversed
 pub take-reverse {ℓ} : {A : Type ℓ} (d : A) (l : List A) (m : ℕ) → m < length l → reverse (take (suc m) l) ≡ getD l m d ∷ reverse (take m l)

@@ -88,7 +88,8 @@ module _ (ks : List ℤ) (key : ℤ) (lo hi : ℕ) (b : Bracket ks key lo hi) (m
   up c = record {
     lo-le = omega arith;
     hi-le = b .hi-le;
-    below = λ e k h. ⊎-elim (λ (s : k ≡ m). subst (λ (j : ℕ). ltZ (key-at ks j) key ≡ true) (sym s) c) (λ (s : k < m). lt-lt (key-at ks k) (key-at ks m) key (rises ks e k m s (let h′ : hi ≤ length ks = b .hi-le in omega arith)) c) (eq-or-lt-of-le (let h′ : k < m + 1 = h in omega arith));
+    below = λ e k h. ⊎-elim (λ (s : k ≡ m). subst (λ (j : ℕ). ltZ (key-at ks j) key ≡ true) (sym s) c)
+        (λ (s : k < m). lt-lt (key-at ks k) (key-at ks m) key (rises ks e k m s (let h′ : hi ≤ length ks = b .hi-le in omega arith)) c) (eq-or-lt-of-le (let h′ : k < m + 1 = h in omega arith));
     above = b .above;
   }
 
@@ -108,4 +109,5 @@ module _ (ks : List ℤ) (key : ℤ) (lo hi : ℕ) (b : Bracket ks key lo hi) (m
 
 pub over : (ks : List ℤ) (key : ℤ) (lo hi : ℕ) → Bracket ks key lo hi → hi ≤ lo → risingSeconds ks ≡ true → Nothing ≡ lookup ks key
 unfolding lookup
-over ks key lo hi b h e = sym (missed 0 ks key (λ k l. ⊎-elim (λ (s : k < lo). or-l _ _ (b .below e k s)) (λ (s : lo ≤ k). or-r (ltZ (key-at ks k) key) _ (b .above e k (omega arith) l)) (lt-or-ge k lo)))
+over ks key lo hi b h e = sym (missed 0 ks key
+    (λ k l. ⊎-elim (λ (s : k < lo). or-l _ _ (b .below e k s)) (λ (s : lo ≤ k). or-r (ltZ (key-at ks k) key) _ (b .above e k (omega arith) l)) (lt-or-ge k lo)))

@@ -18,7 +18,8 @@ use Rattle.windows.proofs.Filling.{slot-same}
 use Rattle.slots.specs.LookUp.{BothFit}
 use Rattle.inputs.specs.Inputs.{windowRoom}
 
-fit-long : (serves : Bool) (window : Float → Float → Table State) (nodes s s' : List Float) (base satellite : ℕ) (r : Bool) → WindowsFit serves window nodes s s' base satellite r → length s' ≡ length s
+fit-long : (serves : Bool) (window : Float → Float → Table State) (nodes s s' : List Float) (base satellite : ℕ) (r : Bool) → WindowsFit serves window nodes s s' base satellite r
+    → length s' ≡ length s
 fit-long serves window nodes s s' base satellite r f = by serves (λ e. f .filled e .long) (λ e. ap length (f .unfit e))
 
 module _ (serveC : Bool) (serveD : ℕ → Bool) (windowC windowD : Float → Float → Table State) (nodes s s₁ s₂ : List Float) (base : ℕ) (c d : Bool) (f : WindowsFit serveC windowC nodes s s₁ base 0 c)

@@ -122,7 +122,8 @@ unfolding find
 find-missed k [] f = refl
 find-missed k (e ∷ es) f = rw (f 0 (omega arith)) (find-missed k es (λ j h. f (suc j) (omega arith)))
 
-find-met : (k : ℤ) (table : Table State) (m : ℕ) → m < length table → ((j : ℕ) → j < m → sameSecond (nth table j .0) k ≡ false) → sameSecond (nth table m .0) k ≡ true → find k table ≡ some (nth table m .1)
+find-met : (k : ℤ) (table : Table State) (m : ℕ) → m < length table → ((j : ℕ) → j < m → sameSecond (nth table j .0) k ≡ false) → sameSecond (nth table m .0) k ≡ true
+    → find k table ≡ some (nth table m .1)
 unfolding find
 find-met k [] m h f e = absurd (omega arith)
 find-met k (x ∷ xs) zero h f e = rw e refl
@@ -264,7 +265,8 @@ held-back none = refl
 held-back (some x) = refl
 
 module _ (s : List Float) (first windows : ℕ) (t : Float) (w : ℕ) (empty : Empty s first windows t w) where
-  next : w < windows → (r : Held) → InSlot s (first + windowRoom * w) t r → (tables : ℕ → Table State) (k : ℤ) → isKey k ≡ true → t ≡ secondTime k → Shelved s first tables windows → find k (joined tables (suc w)) ≡ back r
+  next : w < windows → (r : Held) → InSlot s (first + windowRoom * w) t r → (tables : ℕ → Table State) (k : ℤ) → isKey k ≡ true → t ≡ secondTime k → Shelved s first tables windows
+      → find k (joined tables (suc w)) ≡ back r
   unfolding joined
   next l r f tables k key time h =
       find-both k (joined tables w) (tables w) (empty .is tables k key time h)

@@ -1,5 +1,5 @@
--- The fitted states of both satellites on their shelves: the slots of crate `windows`, one for each window of neighbouring nodes, and the look-up of a whole second over all of them
--- (document 01, module 8: the whole path uses the fitted states). Assumes nothing.
+-- The fitted states of both satellites in their slots: those of crate `windows`, one for each window of neighbouring nodes, and the look-up of a whole second
+-- over all of them (document 01, module 8: the whole path uses the fitted states). Assumes nothing.
 use mathlib.Core.Path.{_≡_}
 use mathlib.Core.Bool.{Bool, true}
 use mathlib.Core.List.{List, [], _++_, map}

@@ -5,8 +5,8 @@ ghost use Prim.Native.Nat.{ℕ, _+_, _*_, _≤_};
 ghost use lib.ListN.{length};
 ghost use Rattle.laws.specs.WholeNumbers.{number};
 ghost use Rattle.finality.specs.Brackets.{covers};
-ghost use Rattle.inputs.specs.Inputs.{windowRoom, slotRoom, frontSize};
-ghost use Rattle.integrate.specs.Force.{model, fullForce};
+ghost use Rattle.inputs.specs.Inputs.{modelOf, windowRoom, slotRoom, frontSize, lentList};
+ghost use Rattle.integrate.specs.Force.{fullForce};
 ghost use Rattle.fit.specs.Fit.{stateFor};
 ghost use Rattle.windows.specs.Windows.{windowBy, windowsServe};
 ghost use Rattle.slots.specs.LookUp.{Looked, Searched, InSlot, InSlots, BothFit};
@@ -96,44 +96,35 @@ pub fn held(
 }
 
 // The fitted states of both satellites, C in the even slots and D in the odd ones. True where the slices serve both.
-pub fn fill(
+pub fn fill<'a>(
     degree: usize,
-    field: &[f64],
-    a: &[f64],
-    b: &[f64],
-    times: &[f64],
-    added: &[f64],
-    ckeys: &[i64],
-    cstates: &[f64],
-    dkeys: &[i64],
-    dstates: &[f64],
+    model: inputs::Model<'a>,
+    keys: inputs::Keys<'a>,
+    states: inputs::Rows<'a>,
     nodes: &[f64],
     s: &mut [f64],
 ) -> bool
-    ensures { λ r. ⌜ BothFit (windowsServe degree (now (ckeys .entry)) (length (now (cstates .entry))) (now (nodes .entry)) 0 (length (now (s .entry))) && windowsServe degree (now (dkeys .entry)) (length (now (dstates .entry))) (now (nodes .entry)) 1 (length (now (s .entry)))) (windowBy (covers (now (times .entry))) (fullForce (model degree (now (field .entry)) (now (times .entry)) (now (added .entry))) (now (a .entry)) (now (b .entry))) (stateFor (now (ckeys .entry)) (now (cstates .entry)))) (windowBy (covers (now (times .entry))) (fullForce (model degree (now (field .entry)) (now (times .entry)) (now (added .entry))) (now (a .entry)) (now (b .entry))) (stateFor (now (dkeys .entry)) (now (dstates .entry)))) (now (nodes .entry)) (now (s .entry)) (now (s .exit)) (frontSize degree) r ⌝ }
+    ensures { λ r. ⌜ BothFit (windowsServe degree (lentList (keys .entry) 0) (length (lentList (states .entry) 0)) (now (nodes .entry)) 0
+        (length (now (s .entry))) && windowsServe degree (lentList (keys .entry) 1) (length (lentList (states .entry) 1)) (now (nodes .entry)) 1
+        (length (now (s .entry)))) (windowBy (covers (modelOf degree (model .entry) .fields .fieldTimes)) (fullForce (modelOf degree (model .entry)))
+        (stateFor (lentList (keys .entry) 0) (lentList (states .entry) 0)))
+        (windowBy (covers (modelOf degree (model .entry) .fields .fieldTimes)) (fullForce (modelOf degree (model .entry)))
+        (stateFor (lentList (keys .entry) 1) (lentList (states .entry) 1))) (now (nodes .entry)) (now (s .entry)) (now (s .exit)) (frontSize degree) r ⌝ }
 {
     let c = windows::kernel::fit_windows(
         degree,
-        field,
-        a,
-        b,
-        times,
-        added,
-        ckeys,
-        cstates,
+        model,
+        keys[inputs::C],
+        states[inputs::C],
         nodes,
         0,
         s,
     );
     let d = windows::kernel::fit_windows(
         degree,
-        field,
-        a,
-        b,
-        times,
-        added,
-        dkeys,
-        dstates,
+        model,
+        keys[inputs::D],
+        states[inputs::D],
         nodes,
         1,
         s,

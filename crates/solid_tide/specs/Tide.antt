@@ -5,7 +5,7 @@ use mathlib.Core.List.{List, [], _∷_}
 use lib.Dec.{ltb}
 use lib.ListN.{getD}
 use lib.Ieee.{Float, nan}
-use Rattle.laws.specs.Floats.{_⊕_, _⊗_, _⊘_, zero64, one64}
+use Rattle.laws.specs.Floats.{_⊕_, _⊗_, _⊘_, zero64}
 use Rattle.laws.specs.WholeNumbers.{number}
 use Rattle.numbers.specs.Numbers.{sine, cosine, arcsine, arctangent, power}
 use Rattle.vectors.specs.Vector.{norm}
@@ -42,7 +42,7 @@ loveNumbers =
 
 -- GM_j / GM · (R / r_j)^(n + 1) / (2n + 1)
 unfoldable pub ratio : Float → Float → ℕ → Float
-ratio gm r n = gm ⊘ earthGM ⊗ power (earthRadius ⊘ r) (n + 1) one64 ⊘ number (2 * n + 1)
+ratio gm r n = gm ⊘ earthGM ⊗ power (earthRadius ⊘ r) (n + 1) ⊘ number (2 * n + 1)
 
 -- what a body raises of degree n and order m, before cos mλ and sin mλ
 unfoldable pub weight : Float → Place → ℕ → ℕ → Float

@@ -189,8 +189,8 @@ fn raised_by(body: vectors::Vector, gm: f64) -> Raised
     let p = legendre(sc.sine, sc.cosine);
     let o = orders_of(at.lon);
     let q = R_E / at.r;
-    let k2 = gm / GM_E * numbers::power(q, 3, 1.0) / 5.0;
-    let k3 = gm / GM_E * numbers::power(q, 4, 1.0) / 7.0;
+    let k2 = gm / GM_E * numbers::power(q, 3) / 5.0;
+    let k3 = gm / GM_E * numbers::power(q, 4) / 7.0;
     let cos = o.cos;
     let sin = o.sin;
     Raised {

@@ -16,7 +16,9 @@ use Rattle.hex.specs.Digits.{isDigit, digitOf, wordAt, decimalAt, part, isWord,
 use Rattle.hex.specs.declared.Parsed.{Parsed}
 use Rattle.hex.specs.declared.Parsed.the-variants.{Value, Malformed}
 use Rattle.submission_text.specs.declared.Reading.{Reading}
-use Rattle.submission_text.specs.Text.{column, longCount, countIn, beginsWith, headerWith, names, headerOf, outside, leastCounts, mostCounts, countRefusal, coefficients, wordsIn, separator, isTerm, isRow, degreeRefusal, rowRefusal, degreeAfter, Taken, refusedBy, goesOn, only, unlessFault, headerFault, announced, headed, takenHeader, rowFault, rowTaken, takenRow, takenEnd, taken, readOf, Fed, lineLength}
+use Rattle.submission_text.specs.Text.{column, longCount, countIn, beginsWith, headerWith, names, headerOf, outside, leastCounts, mostCounts, countRefusal, coefficients, wordsIn, separator}
+use Rattle.submission_text.specs.Text.{isTerm, isRow, degreeRefusal, rowRefusal, degreeAfter, Taken, refusedBy, goesOn, only, unlessFault, headerFault, announced, headed, takenHeader}
+use Rattle.submission_text.specs.Text.{rowFault, rowTaken, takenRow, takenEnd, taken, readOf, Fed, lineLength}
 
 -- ---- words
 
@@ -87,7 +89,8 @@ pub header-none : (section : ℕ) (line : List ℕ) → 9 ≤ section → Malfor
 unfolding headerOf
 header-none section line h = sym (rw (le-ltb section 9 h))
 
-pub beyond : (section : ℕ) → (section ≡ 0 → ⊥) → (section ≡ 1 → ⊥) → (section ≡ 2 → ⊥) → (section ≡ 3 → ⊥) → (section ≡ 4 → ⊥) → (section ≡ 5 → ⊥) → (section ≡ 6 → ⊥) → (section ≡ 7 → ⊥) → (section ≡ 8 → ⊥) → 9 ≤ section
+pub beyond : (section : ℕ) → (section ≡ 0 → ⊥) → (section ≡ 1 → ⊥) → (section ≡ 2 → ⊥) → (section ≡ 3 → ⊥) → (section ≡ 4 → ⊥) → (section ≡ 5 → ⊥) → (section ≡ 6 → ⊥) → (section ≡ 7 → ⊥)
+    → (section ≡ 8 → ⊥) → 9 ≤ section
 beyond zero h0 h1 h2 h3 h4 h5 h6 h7 h8 = absurd (h0 refl)
 beyond (suc zero) h0 h1 h2 h3 h4 h5 h6 h7 h8 = absurd (h1 refl)
 beyond (suc (suc zero)) h0 h1 h2 h3 h4 h5 h6 h7 h8 = absurd (h2 refl)
@@ -334,7 +337,8 @@ module _ (n : ℕ) (g r : Reading) (before : List Float) (f : ℕ) (e : f ≡ he
       let room : g .filled + 1 ≤ length before = count-room (g .section) n (g .filled) (length before) f e z in
       let i : Fed t (g .filled) before r (set before (g .filled) x) = record {
         reading = er;
-        numbers = ap (λ (k : ℕ). take k (set before (g .filled) x)) (ap (λ (y : Reading). y .filled) er) ∙ take-set before (g .filled) x (omega arith) ∙ ap (λ (y : Float). take (g .filled) before ++ (y ∷ [])) ex;
+        numbers = ap (λ (k : ℕ). take k (set before (g .filled) x)) (ap (λ (y : Reading). y .filled) er) ∙ take-set before (g .filled) x (omega arith)
+            ∙ ap (λ (y : Float). take (g .filled) before ++ (y ∷ [])) ex;
       } in
       subst (λ (k : ℕ). Fed (unlessFault k g t) (g .filled) before r (set before (g .filled) x)) (sym z ∙ e) i
 
@@ -350,7 +354,8 @@ module _ (room : ℕ) (line : List ℕ) (g r : Reading) (before after : List Flo
 take-mid : (a e : ℕ) (xs ys : List Float) → a ≤ e → e ≤ length xs → length ys ≡ e - a → take e (putMid a (e - a) xs ys) ≡ take a xs ++ ys
 take-mid a e xs ys h g l =
     ap (take e) (sym (append-assoc (take a xs) ys (postOf a (e - a) xs)))
-    ∙ take-at (take a xs ++ ys) (postOf a (e - a) xs) e (length-append (take a xs) ys ∙ rw (length-take-le a xs (let q : a ≤ length xs = omega arith in q), l) (let q : a + (e - a) ≡ e = omega arith in q))
+    ∙ take-at (take a xs ++ ys) (postOf a (e - a) xs) e
+    (length-append (take a xs) ys ∙ rw (length-take-le a xs (let q : a ≤ length xs = omega arith in q), l) (let q : a + (e - a) ≡ e = omega arith in q))
 
 column-length : (line : List ℕ) (at k : ℕ) → length (column line at k) ≡ k
 unfolding column
@@ -379,7 +384,8 @@ module _ (line : List ℕ) (g r : Reading) (before : List Float) (w f : ℕ) (ew
       let l : length ys ≡ g .filled + w - g .filled = ap length ec ∙ column-length line 0 w ∙ sym q in
       let i : Fed t (g .filled) before r after = record {
         reading = er ∙ ap (goesOn (g .section) (g .left - 1) (g .filled + w)) ed;
-        numbers = ap (λ (k : ℕ). take k after) (ap (λ (y : Reading). y .filled) er) ∙ take-mid (g .filled) (g .filled + w) before ys (omega arith) room l ∙ ap (λ (y : List Float). take (g .filled) before ++ y) ec;
+        numbers = ap (λ (k : ℕ). take k after) (ap (λ (y : Reading). y .filled) er) ∙ take-mid (g .filled) (g .filled + w) before ys (omega arith) room l
+            ∙ ap (λ (y : List Float). take (g .filled) before ++ y) ec;
       } in
       subst (λ (k : ℕ). Fed (rowTaken (length before) k line g) (g .filled) before r after) ew
       (subst (λ (k : ℕ). Fed (unlessFault k g t) (g .filled) before r after) (sym z ∙ e) i)

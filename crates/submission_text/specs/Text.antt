@@ -1,4 +1,5 @@
--- A submission as text: nine sections, each a header `NAME COUNT` and COUNT lines of words. What one more line adds to what was read. Bytes are ASCII. Assumes nothing.
+-- A submission as text: nine sections, each a header `NAME COUNT` and COUNT lines of words. What one more line adds to what was read. Bytes are ASCII.
+-- Assumes nothing.
 use mathlib.Core.Path.{_≡_}
 use mathlib.Core.Bool.{Bool, true, false, cond, not, _&&_}
 use mathlib.Core.List.{List, [], _∷_, _++_}
@@ -132,7 +133,8 @@ headerFault section n filled room = cond (leb (filled + 1) room) (countRefusal s
 
 unfoldable pub announced : ℕ → Reading → ℕ → Taken
 announced room r n =
-    unlessFault (headerFault (r .section) n (r .filled) room) r (record { reading = goesOn (r .section) n (r .filled + 1) (r .degree); numbers = ofBits binary64 n ∷ [] })
+    unlessFault (headerFault (r .section) n (r .filled) room) r
+    (record { reading = goesOn (r .section) n (r .filled + 1) (r .degree); numbers = ofBits binary64 n ∷ [] })
 
 abbrev pub headed : ℕ → Reading → Parsed → Taken
 headed room r (Value n) = announced room r n
@@ -154,7 +156,8 @@ takenRow room line r = rowTaken room (wordsIn (r .section) (r .degree)) line r
 
 unfoldable pub takenEnd : List ℕ → Reading → Reading
 takenEnd line r =
-    cond (eqb (r .section) 9 && eqb (length line) 0) (record { section = 10; left = r .left; filled = r .filled; degree = r .degree; fault = 0 }) (refusedBy 11 r)
+    cond (eqb (r .section) 9 && eqb (length line) 0) (record { section = 10; left = r .left; filled = r .filled; degree = r .degree; fault = 0 })
+    (refusedBy 11 r)
 
 -- one more line, with room for so many numbers; the empty line is the end of the text, and after a refusal nothing is taken
 unfoldable pub taken : ℕ → List ℕ → Reading → Taken

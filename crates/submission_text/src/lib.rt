@@ -6,7 +6,10 @@ ghost use lib.ListN.{length};
 ghost use lib.Dec.{leb};
 ghost use Rattle.hex.specs.Digits.{isDigit, wordAt, isWord, bitsOf, floatAt};
 ghost use Rattle.laws.specs.Checks.{all};
-ghost use Rattle.submission_text.specs.Text.{column, longCount, countIn, beginsWith, headerWith, headerOf, coefficients, wordsIn, outside, countRefusal, separator, isTerm, isRow, degreeRefusal, rowRefusal, degreeAfter, rowFault, headerFault, begun, refusedBy, goesOn, announced, takenHeader, takenRow, takenEnd, taken, lineLength, Fed};
+ghost use Rattle.submission_text.specs.Text.{column, longCount, countIn, beginsWith, headerWith, headerOf, coefficients, wordsIn, outside};
+ghost use Rattle.submission_text.specs.Text.{countRefusal, separator, isTerm, isRow, degreeRefusal, rowRefusal, degreeAfter, rowFault};
+ghost use Rattle.submission_text.specs.Text.{headerFault, begun, refusedBy, goesOn, announced, takenHeader, takenRow, takenEnd, taken};
+ghost use Rattle.submission_text.specs.Text.{lineLength, Fed};
 use hex;
 use slices;
 
@@ -350,7 +353,8 @@ fn take_count(n: u64, reading: Reading, numbers: &mut [f64]) -> Reading
 
 fn take_header(line: &[u8], reading: Reading, numbers: &mut [f64]) -> Reading
     requires { ⌜ reading .section < 9 ⌝ }
-    ensures { λ r. ⌜ Fed (takenHeader (length (now (numbers .entry))) (now (line .entry)) reading) (reading .filled) (now (numbers .entry)) r (now (numbers .exit)) ⌝ }
+    ensures { λ r. ⌜ Fed (takenHeader (length (now (numbers .entry))) (now (line .entry)) reading) (reading .filled) (now (numbers .entry)) r
+        (now (numbers .exit)) ⌝ }
 {
     let section = reading.section;
     let head = header_of(section, line);
@@ -362,7 +366,8 @@ fn take_header(line: &[u8], reading: Reading, numbers: &mut [f64]) -> Reading
 
 fn take_row(line: &[u8], reading: Reading, numbers: &mut [f64]) -> Reading
     requires { ⌜ (reading .section < 9) × (0 < reading .left) ⌝ }
-    ensures { λ r. ⌜ Fed (takenRow (length (now (numbers .entry))) (now (line .entry)) reading) (reading .filled) (now (numbers .entry)) r (now (numbers .exit)) ⌝ }
+    ensures { λ r. ⌜ Fed (takenRow (length (now (numbers .entry))) (now (line .entry)) reading) (reading .filled) (now (numbers .entry)) r
+        (now (numbers .exit)) ⌝ }
 {
     let section = reading.section;
     let left = reading.left;
@@ -400,7 +405,8 @@ fn take_end(line: &[u8], reading: Reading) -> Reading
 
 // Takes one line, the empty one at the end of the text. After a refusal nothing is taken.
 pub fn feed(line: &[u8], reading: Reading, numbers: &mut [f64]) -> Reading
-    ensures { λ r. ⌜ Fed (taken (length (now (numbers .entry))) (now (line .entry)) reading) (reading .filled) (now (numbers .entry)) r (now (numbers .exit)) ⌝ }
+    ensures { λ r. ⌜ Fed (taken (length (now (numbers .entry))) (now (line .entry)) reading) (reading .filled) (now (numbers .entry)) r (now (numbers .exit))
+        ⌝ }
 {
     let section = reading.section;
     let left = reading.left;

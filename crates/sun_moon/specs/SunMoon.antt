@@ -1,4 +1,5 @@
--- Where the Sun and the Moon are: the low-precision series of Montenbruck and Gill (2000, §3.3.2), turned to Earth-fixed axes by Greenwich mean sidereal time. Assumes nothing.
+-- Where the Sun and the Moon are: the low-precision series of Montenbruck and Gill (2000, §3.3.2), turned to Earth-fixed axes by Greenwich mean sidereal
+-- time. Assumes nothing.
 use Prim.Native.Nat.{ℕ}
 use mathlib.Core.List.{List, [], _∷_}
 use lib.ListN.{getD}

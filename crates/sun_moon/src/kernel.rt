@@ -2,7 +2,8 @@
 ghost use mathlib.Core.Path.{_≡_};
 ghost use Prim.Native.Nat.{_<_};
 ghost use lib.ListN.{length};
-ghost use Rattle.sun_moon.specs.SunMoon.{centuries, arguments, angle, sineTerms, cosineTerms, longitude, latitude, distance, equatorial, sun, moon, sidereal, turned, sunMoon};
+ghost use Rattle.sun_moon.specs.SunMoon.{centuries, arguments, angle, sineTerms, cosineTerms, longitude, latitude, distance, equatorial, sun};
+ghost use Rattle.sun_moon.specs.SunMoon.{moon, sidereal, turned, sunMoon};
 use numbers;
 use vectors;
 

@@ -43,7 +43,8 @@ fine-says a b h =
       short = and-r (lt a b) (lt (b ⊖ a) longest) rest;
     }
 
-pub arc-fine : (a b t0 : Float) (n : Prim.Native.Nat.ℕ) (g : Bool) → g ≡ windowFine a b → g ≡ true → t0 ≡ start a → n ≡ steps a b → record { t0 = t0; steps = n; node = a; period = b ⊖ a } ≡ arcBetween a b
+pub arc-fine : (a b t0 : Float) (n : Prim.Native.Nat.ℕ) (g : Bool) → g ≡ windowFine a b → g ≡ true → t0 ≡ start a → n ≡ steps a b
+    → record { t0 = t0; steps = n; node = a; period = b ⊖ a } ≡ arcBetween a b
 unfolding arcBetween
 arc-fine a b t0 n g eg h et en = rw (sym eg ∙ h) (λ i. record { t0 = et i; steps = en i; node = a; period = b ⊖ a })
 

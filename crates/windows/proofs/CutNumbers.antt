@@ -3,7 +3,8 @@ use mathlib.Core.Path.{_≡_, refl, sym, ap, _∙_, subst}
 use mathlib.Core.Logic.{inl, inr}
 use mathlib.Core.Bool.{Bool, true, false, not, _||_, Bool·beq}
 use Prim.Native.Nat.{ℕ, suc, _+_, _-_, _*_, _/_, _^_, _≤_, _<_, min, zero-le}
-use native.Mathlib.Nat.{le-antisymm, le-of-suc-le-suc, div-lt-iff-lt-mul, le-div-iff-mul-le, min-eq-left, min-eq-right, suc-mul, add-mul, mul-right-comm, lt-of-mul-lt-mul-right, div-mul-le-self, lt-div-mul-add}
+use native.Mathlib.Nat.{le-antisymm, le-of-suc-le-suc, div-lt-iff-lt-mul, le-div-iff-mul-le, min-eq-left, min-eq-right, suc-mul, add-mul, mul-right-comm, lt-of-mul-lt-mul-right, div-mul-le-self}
+use native.Mathlib.Nat.{lt-div-mul-add}
 use native.Mathlib.Omega.{arith}
 use lib.Dec.{T, eqb, ltb, ltb→lt, nltb→le}
 use lib.IntN.{ℤ, pos}
@@ -147,7 +148,8 @@ zero-number = refl
 zero-value : (m : ℕ) (e : ℤ) (s : Bool) → T (eq (fin s m e) zero64) → m * up e ≡ 0
 unfolding eq ofBits
 zero-value m e s h =
-    let g : m * up e * 1 ≡ 0 * up (pos 0) * down e = lib.Dec.eqb→eq (m * up e * 1) (0 * up (pos 0) * down e) (lib.Ieee.Fits.and-l (eqb (m * up e * 1) (0 * up (pos 0) * down e)) (Bool·beq s false || eqb (m * up e * 1) 0) h) in
+    let g : m * up e * 1 ≡ 0 * up (pos 0) * down e = lib.Dec.eqb→eq (m * up e * 1) (0 * up (pos 0) * down e)
+    (lib.Ieee.Fits.and-l (eqb (m * up e * 1) (0 * up (pos 0) * down e)) (Bool·beq s false || eqb (m * up e * 1) 0) h) in
     omega (arith, g)
 
 rounds-zero : (s : Bool) (a c : ℕ) → a ≡ 0 → 0 < c → round binary64 s (0 * up (pos 0) * a) (down (pos 0) * c) ≡ round binary64 s 0 1

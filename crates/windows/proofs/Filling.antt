@@ -21,7 +21,7 @@ use Rattle.laws.specs.Bools.{by}
 use Rattle.laws.specs.Tables.{row, row-length}
 use Rattle.finality.specs.Tables.{Table}
 use Rattle.finality.specs.Arcs.{longest, start, steps, arcOf, inside}
-use Rattle.finality.proofs.Windows.{states-short}
+use Rattle.finality.proofs.WindowTimes.{states-short}
 use Rattle.vectors.specs.declared.Vector.{Vector}
 use Rattle.integrate.specs.Room.{Run, Holds3, Orbit}
 use Rattle.integrate.specs.declared.kernel.State.{State}
@@ -64,7 +64,8 @@ slot-same at s s' table few e h = record {
 
 -- ---- one window
 
-serves-arc : (N n : ℕ) (keys : List ℤ) (states room : ℕ) → N ≤ 180 → n ≤ 5302 → states ≡ 6 * length keys → frontSize N + workSize ≤ room → risingSeconds keys ≡ true → arcServes N n keys states room ≡ true
+serves-arc : (N n : ℕ) (keys : List ℤ) (states room : ℕ) → N ≤ 180 → n ≤ 5302 → states ≡ 6 * length keys → frontSize N + workSize ≤ room → risingSeconds keys ≡ true
+    → arcServes N n keys states room ≡ true
 unfolding arcServes
 serves-arc N n keys states room a b c d e = simp (le-leb N 180 a, le-leb n 5302 b, eq-eqb states (6 * length keys) c, le-leb (frontSize N + workSize) room d, e)
 
@@ -107,7 +108,8 @@ module _ (covered : Float → Bool) (full : Float → Vector → Vector) (look :
       (f .fits (serves-arc N n keys states (length s) dn ln es (omega (arith, eb)) rise)))
 
   -- a fit that is refused leaves none
-  pub refused-leaves : T (lt (b ⊖ a) longest) → (s s₁ : List Float) (base at : ℕ) (answer : Fitted) (code : ℕ) → answer ≡ Refused code → base + workSize ≤ at → Fits covered full look arc s s₁ base answer → Leaves table s s₁ base at 0
+  pub refused-leaves : T (lt (b ⊖ a) longest) → (s s₁ : List Float) (base at : ℕ) (answer : Fitted) (code : ℕ) → answer ≡ Refused code → base + workSize ≤ at
+      → Fits covered full look arc s s₁ base answer → Leaves table s s₁ base at 0
   unfolding inside
   refused-leaves short s s₁ base at answer code e l f = subst (λ (t : Table State). Leaves t s s₁ base at 0) (sym none) (record {
     entries = record { each = λ j h. absurd (omega arith) };
@@ -120,7 +122,8 @@ module _ (covered : Float → Bool) (full : Float → Vector → Vector) (look :
       none = short-table short (Refused code) (sym e ∙ f .said)
 
   -- else those of its states that lie inside
-  pub fitted-leaves : T (lt (b ⊖ a) longest) → (s s₁ s₂ : List Float) (base at n r : ℕ) (t0 : Float) (answer : Fitted) (x : Float) → answer ≡ Rms x → t0 ≡ start a → n ≡ steps a b → base + workSize ≤ at →
+  pub fitted-leaves : T (lt (b ⊖ a) longest) → (s s₁ s₂ : List Float) (base at n r : ℕ) (t0 : Float) (answer : Fitted) (x : Float) → answer ≡ Rms x → t0 ≡ start a → n ≡ steps a b
+      → base + workSize ≤ at →
       Fits covered full look arc s s₁ base answer → Keeps t0 a b n s₁ s₂ base at r → Leaves table s s₂ base at r
   fitted-leaves short s s₁ s₂ base at n r t0 answer x e et en l f k = subst (λ (t : Table State). Leaves t s s₂ base at r) (sym is) (record {
     entries = k .all run (subst (λ (m : ℕ). Orbit s₁ base run (m + 1)) (sym en) (f .states x e));
@@ -142,7 +145,8 @@ module _ (covered : Float → Bool) (full : Float → Vector → Vector) (look :
           ∙ ap (λ (m : ℕ). inside t0 a b 0 (row run m)) (let q = en in omega (arith, q))
 
 -- the count in front
-pub windowed : (table : Table State) (s s₁ : List Float) (base at n : ℕ) (x : Float) → base + fitRoom ≤ at → at + slotRoom ≤ length s → x ≡ number n → Leaves table s s₁ base (at + 1) n → Windowed table s (set s₁ at x) base at
+pub windowed : (table : Table State) (s s₁ : List Float) (base at n : ℕ) (x : Float) → base + fitRoom ≤ at → at + slotRoom ≤ length s → x ≡ number n → Leaves table s s₁ base (at + 1) n
+    → Windowed table s (set s₁ at x) base at
 windowed table s s₁ base at n x l room ex f = record {
   slot = record {
     count = getD-set-same s₁ at x nan (omega (arith, f .apart .long)) ∙ ex ∙ ap number (f .counted);
@@ -246,20 +250,24 @@ pub room-all : (N nodes room base : ℕ) → N ≤ 180 → base ≡ frontSize N 
 unfolding roomFor
 room-all N nodes room base h e l = ap (λ (m : ℕ). leb nodes ((room - (m + fitRoom)) / windowRoom + 1)) e ∙ sym (simp (le-leb N 180 h, le-leb (frontSize N + fitRoom) room (omega (arith, e))))
 
-pub serves-all : (N : ℕ) (keys : List ℤ) (states : ℕ) (nodes : List Float) (satellite room : ℕ) (r x y o p q z u v : Bool) → r ≡ roomFor N (length nodes) room → x ≡ leb satellite 1 && eqb states (6 * length keys) → y ≡ r && x →
+pub serves-all : (N : ℕ) (keys : List ℤ) (states : ℕ) (nodes : List Float) (satellite room : ℕ) (r x y o p q z u v : Bool) → r ≡ roomFor N (length nodes) room
+    → x ≡ leb satellite 1 && eqb states (6 * length keys) → y ≡ r && x →
     o ≡ risingSeconds keys → p ≡ all isTime nodes → q ≡ rising nodes → z ≡ p && q → u ≡ o && z → v ≡ y && u → v ≡ windowsServe N keys states nodes satellite room
 unfolding windowsServe
-serves-all N keys states nodes satellite room r x y o p q z u v er ex ey eo ep eq ez eu ev = ev ∙ (λ i. ey i && eu i) ∙ (λ i. (er i && ex i) && (eo i && ez i)) ∙ (λ i. (roomFor N (length nodes) room && (leb satellite 1 && eqb states (6 * length keys))) && (risingSeconds keys && (ep i && eq i)))
+serves-all N keys states nodes satellite room r x y o p q z u v er ex ey eo ep eq ez eu ev = ev ∙ (λ i. ey i && eu i) ∙ (λ i. (er i && ex i) && (eo i && ez i))
+    ∙ (λ i. (roomFor N (length nodes) room && (leb satellite 1 && eqb states (6 * length keys))) && (risingSeconds keys && (ep i && eq i)))
 
 pub fit-filled : (window : Float → Float → Table State) (nodes s s' : List Float) (N satellite base : ℕ) (serves answer : Bool) → answer ≡ serves → answer ≡ true → base ≡ frontSize N →
     Filled window nodes (length nodes - 1) s s' base (base + fitRoom + slotRoom * satellite) → WindowsFit serves window nodes s s' (frontSize N) satellite true
 fit-filled window nodes s s' N satellite base serves answer e t eb f = record {
   says = sym t ∙ e;
-  filled = λ h. subst (λ (m : ℕ). Filled window nodes (length nodes - 1) s s' (frontSize N) m) (omega arith) (subst (λ (m : ℕ). Filled window nodes (length nodes - 1) s s' m (m + fitRoom + slotRoom * satellite)) eb f);
+  filled = λ h. subst (λ (m : ℕ). Filled window nodes (length nodes - 1) s s' (frontSize N) m) (omega arith)
+      (subst (λ (m : ℕ). Filled window nodes (length nodes - 1) s s' m (m + fitRoom + slotRoom * satellite)) eb f);
   unfit = λ h. absurd (false≢true (sym h ∙ sym e ∙ t));
 }
 
-pub fit-unfit : (window : Float → Float → Table State) (nodes s : List Float) (N satellite : ℕ) (serves answer : Bool) → answer ≡ serves → answer ≡ false → WindowsFit serves window nodes s s (frontSize N) satellite false
+pub fit-unfit : (window : Float → Float → Table State) (nodes s : List Float) (N satellite : ℕ) (serves answer : Bool) → answer ≡ serves → answer ≡ false
+    → WindowsFit serves window nodes s s (frontSize N) satellite false
 fit-unfit window nodes s N satellite serves answer e f = record {
   says = sym f ∙ e;
   filled = λ h. absurd (false≢true (sym f ∙ e ∙ h));

@@ -10,11 +10,12 @@ use lib.Dec.{T, leb, leb→le}
 use lib.IntN.{ℤ}
 use lib.ListN.{length}
 use lib.Ieee.{Float, div, ofBits}
+use Rattle.inputs.specs.Inputs.{Fixed}
 use Rattle.laws.specs.Floats.{_⊕_, _⊘_, two64}
 use Rattle.laws.specs.Times.{second, step, stepTime}
 use Rattle.laws.specs.Tables.{row-length, row-same}
 use Rattle.finality.specs.Arcs.{Arc, halfStep}
-use Rattle.finality.proofs.Fits.{LawfulFit}
+use Rattle.finality.proofs.ArcFits.{LawfulFit}
 use Rattle.vectors.specs.Vector.{plus}
 use Rattle.vectors.specs.declared.Vector.{Vector}
 use Rattle.forces.specs.Forces.{tidesOf}
@@ -24,7 +25,7 @@ use Rattle.fit.specs.Fit.{fitOf, orbitOf}
 use Rattle.fit.specs.declared.kernel.Fitted.{Fitted}
 use Rattle.fit.specs.declared.kernel.Fitted.the-variants.{Fitted as Rms, Refused}
 use Rattle.fit.proofs.Locality.{Agree, SameReads, fit-same, orbit-same}
-use Rattle.windows.specs.Stage.{Setting, fieldGravity, fullOf, arcStruct, heldOf, lookOf, statesOf, fitStage}
+use Rattle.windows.specs.Stage.{fieldGravity, fullOf, arcStruct, heldOf, lookOf, statesOf, fitFrom, fitStage}
 
 -- ---- lists of states
 
@@ -46,7 +47,7 @@ half-step : two64 ⊘ two64 ≡ halfStep
 unfolding div ofBits
 half-step = refl
 
-module _ (S : Setting) (c c' : Float → Bool) (m m' : Float → List Float) (g g' : ℤ → Option State) (arc : Arc)
+module _ (S : Fixed) (c c' : Float → Bool) (m m' : Float → List Float) (g g' : ℤ → Option State) (arc : Arc)
     (first : c (arc .t0) ≡ c' (arc .t0)) (start : g (second (arc .t0)) ≡ g' (second (arc .t0)))
     (covers : (i : ℕ) → i ≤ arc .steps → c (stepTime (arc .t0) i) ≡ c' (stepTime (arc .t0) i))
     (at-step : (i : ℕ) → i < arc .steps → m (stepTime (arc .t0) i) ≡ m' (stepTime (arc .t0) i))
@@ -81,7 +82,7 @@ module _ (S : Setting) (c c' : Float → Bool) (m m' : Float → List Float) (g 
   }
 
   fit-reads-same : fitStage S c m g arc ≡ fitStage S c' m' g' arc
-  unfolding fitStage
+  unfolding fitFrom
   fit-reads-same = go (leb (arc .steps) 5302) (leb→le (arc .steps) 5302)
     where
       go : (b : Bool) → (T b → arc .steps ≤ 5302) →
@@ -93,13 +94,13 @@ module _ (S : Setting) (c c' : Float → Bool) (m m' : Float → List Float) (g 
           (fit-same c c' (fullOf S m) (fullOf S m') (lookOf g) (lookOf g') (arcStruct arc) (h tt) same-reads)
           (λ k l. orbit-same c c' (fullOf S m) (fullOf S m') (lookOf g) (lookOf g') (arcStruct arc) (h tt) same-reads k (omega arith))
 
-fit-length : (S : Setting) (c : Float → Bool) (m : Float → List Float) (g : ℤ → Option State) (arc : Arc) → length (fitStage S c m g arc) ≤ suc (arc .steps)
-unfolding fitStage
+fit-length : (S : Fixed) (c : Float → Bool) (m : Float → List Float) (g : ℤ → Option State) (arc : Arc) → length (fitStage S c m g arc) ≤ suc (arc .steps)
+unfolding fitFrom
 fit-length S c m g arc = go (leb (arc .steps) 5302)
   where
     go : (b : Bool) → length (cond b (statesOf (fitOf c (fullOf S m) (lookOf g) (arcStruct arc)) (orbitOf (fullOf S m) (lookOf g) (arcStruct arc)) (arc .steps)) []) ≤ suc (arc .steps)
     go true = states-length (fitOf c (fullOf S m) (lookOf g) (arcStruct arc)) (orbitOf (fullOf S m) (lookOf g) (arcStruct arc)) (arc .steps)
     go false = omega arith
 
-pub lawful-fit : (S : Setting) → LawfulFit (fitStage S)
+pub lawful-fit : (S : Fixed) → LawfulFit (fitStage S)
 lawful-fit S = record { fit-length = fit-length S; fit-reads = fit-reads-same S }

@@ -1,61 +1,68 @@
--- The code's full attraction and look-up of states are those of the stage: the field at a time with the numbers that the degree gives, and the first row at a whole second. Assumes nothing.
+-- The code's full attraction and look-up of states are those of the stage: the gravity of the field at a time, and the first row at a whole second. Assumes nothing.
 use mathlib.Core.Path.{_≡_, refl, sym, ap, _∙_}
 use mathlib.Core.Bool.{true, false, not, _||_}
 use mathlib.Core.List.{List, [], _∷_, _++_}
-use Prim.Native.Nat.{ℕ, suc, _+_, _*_, _≤_}
-use native.Mathlib.Numerals.{add-one}
+use Prim.Native.Nat.{ℕ, suc, _+_, _*_}
 use native.Mathlib.Omega.{arith}
 use lib.IntN.{ℤ}
 use lib.Signed.{ltZ}
 use lib.Ieee.{Float, nan}
-use lib.ListN.{length, getD, drop, replicate, length-replicate}
-use Rattle.inputs.specs.Inputs.{frontSize}
-use Rattle.laws.specs.Floats.{zero64}
-use Rattle.laws.specs.Tables.{tri, rows}
+use lib.ListN.{length, getD, take, drop}
+use Rattle.inputs.specs.Inputs.{Model, kind, Fixed}
+use Rattle.laws.specs.Tables.{rows}
 use Rattle.laws.specs.Times.{second}
 use Rattle.laws.specs.Bools.{by}
 use Rattle.numbers.specs.Seconds.{isHeld, wholeSecond}
 use Rattle.vectors.specs.Vector.{plus}
 use Rattle.vectors.specs.declared.Vector.{Vector}
 use Rattle.legendre.specs.Legendre.{aOf, bOf}
-use Rattle.legendre.specs.Prepared.{prepared}
-use Rattle.legendre.proofs.Published.{prepared-prepared}
 use Rattle.solid_tide.specs.Gravity.{gravityOf}
-use Rattle.forces.specs.Forces.{gravityWith, tidesOf}
-use Rattle.forces.proofs.Published.{front-published}
-use Rattle.model.specs.Field.{gm, radius}
-use Rattle.model.specs.Model.{fieldAt}
-use Rattle.model.specs.Calls.{atFits, atLeft}
-use Rattle.integrate.specs.Force.{model, frontAt, fullForce}
+use Rattle.forces.specs.Forces.{gravityBy, tidesOf}
+use Rattle.forces.proofs.Published.{lent-gravity}
+use Rattle.model.specs.Field.{gm, radius, cosines, sines}
+use Rattle.model.specs.Model.{kindAt, fieldAt}
+use Rattle.model.proofs.Checks.{kind-long}
+use Rattle.integrate.specs.Force.{gravityAt, fullForce}
+use Rattle.integrate.proofs.Published.{Sized, gravity-lent}
 use Rattle.integrate.specs.Room.{stateIn}
 use Rattle.finality.specs.Tables.{sameSecond, find}
 use Rattle.finality.proofs.Lookup.{same-order}
 use Rattle.slices.specs.Slices.{lookup, lookupFrom}
 use Rattle.fit.specs.Fit.{heldAt, stateFor}
 use Rattle.fit.specs.declared.kernel.Held.the-variants.{Known}
-use lib.Seq.{drop-drop, getD-drop}
-use Rattle.windows.specs.Stage.{setting, front, fieldGravity, fullOf, heldOf, lookOf, statesIn}
+use lib.Seq.{take-at, drop-at, drop-drop, getD-drop}
+use Rattle.windows.specs.Stage.{fieldGravity, fullOf, heldOf, lookOf, statesIn}
 
--- the numbers before a run's states are the field at t and what the degree gives, where the lengths fit
-pub front-is : (N : ℕ) (field ts added : List Float) (t : Float) → atFits N (length field) (length ts) (length added) (length (prepared N (replicate (frontSize N) zero64))) ≡ true →
-    frontAt (model N field ts added) t ≡ front N (fieldAt N field ts added t)
-unfolding frontAt atLeft front
-front-is N field ts added t e = rw e (ap (λ (m : ℕ). fieldAt N field ts added t ++ drop (2 * tri m) (prepared N (replicate (frontSize N) zero64))) (add-one N))
+-- ---- the gravity of a field
 
-pub full-is : (N : ℕ) (field a b ts added : List Float) → atFits N (length field) (length ts) (length added) (length (prepared N (replicate (frontSize N) zero64))) ≡ true → (t : Float) (x : Vector) →
-    fullForce (model N field ts added) a b t x ≡ fullOf (setting N field a b) (fieldAt N field ts added) t x
-unfolding fullForce fieldGravity
-full-is N field a b ts added e t x =
-    ap (λ (l : List Float). plus (gravityWith N (gm field) (radius field) a b l x) (tidesOf t x)) (front-is N field ts added t e)
+-- both kinds apart
+field-kinds : (S : Fixed) (c s : List Float) → length c ≡ kind (S .degree) → gravityBy (S .degree) (gm (S .static)) (radius (S .static)) (S .a) (S .b) c s ≡ fieldGravity S (c ++ s)
+unfolding fieldGravity
+field-kinds S c s long =
+    λ i. gravityBy (S .degree) (gm (S .static)) (radius (S .static)) (S .a) (S .b) (sym (take-at c s (kind (S .degree)) long) i) (sym (drop-at c s (kind (S .degree)) long) i)
 
--- with the Legendre tables that `Legendre::new` fills, the stage's gravity of a field of coefficients c, s is that of their published series
-pub stage-published : (N : ℕ) (static c s : List Float) (x : Vector) → N ≤ 180 → length c ≡ tri (N + 1) → length s ≡ tri (N + 1) →
-    fieldGravity (setting N static (rows aOf (N + 1)) (rows bOf (N + 1))) (c ++ s) x ≡ gravityOf N (gm static) (radius static) c s x
-unfolding fieldGravity front
-stage-published N static c s x h lc ls =
-    let w : List Float = replicate (frontSize N) zero64 in
-    ap (λ (m : ℕ). gravityWith N (gm static) (radius static) (rows aOf (N + 1)) (rows bOf (N + 1)) ((c ++ s) ++ drop (2 * tri m) (prepared N w)) x) (sym (add-one N))
-    ∙ front-published N c s (prepared N w) lc ls (prepared-prepared N w h (omega (arith, length-replicate (frontSize N) zero64))) (gm static) (radius static) x h
+-- the stage's gravity of the field at t is that of a run and of an epoch
+pub gravity-is : (M : Model) → Sized M → (t : Float) (x : Vector) → gravityAt M t x ≡ fieldGravity (M .fixed) (fieldAt M t) x
+gravity-is M sized t x =
+    let N : ℕ = M .fixed .degree in
+    let c : List Float = kindAt cosines M t in
+    let s : List Float = kindAt (sines N) M t in
+    gravity-lent M sized t x
+    ∙ ap (λ (gravity : Vector → Vector). gravity x) (field-kinds (M .fixed) c s (kind-long cosines M t))
+
+pub full-is : (M : Model) → Sized M → (t : Float) (x : Vector) → fullForce M t x ≡ fullOf (M .fixed) (fieldAt M) t x
+unfolding fullForce
+full-is M sized t x = ap (λ (g : Vector). plus g (tidesOf t x)) (gravity-is M sized t x)
+
+-- the gravity of the published series of a field of both kinds
+abbrev pub publishedGravity : ℕ → List Float → List Float → Vector → Vector
+publishedGravity N static field x = gravityOf N (gm static) (radius static) (take (kind N) field) (drop (kind N) field) x
+
+-- with the Legendre tables that `Legendre::new` fills the stage's gravity is that
+pub stage-published : (N : ℕ) (static field : List Float) (x : Vector) →
+    fieldGravity (record { degree = N; static = static; a = rows aOf (N + 1); b = rows bOf (N + 1) }) field x ≡ publishedGravity N static field x
+unfolding fieldGravity
+stage-published N static field x = lent-gravity N (gm static) (radius static) (take (kind N) field) (drop (kind N) field) x
 
 -- ---- the look-up of states
 

@@ -35,7 +35,8 @@ entered s s' at second state h w =
         position = w .position room;
         velocity = let q : at + 1 + 3 ≡ at + 4 = omega arith in subst (λ (m : ℕ). Holds3 s' m (state .velocity)) q (w .velocity room);
       };
-      only = only-then at (at + 7) at (at + 1) (at + 1) (at + 1 + 6) s (set s at (secondTime second)) s' (set-only s at (secondTime second)) (w .only) (omega arith) (omega arith) (omega arith) (omega arith);
+      only = only-then at (at + 7) at (at + 1) (at + 1) (at + 1 + 6) s (set s at (secondTime second)) s' (set-only s at (secondTime second)) (w .only) (omega arith) (omega arith) (omega arith)
+          (omega arith);
     }
 
 -- a state apart from a change stays
@@ -46,7 +47,8 @@ entry-stays a e at s s' x o h f = record {
   velocity = stays3 a e (at + 4) s s' (x .1 .velocity) o (h .velocity) (λ k p q u v. f k (omega arith) (omega arith) u v);
 }
 
-entries-more : (s s' : List Float) (at : ℕ) (table : Table State) (second : ℤ) (state : State) → Entries s at table → Entered s s' (at + 7 * length table) second state → Entries s' at (table ++ ((second, state) ∷ []))
+entries-more : (s s' : List Float) (at : ℕ) (table : Table State) (second : ℤ) (state : State) → Entries s at table → Entered s s' (at + 7 * length table) second state
+    → Entries s' at (table ++ ((second, state) ∷ []))
 entries-more s s' at table second state h w = record {
   each = λ j l.
       let long : length (table ++ ((second, state) ∷ [])) ≡ length table + 1 = length-append table ((second, state) ∷ []) in
@@ -77,7 +79,8 @@ keeping-out s at n b second state e = subst (λ (x : Bool). Keeping s s at n x s
 pub keeping-at : (s s' : List Float) (at n : ℕ) (b : Bool) (t t₁ : Float) (state state₁ : State) → t₁ ≡ t → state₁ ≡ state → b ≡ true → Entered s s' (at + 7 * n) (wholeSecond t₁) state₁ →
     Keeping s s' at n b (wholeSecond t) state (n + 1)
 keeping-at s s' at n b t t₁ state state₁ et es e w =
-    keeping-in s s' at n b (wholeSecond t) state e (subst (λ (x : State). Entered s s' (at + 7 * n) (wholeSecond t) x) es (subst (λ (x : Float). Entered s s' (at + 7 * n) (wholeSecond x) state₁) et w))
+    keeping-in s s' at n b (wholeSecond t) state e
+    (subst (λ (x : State). Entered s s' (at + 7 * n) (wholeSecond t) x) es (subst (λ (x : Float). Entered s s' (at + 7 * n) (wholeSecond x) state₁) et w))
 
 -- ---- the states of a run, one after the other
 
@@ -193,7 +196,8 @@ shelf-more t0 from to s s₁ s₂ base at k n r h lk ln f w = record {
 
 pub kept-all : (t0 from to : Float) (steps : ℕ) (s s' : List Float) (base at k n : ℕ) → Time from → Time to → k ≡ steps + 1 → Shelf t0 from to s s' base at k n → Keeps t0 from to steps s s' base at n
 kept-all t0 from to steps s s' base at k n ft ut e f = record {
-  all = λ run o. subst (λ (l : Table State). Entries s' at l) (sym (kept-inside run t0 from to (steps + 1) ft ut)) (subst (λ (m : ℕ). Entries s' at (keptTo run t0 from to m)) e (f .all run (steps + 1) o (omega arith)));
+  all = λ run o. subst (λ (l : Table State). Entries s' at l) (sym (kept-inside run t0 from to (steps + 1) ft ut))
+      (subst (λ (m : ℕ). Entries s' at (keptTo run t0 from to m)) e (f .all run (steps + 1) o (omega arith)));
   counted = λ run. f .counted ∙ ap (keptCount t0 from to) e ∙ sym (inside-length run t0 from to (steps + 1) ft ut);
   only = f .only;
 }

@@ -7,32 +7,30 @@ use native.Mathlib.Omega.{arith}
 use lib.Dec.{T, leb}
 use lib.IntN.{ℤ, pos}
 use lib.Ieee.{Float, fin, le, lt}
-use lib.ListN.{length, replicate}
 use lib.Ieee.Bits.{is-true}
 use lib.Ieee.Fits.{and-i}
 use borrow.Author.Tests.{le-leb}
-use Rattle.inputs.specs.Inputs.{frontSize}
-use Rattle.laws.specs.Floats.{zero64, _⊖_}
+use Rattle.inputs.specs.Inputs.{Model}
+use Rattle.laws.specs.Floats.{_⊖_}
 use Rattle.laws.specs.Order.{lt→le}
 use Rattle.laws.specs.WholeNumbers.{Is, is-le, is-lt}
 use Rattle.laws.specs.Bools.{by}
 use Rattle.laws.specs.Times.{stepTime}
 use Rattle.numbers.specs.Seconds.{isHeld}
 use Rattle.vectors.specs.declared.Vector.{Vector}
-use Rattle.legendre.specs.Prepared.{prepared}
 use Rattle.model.specs.Model.{fieldAt}
-use Rattle.model.specs.Calls.{atFits}
 use Rattle.finality.specs.Brackets.{covers}
 use Rattle.finality.specs.Tables.{find}
 use Rattle.finality.specs.Arcs.{longest, start, steps, arcOf, inside, windowOf}
-use Rattle.finality.proofs.Windows.{k-le, P-le, N-le, steps-le, step-is, steps-short}
-use Rattle.integrate.specs.Force.{model, fullForce}
+use Rattle.finality.proofs.WindowTimes.{k-le, P-le, N-le, steps-le, step-is, steps-short}
+use Rattle.integrate.specs.Force.{fullForce}
+use Rattle.integrate.proofs.Published.{Sized}
 use Rattle.integrate.specs.declared.kernel.State.{State}
 use Rattle.integrate.specs.declared.kernel.Arc.{Arc as ArcStruct}
 use Rattle.fit.specs.Fit.{fitOf, orbitOf, stateFor}
 use Rattle.fit.specs.declared.kernel.Held.{Held}
 use Rattle.fit.proofs.Locality.{SameReads, fit-same, orbit-same}
-use Rattle.windows.specs.Stage.{setting, fullOf, arcStruct, lookOf, statesOf, fitStage, statesIn}
+use Rattle.windows.specs.Stage.{fullOf, arcStruct, lookOf, statesOf, fitFrom, fitStage, statesIn}
 use Rattle.windows.specs.Windows.{windowBy, Ends}
 use Rattle.windows.proofs.Times.{start-is}
 use Rattle.windows.proofs.Lawful.{states-same}
@@ -60,7 +58,8 @@ module _ (a b : Float) (e : Ends a b) where
       let n = N-le a b (e .from) (e .to) ab in
       let kk = k-le a b (e .from) (e .to) ab in
       let m = steps-le a b (e .from) (e .to) ab in
-      both-hold (le (fin true 1 (pos 63)) (stepTime (start a) i)) (lt (stepTime (start a) i) (fin false 1 (pos 63))) (is-le (fin true 1 (pos 63)) (stepTime (start a) i) 0 9223372036854775808 _ _ lower-is s (omega (arith, n)))
+      both-hold (le (fin true 1 (pos 63)) (stepTime (start a) i)) (lt (stepTime (start a) i) (fin false 1 (pos 63)))
+      (is-le (fin true 1 (pos 63)) (stepTime (start a) i) 0 9223372036854775808 _ _ lower-is s (omega (arith, n)))
       (is-lt (stepTime (start a) i) (fin false 1 (pos 63)) _ _ 9223372036854775808 0 s upper-is (omega (arith, p, n, kk, m, h)))
 
   held-start : isHeld (start a) ≡ true
@@ -72,7 +71,8 @@ module _ (a b : Float) (e : Ends a b) where
       both-hold (le (fin true 1 (pos 63)) (start a)) (lt (start a) (fin false 1 (pos 63))) (is-le (fin true 1 (pos 63)) (start a) 0 9223372036854775808 _ _ lower-is s (omega (arith, n)))
       (is-lt (start a) (fin false 1 (pos 63)) _ _ 9223372036854775808 0 s upper-is (omega (arith, p, n, kk)))
 
-  module _ (covered : Float → Bool) (full : Float → Vector → Vector) (look look' : Float → Held) (same : (i : ℕ) → i ≤ steps a b → look (stepTime (start a) i) ≡ look' (stepTime (start a) i)) (first : look (start a) ≡ look' (start a)) where
+  module _ (covered : Float → Bool) (full : Float → Vector → Vector) (look look' : Float → Held) (same : (i : ℕ) → i ≤ steps a b → look (stepTime (start a) i) ≡ look' (stepTime (start a) i))
+      (first : look (start a) ≡ look' (start a)) where
     reads : SameReads covered covered full full look look' (arcStruct (arcOf a b))
     reads = record {
       first = refl;
@@ -88,20 +88,21 @@ module _ (a b : Float) (e : Ends a b) where
         states-same _ _ _ _ (steps a b) (fit-same covered covered full full look look' (arcStruct (arcOf a b)) l reads)
         (λ i h. orbit-same covered covered full full look look' (arcStruct (arcOf a b)) l reads i (omega arith))
 
-pub window-is : (M : ℕ) (field ta tb ts added : List Float) (keys : List ℤ) (states : List Float) → atFits M (length field) (length ts) (length added) (length (prepared M (replicate (frontSize M) zero64))) ≡ true →
-    (a b : Float) → Ends a b →
-    windowBy (covers ts) (fullForce (model M field ts added) ta tb) (stateFor keys states) a b
-    ≡ windowOf (fitStage (setting M field ta tb)) (covers ts) (fieldAt M field ts added) (λ (key : ℤ). find key (statesIn keys states)) a b
-unfolding windowBy windowOf fitStage
-window-is M field ta tb ts added keys states fit a b e =
+pub window-is : (M : Model) (keys : List ℤ) (states : List Float) → Sized M → (a b : Float) → Ends a b →
+    windowBy (covers (M .fields .fieldTimes)) (fullForce M) (stateFor keys states) a b
+    ≡ windowOf (fitStage (M .fixed)) (covers (M .fields .fieldTimes)) (fieldAt M) (λ (key : ℤ). find key (statesIn keys states)) a b
+unfolding windowBy windowOf fitFrom
+window-is M keys states fit a b e =
     by (lt (b ⊖ a) longest)
     (λ t.
     let short : T (lt (b ⊖ a) longest) = subst T (sym t) tt in
     let few : steps a b ≤ 5302 = let h = steps-short a b (e .from) (e .to) (lt→le a b (e .order)) short in omega (arith, h) in
     let within : leb (steps a b) 5302 ≡ true = le-leb (steps a b) 5302 few in
-    let full : Float → Vector → Vector = fullOf (setting M field ta tb) (fieldAt M field ts added) in
+    let full : Float → Vector → Vector = fullOf (M .fixed) (fieldAt M) in
     let look' : Float → Held = lookOf (λ (key : ℤ). find key (statesIn keys states)) in
     rw (t, within) (ap (λ (l : List State). inside (start a) a b 0 l)
-    ((λ i. statesOf (fitOf (covers ts) (λ u x. full-is M field ta tb ts added fit u x i) (stateFor keys states) (arcStruct (arcOf a b))) (orbitOf (λ u x. full-is M field ta tb ts added fit u x i) (stateFor keys states) (arcStruct (arcOf a b))) (steps a b))
-    ∙ look-same a b e (covers ts) full (stateFor keys states) look' (λ i h. look-is keys states (stepTime (start a) i) (held-step a b e i h)) (look-is keys states (start a) (held-start a b e)) few)))
+    ((λ i. statesOf (fitOf (covers (M .fields .fieldTimes)) (λ u x. full-is M fit u x i) (stateFor keys states) (arcStruct (arcOf a b)))
+    (orbitOf (λ u x. full-is M fit u x i) (stateFor keys states) (arcStruct (arcOf a b))) (steps a b))
+    ∙ look-same a b e (covers (M .fields .fieldTimes)) full (stateFor keys states) look' (λ i h. look-is keys states (stepTime (start a) i) (held-step a b e i h))
+    (look-is keys states (start a) (held-start a b e)) few)))
     (λ t. rw t refl)

@@ -15,7 +15,7 @@ use Rattle.laws.specs.WholeNumbers.{Is, is-le, number, number-is, add-int, sub-
 use Rattle.laws.specs.Times.{Time, bound, natural-le, natural-next, second, step}
 use Rattle.numbers.specs.Seconds.{isHeld, wholeSecond}
 use Rattle.finality.specs.Arcs.{halfHour, start}
-use Rattle.finality.proofs.Windows.{k, k-le, P, N, floored, P-le, N-le}
+use Rattle.finality.proofs.WindowTimes.{k, k-le, P, N, floored, P-le, N-le}
 use Rattle.windows.specs.Slots.{lowest, highest, within}
 
 half-hour-is : Is halfHour 1800 0
@@ -83,10 +83,12 @@ module _ (a b : Float) (at : Time a) (bt : Time b) (ab : T (le a b)) where
       (omega (arith, N-le a b at bt ab)) (omega (arith, P-le a b at bt ab, k-le a b at bt ab))
 
   from-below : T (le ((number (k a b at bt ab) ⊕ halfHour) ⊖ start a) w)
-  from-below = sub-mono-l binary64 (number (k a b at bt ab) ⊕ halfHour) (b ⊕ halfHour) (start a) (start-is .is-finite) (add-mono-l binary64 (number (k a b at bt ab)) b halfHour (half-hour-is .is-finite) (natural-le b bt))
+  from-below = sub-mono-l binary64 (number (k a b at bt ab) ⊕ halfHour) (b ⊕ halfHour) (start a) (start-is .is-finite)
+      (add-mono-l binary64 (number (k a b at bt ab)) b halfHour (half-hour-is .is-finite) (natural-le b bt))
 
   from-above : T (le w ((number (k a b at bt ab + 1) ⊕ halfHour) ⊖ start a))
-  from-above = sub-mono-l binary64 (b ⊕ halfHour) (number (k a b at bt ab + 1) ⊕ halfHour) (start a) (start-is .is-finite) (add-mono-l binary64 b (number (k a b at bt ab + 1)) halfHour (half-hour-is .is-finite) (natural-next b bt))
+  from-above = sub-mono-l binary64 (b ⊕ halfHour) (number (k a b at bt ab + 1) ⊕ halfHour) (start a) (start-is .is-finite)
+      (add-mono-l binary64 b (number (k a b at bt ab + 1)) halfHour (half-hour-is .is-finite) (natural-next b bt))
 
   lower-is : Is ((number (k a b at bt ab) ⊕ halfHour) ⊖ start a) (k a b at bt ab + 1800 + N a b at bt ab) (0 + 0 + P a b at bt ab)
   lower-is = around (k a b at bt ab) (omega (arith, k-le a b at bt ab))
@@ -95,17 +97,20 @@ module _ (a b : Float) (at : Time a) (bt : Time b) (ab : T (le a b)) where
   upper-is = around (k a b at bt ab + 1) (omega (arith, k-le a b at bt ab))
 
   w-low : T (le zero⁺ w)
-  w-low = le-tr zero⁺ ((number (k a b at bt ab) ⊕ halfHour) ⊖ start a) w (is-le zero⁺ ((number (k a b at bt ab) ⊕ halfHour) ⊖ start a) 0 0 _ _ zero-is-zero lower-is (omega (arith, P-le a b at bt ab))) from-below
+  w-low = le-tr zero⁺ ((number (k a b at bt ab) ⊕ halfHour) ⊖ start a) w (is-le zero⁺ ((number (k a b at bt ab) ⊕ halfHour) ⊖ start a) 0 0 _ _ zero-is-zero lower-is (omega (arith, P-le a b at bt ab)))
+      from-below
 
   w-high : T (le w highest)
-  w-high = le-tr w ((number (k a b at bt ab + 1) ⊕ halfHour) ⊖ start a) highest from-above (is-le ((number (k a b at bt ab + 1) ⊕ halfHour) ⊖ start a) highest _ _ 8589934592 0 upper-is highest-is (omega (arith, k-le a b at bt ab, N-le a b at bt ab)))
+  w-high = le-tr w ((number (k a b at bt ab + 1) ⊕ halfHour) ⊖ start a) highest from-above
+      (is-le ((number (k a b at bt ab + 1) ⊕ halfHour) ⊖ start a) highest _ _ 8589934592 0 upper-is highest-is (omega (arith, k-le a b at bt ab, N-le a b at bt ab)))
 
   w-finite : T (finite w)
   w-finite = between zero⁺ w highest tt tt w-low w-high
 
   pub steps-low : T (le zero64 (w ⊘ step))
   unfolding ofBits
-  steps-low = le-tr zero64 (zero⁺ ⊘ step) (w ⊘ step) (is-le zero64 (zero⁺ ⊘ step) 0 0 0 0 (record { is-finite = tt; value = refl }) (half-int zero⁺ 0 0 zero-is-zero (omega arith) (omega arith)) (omega arith)) (half-mono zero⁺ w tt w-finite w-low)
+  steps-low = le-tr zero64 (zero⁺ ⊘ step) (w ⊘ step)
+      (is-le zero64 (zero⁺ ⊘ step) 0 0 0 0 (record { is-finite = tt; value = refl }) (half-int zero⁺ 0 0 zero-is-zero (omega arith) (omega arith)) (omega arith)) (half-mono zero⁺ w tt w-finite w-low)
 
   pub steps-high : T (le (w ⊘ step) highest)
   steps-high =

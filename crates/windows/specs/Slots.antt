@@ -1,4 +1,5 @@
--- The slot of a window in the lent numbers: how many states it has, then for each its second, as a float, and six numbers (document 01, module 4). Assumes nothing.
+-- The slot of a window in the lent numbers: how many states it has, then for each its second, as a float, and six numbers (document 01, module 4). Assumes
+-- nothing.
 use mathlib.Core.Path.{_≡_}
 use mathlib.Core.Bool.{Bool, true, false, cond, _&&_}
 use mathlib.Core.List.{List, [], _∷_, _++_}

@@ -1,5 +1,5 @@
--- The fitted orbits of one satellite (document 01, module 4; the source's `fitted_orbits`): what each window of neighbouring nodes leaves in its slot, in the lent numbers behind those of
--- one fit. The force and the states are functions of the time. Assumes nothing.
+-- The fitted orbits of one satellite (document 01, module 4; the source's `fitted_orbits`): what each window of neighbouring nodes leaves in its slot, in the
+-- lent numbers behind those of one fit. The force and the states are functions of the time. Assumes nothing.
 use mathlib.Core.Path.{_≡_}
 use mathlib.Core.Bool.{Bool, true, false, cond, _&&_}
 use mathlib.Core.List.{List, []}
@@ -84,10 +84,12 @@ pub record Filled (window : Float → Float → Table State) (nodes : List Float
   pub slots : (w : ℕ) → w < count → Slot s' (first + windowRoom * w) (window (getD nodes w nan) (getD nodes (w + 1) nan))
   pub few : (w : ℕ) → w < count → length (window (getD nodes w nan) (getD nodes (w + 1) nan)) ≤ 3500
   pub long : length s' ≡ length s
-  pub same : (k : ℕ) → base + workSize ≤ k → ((w : ℕ) → w < count → first + windowRoom * w ≤ k → k < first + windowRoom * w + slotRoom → ⊥) → getD s' k nan ≡ getD s k nan
+  pub same : (k : ℕ) → base + workSize ≤ k → ((w : ℕ) → w < count → first + windowRoom * w ≤ k → k < first + windowRoom * w + slotRoom → ⊥)
+      → getD s' k nan ≡ getD s k nan
 
 -- all windows where the slices serve, and nothing otherwise
-pub record WindowsFit (serves : Bool) (window : Float → Float → Table State) (nodes : List Float) (s s' : List Float) (base satellite : ℕ) (answer : Bool) : Type 0 where
+pub record WindowsFit (serves : Bool) (window : Float → Float → Table State) (nodes : List Float) (s s' : List Float) (base satellite : ℕ) (answer : Bool) :
+    Type 0 where
   pub says : answer ≡ serves
   pub filled : serves ≡ true → Filled window nodes (length nodes - 1) s s' base (slotAt base satellite 0)
   pub unfit : serves ≡ false → s' ≡ s

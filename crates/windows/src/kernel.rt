@@ -13,8 +13,8 @@ ghost use Rattle.numbers.specs.Seconds.{wholeSecond};
 ghost use Rattle.finality.specs.Arcs.{start, steps, longest, inside};
 ghost use Rattle.laws.specs.Tables.{row};
 ghost use Rattle.finality.specs.Brackets.{covers};
-ghost use Rattle.inputs.specs.Inputs.{windowRoom, slotRoom, fitRoom, frontSize};
-ghost use Rattle.integrate.specs.Force.{model, fullForce};
+ghost use Rattle.inputs.specs.Inputs.{modelOf, windowRoom, slotRoom, fitRoom, frontSize};
+ghost use Rattle.integrate.specs.Force.{fullForce};
 ghost use Rattle.integrate.specs.Room.{runSize, Run, stateIn};
 ghost use Rattle.fit.specs.Fit.{stateFor};
 ghost use Rattle.windows.specs.Windows.{windowBy, windowFine, arcBetween, roomFor, windowsServe, Leaves, Windowed, Ends, Filled, WindowsFit};
@@ -128,7 +128,8 @@ fn keep_step(
     n: usize,
 ) -> usize
     requires { ⌜ (k ≤ 5302) × (base + runSize ≤ at) × (n ≤ 3500) × (at + entriesRoom ≤ length (now s)) ⌝ }
-    ensures { λ r. ⌜ Keeping (now (s .entry)) (now (s .exit)) at n (within from to (stepTime t0 k)) (wholeSecond (stepTime t0 k)) (stateIn (now (s .entry)) (base + 6 * k)) r ⌝ }
+    ensures { λ r. ⌜ Keeping (now (s .entry)) (now (s .exit)) at n (within from to (stepTime t0 k)) (wholeSecond (stepTime t0 k))
+        (stateIn (now (s .entry)) (base + 6 * k)) r ⌝ }
 {
     let t = integrate::kernel::time(t0, k);
     if within(from, to, t) {
@@ -141,7 +142,8 @@ fn keep_step(
 
 // The states of a run whose times lie in a window, seven numbers each, from a place on. Returns how many there are.
 fn keep(t0: f64, from: f64, to: f64, steps: usize, s: &mut [f64], base: usize, at: usize) -> usize
-    requires { ⌜ Time from × Time to × (steps ≤ 5302) × ((run : Run) → length (inside t0 from to 0 (row run (steps + 1))) ≤ 3500) × (base + runSize ≤ at) × (at + entriesRoom ≤ length (now s)) ⌝ }
+    requires { ⌜ Time from × Time to × (steps ≤ 5302) × ((run : Run) → length (inside t0 from to 0 (row run (steps + 1))) ≤ 3500) × (base + runSize ≤ at)
+        × (at + entriesRoom ≤ length (now s)) ⌝ }
     ensures { λ r. ⌜ Keeps t0 from to steps (now (s .entry)) (now (s .exit)) base at r ⌝ }
 {
     let mut n: usize = 0;
@@ -152,13 +154,9 @@ fn keep(t0: f64, from: f64, to: f64, steps: usize, s: &mut [f64], base: usize, a
 }
 
 // The fit of a window shorter than 7,000 s: its states from a place on. Returns how many there are.
-fn fit_between(
+fn fit_between<'a>(
     degree: usize,
-    field: &[f64],
-    a: &[f64],
-    b: &[f64],
-    times: &[f64],
-    added: &[f64],
+    model: inputs::Model<'a>,
     keys: &[i64],
     states: &[f64],
     from: f64,
@@ -167,8 +165,10 @@ fn fit_between(
     base: usize,
     at: usize,
 ) -> usize
-    requires { ⌜ (degree ≤ 180) × (base ≡ frontSize degree) × (risingSeconds (now keys) ≡ true) × (length (now states) ≡ 6 * length (now keys)) × Ends from to × T (lt (to ⊖ from) longest) × (base + fitRoom ≤ at) × (at + entriesRoom ≤ length (now s)) ⌝ }
-    ensures { λ r. ⌜ Leaves (windowBy (covers (now (times .entry))) (fullForce (model degree (now (field .entry)) (now (times .entry)) (now (added .entry))) (now (a .entry)) (now (b .entry))) (stateFor (now (keys .entry)) (now (states .entry))) from to) (now (s .entry)) (now (s .exit)) base at r ⌝ }
+    requires { ⌜ (degree ≤ 180) × (base ≡ frontSize degree) × (risingSeconds (now keys) ≡ true) × (length (now states) ≡ 6 * length (now keys)) × Ends from to
+        × T (lt (to ⊖ from) longest) × (base + fitRoom ≤ at) × (at + entriesRoom ≤ length (now s)) ⌝ }
+    ensures { λ r. ⌜ Leaves (windowBy (covers (modelOf degree (model .entry) .fields .fieldTimes)) (fullForce (modelOf degree (model .entry)))
+        (stateFor (now (keys .entry)) (now (states .entry))) from to) (now (s .entry)) (now (s .exit)) base at r ⌝ }
 {
     let t0 = start(from);
     let n = steps(from, to);
@@ -178,7 +178,7 @@ fn fit_between(
         node: from,
         period: to - from,
     };
-    let fitted = fit::kernel::fit_arc(degree, field, a, b, times, added, keys, states, arc, s);
+    let fitted = fit::kernel::fit_arc(degree, model, keys, states, arc, s);
     match fitted {
         fit::kernel::Fitted::Fitted(_) => keep(t0, from, to, n, s, base, at),
         fit::kernel::Fitted::Refused(_) => 0,
@@ -186,13 +186,9 @@ fn fit_between(
 }
 
 // The states of a window, none where it is 7,000 s or longer.
-fn leave(
+fn leave<'a>(
     degree: usize,
-    field: &[f64],
-    a: &[f64],
-    b: &[f64],
-    times: &[f64],
-    added: &[f64],
+    model: inputs::Model<'a>,
     keys: &[i64],
     states: &[f64],
     from: f64,
@@ -201,37 +197,21 @@ fn leave(
     base: usize,
     at: usize,
 ) -> usize
-    requires { ⌜ (degree ≤ 180) × (base ≡ frontSize degree) × (risingSeconds (now keys) ≡ true) × (length (now states) ≡ 6 * length (now keys)) × Ends from to × (base + fitRoom ≤ at) × (at + entriesRoom ≤ length (now s)) ⌝ }
-    ensures { λ r. ⌜ Leaves (windowBy (covers (now (times .entry))) (fullForce (model degree (now (field .entry)) (now (times .entry)) (now (added .entry))) (now (a .entry)) (now (b .entry))) (stateFor (now (keys .entry)) (now (states .entry))) from to) (now (s .entry)) (now (s .exit)) base at r ⌝ }
+    requires { ⌜ (degree ≤ 180) × (base ≡ frontSize degree) × (risingSeconds (now keys) ≡ true) × (length (now states) ≡ 6 * length (now keys)) × Ends from to
+        × (base + fitRoom ≤ at) × (at + entriesRoom ≤ length (now s)) ⌝ }
+    ensures { λ r. ⌜ Leaves (windowBy (covers (modelOf degree (model .entry) .fields .fieldTimes)) (fullForce (modelOf degree (model .entry)))
+        (stateFor (now (keys .entry)) (now (states .entry))) from to) (now (s .entry)) (now (s .exit)) base at r ⌝ }
 {
     if to - from < 7000.0 {
-        return fit_between(
-            degree,
-            field,
-            a,
-            b,
-            times,
-            added,
-            keys,
-            states,
-            from,
-            to,
-            s,
-            base,
-            at,
-        );
+        return fit_between(degree, model, keys, states, from, to, s, base, at);
     }
     0
 }
 
 // One window's slot.
-fn window(
+fn window<'a>(
     degree: usize,
-    field: &[f64],
-    a: &[f64],
-    b: &[f64],
-    times: &[f64],
-    added: &[f64],
+    model: inputs::Model<'a>,
     keys: &[i64],
     states: &[f64],
     from: f64,
@@ -240,35 +220,19 @@ fn window(
     base: usize,
     at: usize,
 )
-    requires { ⌜ (degree ≤ 180) × (base ≡ frontSize degree) × (risingSeconds (now keys) ≡ true) × (length (now states) ≡ 6 * length (now keys)) × Ends from to × (base + fitRoom ≤ at) × (at + slotRoom ≤ length (now s)) ⌝ }
-    ensures { λ _. ⌜ Windowed (windowBy (covers (now (times .entry))) (fullForce (model degree (now (field .entry)) (now (times .entry)) (now (added .entry))) (now (a .entry)) (now (b .entry))) (stateFor (now (keys .entry)) (now (states .entry))) from to) (now (s .entry)) (now (s .exit)) base at ⌝ }
+    requires { ⌜ (degree ≤ 180) × (base ≡ frontSize degree) × (risingSeconds (now keys) ≡ true) × (length (now states) ≡ 6 * length (now keys)) × Ends from to
+        × (base + fitRoom ≤ at) × (at + slotRoom ≤ length (now s)) ⌝ }
+    ensures { λ _. ⌜ Windowed (windowBy (covers (modelOf degree (model .entry) .fields .fieldTimes)) (fullForce (modelOf degree (model .entry)))
+        (stateFor (now (keys .entry)) (now (states .entry))) from to) (now (s .entry)) (now (s .exit)) base at ⌝ }
 {
-    let n = leave(
-        degree,
-        field,
-        a,
-        b,
-        times,
-        added,
-        keys,
-        states,
-        from,
-        to,
-        s,
-        base,
-        at + 1,
-    );
+    let n = leave(degree, model, keys, states, from, to, s, base, at + 1);
     s[at] = std::num::nearest_u64_to_f64(n as u64);
 }
 
 // The windows between neighbouring nodes, a slot at every 49,200 numbers.
-fn fit_each(
+fn fit_each<'a>(
     degree: usize,
-    field: &[f64],
-    a: &[f64],
-    b: &[f64],
-    times: &[f64],
-    added: &[f64],
+    model: inputs::Model<'a>,
     keys: &[i64],
     states: &[f64],
     nodes: &[f64],
@@ -276,18 +240,18 @@ fn fit_each(
     base: usize,
     first: usize,
 )
-    requires { ⌜ (degree ≤ 180) × (base ≡ frontSize degree) × (risingSeconds (now keys) ≡ true) × (length (now states) ≡ 6 * length (now keys)) × ((w : ℕ) → w + 1 < length (now nodes) → Ends (getD (now nodes) w nan) (getD (now nodes) (w + 1) nan)) × (base + fitRoom ≤ first) × (first + windowRoom * length (now nodes) ≤ length (now s) + (windowRoom + slotRoom)) ⌝ }
-    ensures { λ _. ⌜ Filled (windowBy (covers (now (times .entry))) (fullForce (model degree (now (field .entry)) (now (times .entry)) (now (added .entry))) (now (a .entry)) (now (b .entry))) (stateFor (now (keys .entry)) (now (states .entry)))) (now (nodes .entry)) (length (now (nodes .entry)) - 1) (now (s .entry)) (now (s .exit)) base first ⌝ }
+    requires { ⌜ (degree ≤ 180) × (base ≡ frontSize degree) × (risingSeconds (now keys) ≡ true) × (length (now states) ≡ 6 * length (now keys))
+        × ((w : ℕ) → w + 1 < length (now nodes) → Ends (getD (now nodes) w nan) (getD (now nodes) (w + 1) nan)) × (base + fitRoom ≤ first)
+        × (first + windowRoom * length (now nodes) ≤ length (now s) + (windowRoom + slotRoom)) ⌝ }
+    ensures { λ _. ⌜ Filled (windowBy (covers (modelOf degree (model .entry) .fields .fieldTimes)) (fullForce (modelOf degree (model .entry)))
+        (stateFor (now (keys .entry)) (now (states .entry)))) (now (nodes .entry)) (length (now (nodes .entry)) - 1) (now (s .entry)) (now (s .exit)) base
+        first ⌝ }
 {
     let mut w: usize = 0;
     while w + 1 < nodes.len() {
         window(
             degree,
-            field,
-            a,
-            b,
-            times,
-            added,
+            model,
             keys,
             states,
             nodes[w],
@@ -336,30 +300,24 @@ fn windows_serve(
 }
 
 // The fitted states of every window of one satellite, each in its slot. False, and nothing is done, where the slices do not serve.
-pub fn fit_windows(
+pub fn fit_windows<'a>(
     degree: usize,
-    field: &[f64],
-    a: &[f64],
-    b: &[f64],
-    times: &[f64],
-    added: &[f64],
+    model: inputs::Model<'a>,
     keys: &[i64],
     states: &[f64],
     nodes: &[f64],
     satellite: usize,
     s: &mut [f64],
 ) -> bool
-    ensures { λ r. ⌜ WindowsFit (windowsServe degree (now (keys .entry)) (length (now (states .entry))) (now (nodes .entry)) satellite (length (now (s .entry)))) (windowBy (covers (now (times .entry))) (fullForce (model degree (now (field .entry)) (now (times .entry)) (now (added .entry))) (now (a .entry)) (now (b .entry))) (stateFor (now (keys .entry)) (now (states .entry)))) (now (nodes .entry)) (now (s .entry)) (now (s .exit)) (frontSize degree) satellite r ⌝ }
+    ensures { λ r. ⌜ WindowsFit (windowsServe degree (now (keys .entry)) (length (now (states .entry))) (now (nodes .entry)) satellite
+        (length (now (s .entry)))) (windowBy (covers (modelOf degree (model .entry) .fields .fieldTimes)) (fullForce (modelOf degree (model .entry)))
+        (stateFor (now (keys .entry)) (now (states .entry)))) (now (nodes .entry)) (now (s .entry)) (now (s .exit)) (frontSize degree) satellite r ⌝ }
 {
     if windows_serve(degree, keys, states.len(), nodes, satellite, s.len()) {
         let base = inputs::front_size(degree);
         fit_each(
             degree,
-            field,
-            a,
-            b,
-            times,
-            added,
+            model,
             keys,
             states,
             nodes,

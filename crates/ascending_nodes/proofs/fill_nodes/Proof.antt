@@ -1,3 +1,4 @@
+-- `ascending_nodes::fill_nodes`: after k keys the list has the nodes between them at its head and zeros behind. Assumes nothing.
 use borrow.Author.Needs.{needs}
 use mathlib.Core.Path.{_≡_}
 use Prim.Native.Nat.{_-_, _≤_}
@@ -27,10 +28,11 @@ add-count c = search (needs, upto-slot)
 
 loop-again : tie.Need-loop-again Inv-loop μ-loop
 loop-again c =
-    let l = c .before .before .before .before .loop in (
+    let at-crosses = c .before .before in
+    let l = at-crosses .before .before .loop in (
       search needs,
       omega arith,
-      upto-yes _ _ (l .k) (l .count) (l .out) _ _ (c .before .before .before .loop-test .taken) (l .inv .2) (c .before .before .crosses .ensures) (c .before .if1 .taken) (c .crossing .ensures),
+      upto-yes _ _ (l .k) (l .count) (l .out) _ _ (at-crosses .before .loop-test .taken) (l .inv .2) (at-crosses .crosses .ensures) (c .before .if1 .taken) (c .crossing .ensures),
     )
 
 loop-again-2 : tie.Need-loop-again-2 Inv-loop μ-loop
@@ -42,4 +44,5 @@ returns c = search (needs, upto-all)
 pub fill-nodes-spec : {M : Type 1} → statement M
 fill-nodes-spec =
     tie.close
-    (tie.spec Inv-loop μ-loop (λ c κs. search needs) loop-holds (λ c. search needs) (λ c κs. search needs) (λ c κs. search needs) mul-out slice-write-out add-count (λ c. search needs) (λ c. search needs) loop-again (λ c. search needs) (λ c. search needs) loop-again-2 (λ c. search needs) returns)
+    (tie.spec Inv-loop μ-loop (λ c κs. search needs) loop-holds (λ c. search needs) (λ c κs. search needs) (λ c κs. search needs) mul-out slice-write-out add-count (λ c. search needs)
+    (λ c. search needs) loop-again (λ c. search needs) (λ c. search needs) loop-again-2 (λ c. search needs) returns)

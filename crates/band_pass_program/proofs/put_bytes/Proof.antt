@@ -1,3 +1,4 @@
+-- The first k bytes stand from `at` on, and nothing before them has moved: the loop's invariant. Assumes nothing.
 use mathlib.Core.Path.{_≡_, refl}
 use mathlib.Core.List.{_++_}
 use Prim.Native.Nat.{_+_, _-_, _≤_}

@@ -1,3 +1,4 @@
+-- The refusal of the lines from `at` on is that of the whole text: the loop's invariant. Assumes nothing.
 use mathlib.Core.Path.{_≡_, refl}
 use Prim.Native.Nat.{_+_, _*_}
 use Rattle.band_pass_program.specs.Text.{refusalFrom}

@@ -1,3 +1,4 @@
+use mathlib.Core.Bool.{and-assoc}
 use Rattle.columns.specs.Columns.{columnsServe}
 use borrow.Author.Needs.{needs}
 use Rattle.columns.proofs.serve.Statement.{statement}
@@ -5,7 +6,7 @@ use Rattle.columns.proofs.serve.Tie as tie
 
 returns : tie.Need-returns
 unfolding columnsServe
-returns c = simp (c .both4 .ensures, c .before .both3 .ensures, c .before .before .both2 .ensures, c .before .before .before .both .ensures)
+returns c = simp (and-assoc, c .both4 .ensures, c .before .both3 .ensures, c .before .before .both2 .ensures, c .before .before .before .both .ensures)
 
 pub serve-spec : {M : Type 1} → statement M
 serve-spec =

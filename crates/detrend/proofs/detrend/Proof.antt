@@ -1,3 +1,4 @@
+-- `detrend::detrend`: refused, or each range detrended and handed out, by the laws of proofs/Ranges.antt. Assumes nothing.
 use borrow.Author.Needs.{needs}
 use Rattle.slices.specs.declared.Outcome.the-variants.{Accepted, Refused}
 use Rattle.slices.proofs.Calls.{one-refused, one-accepted, one-unfit}
@@ -20,4 +21,5 @@ returns-3 c = search (needs, one-unfit Accepted Refused)
 pub detrend-spec : {M : Type 1} → statement M
 detrend-spec =
     tie.close
-    (tie.spec (λ c κs. search needs) (λ c. search needs) returns detrend-in-requires (λ c κs. search needs) (λ c κs. search needs) (λ c. search needs) (λ c. search needs) returns-2 (λ c κs. search needs) (λ c. search needs) (λ c. search needs) returns-3)
+    (tie.spec (λ c κs. search needs) (λ c. search needs) returns detrend-in-requires (λ c κs. search needs) (λ c κs. search needs) (λ c. search needs) (λ c. search needs) returns-2
+    (λ c κs. search needs) (λ c. search needs) (λ c. search needs) returns-3)

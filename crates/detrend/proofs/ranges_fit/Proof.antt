@@ -1,3 +1,4 @@
+-- `detrend::ranges_fit`: whether the ranges from k on fit is whether all do. Assumes nothing.
 use borrow.Author.Needs.{needs}
 use mathlib.Core.Path.{_≡_, refl}
 use Prim.Native.Nat.{_-_, _≤_}

@@ -1,4 +1,6 @@
+-- `epoch::make`: over the field at t, written to the front of the work slice, the record is the definition's; `recorded` of proofs/Making.antt. Assumes nothing.
 use Rattle.epoch.proofs.Making.{recorded}
+use Rattle.inputs.specs.Inputs.{modelOf}
 use borrow.Author.Needs.{needs}
 use Rattle.epoch.proofs.make.Statement.{statement}
 use Rattle.epoch.proofs.make.Tie as tie
@@ -38,24 +40,16 @@ same-length c = search needs
 
 returns : tie.Need-returns
 returns c =
-    let s = c .before .before .before .before .before .before .before .before .before .before .before .before .before .before .before .before .before .args in
-    recorded (s .degree) (s .base) (s .field .now) (s .times .now) (s .added .now) (s .w .now) _ (c .before .before .before .before .before .before .before .before .before .before .before .before .before .before .before .before .before .pre)
-    (s .a .now) (s .b .now) (s .t) (s .observed) _ _ (s .found .c) (s .found .d) (s .found .axc) (s .found .axd) _
-    (c .before .before .before .before .before .before .before .before .before .at .ensures) (c .before .before .before .before .element .ensures) (c .before .before .before .element2 .ensures) (c .epoch-at .ensures)
+    let at-element2 = c .before .before .before .before .before in
+    let at-at = at-element2 .before .before .before .before .before .before .before in
+    let start = at-at .before .before .before in
+    let s = start .args in
+    recorded (modelOf (s .degree) (s .t2)) (s .base) (s .w .now) _ (start .pre)
+    (s .t) (s .observed) _ _ (s .found .c) (s .found .d) (s .found .axc) (s .found .axd) _
+    (at-at .at .ensures) (at-element2 .before .element .ensures) (at-element2 .element2 .ensures) (c .epoch-at .ensures)
 
 pub make-spec : {M : Type 1} → statement M
 make-spec =
     tie.close
-    (tie.spec
-    sub-at
-    part-at-start
-    part-at-end
-    at-requires
-    element-requires
-    element-requires-2
-    sub-epoch-at
-    part-epoch-at-start
-    part-epoch-at-end
-    epoch-at-requires
-    same-length
-    returns)
+    (tie.spec sub-at part-at-start part-at-end at-requires (λ c. search needs) element-requires element-requires-2 (λ c. search needs) (λ c. search needs) sub-epoch-at part-epoch-at-start
+    part-epoch-at-end epoch-at-requires same-length returns)

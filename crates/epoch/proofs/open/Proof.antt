@@ -1,3 +1,4 @@
+-- `epoch::open`: with room the front is cleared and prepared, without it nothing is done; each by its law of proofs/Making.antt. Assumes nothing.
 use native.Mathlib.Omega.{arith}
 use Rattle.epoch.proofs.Making.{opened, not-opened}
 use borrow.Author.Needs.{needs}
@@ -21,8 +22,9 @@ same-length c = search needs
 
 returns : tie.Need-returns
 returns c =
-    let s = c .before .before .before .before .before .before .args in
-    opened (s .degree) (s .base) (s .w .now) _ (c .before .before .before .before .if1 .taken) (c .before .before .prepare .ensures)
+    let at-prepare = c .before .before in
+    let s = at-prepare .before .before .before .before .args in
+    opened (s .degree) (s .base) (s .w .now) _ (at-prepare .before .before .if1 .taken) (at-prepare .prepare .ensures)
 
 returns-2 : tie.Need-returns-2
 returns-2 c =

@@ -14,7 +14,9 @@ both-requires-3 c κs = search needs
 
 returns : tie.Need-returns
 unfolding sightingFrom
-returns c = simp (c .before .before .both3 .ensures, c .before .before .before .both2 .ensures, c .before .before .before .before .both .ensures)
+returns c =
+    let at-both3 = c .before .before in
+    simp (at-both3 .both3 .ensures, at-both3 .before .both2 .ensures, at-both3 .before .before .both .ensures)
 
 pub sighted-spec : {M : Type 1} → statement M
 sighted-spec = tie.close (tie.spec both-requires both-requires-2 both-requires-3 returns)

@@ -1,5 +1,5 @@
 use borrow.Author.Needs.{needs}
-use Rattle.exports.proofs.Answered.{count-told}
+use Rattle.exports.proofs.AnswersTold.{count-told}
 use Rattle.exports.proofs.pozsmeteg_final_count.Statement.{statement}
 use Rattle.exports.proofs.pozsmeteg_final_count.Tie as tie
 

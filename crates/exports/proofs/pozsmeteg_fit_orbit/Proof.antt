@@ -1,6 +1,6 @@
 -- `exports::pozsmeteg_fit_orbit` is the call `fit_orbit` with its answer as one number. Assumes nothing.
 use borrow.Author.Needs.{needs}
-use Rattle.exports.proofs.Answered.{told-left}
+use Rattle.exports.proofs.AnswersTold.{told-left}
 use Rattle.exports.proofs.pozsmeteg_fit_orbit.Statement.{statement}
 use Rattle.exports.proofs.pozsmeteg_fit_orbit.Tie as tie
 

@@ -1,5 +1,5 @@
 use borrow.Author.Needs.{needs}
-use Rattle.exports.proofs.Answered.{horizon-told}
+use Rattle.exports.proofs.AnswersTold.{horizon-told}
 use Rattle.exports.proofs.pozsmeteg_horizon.Statement.{statement}
 use Rattle.exports.proofs.pozsmeteg_horizon.Tie as tie
 

@@ -1,5 +1,5 @@
 use borrow.Author.Needs.{needs}
-use Rattle.exports.proofs.Answered.{partials-left, length-refused}
+use Rattle.exports.proofs.AnswersTold.{partials-left, length-refused}
 use Rattle.exports.proofs.pozsmeteg_partials.Statement.{statement}
 use Rattle.exports.proofs.pozsmeteg_partials.Tie as tie
 

@@ -1,5 +1,5 @@
 use borrow.Author.Needs.{needs}
-use Rattle.exports.proofs.Answered.{revolutions-left}
+use Rattle.exports.proofs.AnswersTold.{revolutions-left}
 use Rattle.exports.proofs.pozsmeteg_revolutions.Statement.{statement}
 use Rattle.exports.proofs.pozsmeteg_revolutions.Tie as tie
 

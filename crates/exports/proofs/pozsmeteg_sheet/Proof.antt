@@ -1,5 +1,5 @@
 use borrow.Author.Needs.{needs}
-use Rattle.exports.proofs.Answered.{sheet-left}
+use Rattle.exports.proofs.AnswersTold.{sheet-left}
 use Rattle.exports.proofs.pozsmeteg_sheet.Statement.{statement}
 use Rattle.exports.proofs.pozsmeteg_sheet.Tie as tie
 

@@ -1,3 +1,4 @@
+-- `fields::idx`: refused where the order exceeds the degree or the degree 180, else the place in the triangular table. Assumes nothing.
 use borrow.Author.Needs.{needs}
 use native.Mathlib.Omega.{arith}
 use mathlib.Core.Path.{refl}

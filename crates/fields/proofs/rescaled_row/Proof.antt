@@ -1,3 +1,4 @@
+-- `fields::rescaled_row`: behind the first k places stand the first m rescaled coefficients of row n. Assumes nothing.
 use borrow.Author.Needs.{needs}
 use Prim.Native.Nat.{_+_, _-_, _≤_}
 use mathlib.Core.Path.{_≡_, refl}
@@ -5,7 +6,7 @@ use mathlib.Core.List.{_++_}
 use native.Mathlib.Omega.{arith}
 use lib.ListN.{length, take}
 use Rattle.laws.specs.Tables.{row, row-none}
-use Rattle.fields.proofs.Tables.{scaledAt, scaled-turn, scaled-done}
+use Rattle.fields.proofs.ScratchCalls.{scaledAt, scaled-turn, scaled-done}
 use Rattle.fields.proofs.rescaled_row.Statement.{statement}
 use Rattle.fields.proofs.rescaled_row.Tie as tie
 
@@ -20,21 +21,25 @@ loop-holds c = (omega arith, refl, search row-none)
 
 loop-again : tie.Need-loop-again Inv-loop μ-loop
 loop-again c =
-    let a = c .before .before .before .before .before .before .args in
-    let l = c .before .before .loop in
-    (omega arith, search needs, scaled-turn (a .start) (a .k) (a .field .now) (c .before .before .before .factor .result) (take (a .k) (a .out .now)) (l .out) (l .m) (l .inv .2) (omega arith))
+    let at-loop = c .before .before in
+    let a = at-loop .before .before .before .before .args in
+    let l = at-loop .loop in
+    (omega arith, search needs, scaled-turn (a .start) (a .k) (a .field .now) (at-loop .before .factor .result) (take (a .k) (a .out .now)) (l .out) (l .m) (l .inv .2) (omega arith))
 
 same-length : tie.Need-same-length Inv-loop μ-loop
 same-length c = c .before .loop .inv .1
 
 returns : tie.Need-returns Inv-loop μ-loop
 returns c =
-    let s = c .before .before .before .before .before in
-    let a = s .args in
+    let at-factor = c .before .before in
+    let start = at-factor .before .before .before in
+    let a = start .args in
     let l = c .before .loop in
-    scaled-done (a .start) (a .k) (a .gm) (a .radius) (a .field .now) (take (a .k) (a .out .now)) (l .out) (c .before .before .factor .result) (a .n) (l .m) (s .pre .0) (omega arith) (s .pre .1) (c .before .before .factor .ensures) (l .inv .2) (omega arith)
+    scaled-done (a .start) (a .k) (a .gm) (a .radius) (a .field .now) (take (a .k) (a .out .now)) (l .out) (at-factor .factor .result) (a .n) (l .m) (start .pre .0) (omega arith) (start .pre .1)
+    (at-factor .factor .ensures) (l .inv .2) (omega arith)
 
 pub rescaled-row-spec : {M : Type 1} → statement M
 rescaled-row-spec =
     tie.close
-    (tie.spec Inv-loop μ-loop (λ c κs. search needs) loop-holds (λ c. search needs) (λ c. search needs) (λ c. search needs) (λ c. search needs) (λ c. search needs) (λ c. search needs) (λ c. search needs) (λ c. search needs) loop-again same-length returns)
+    (tie.spec Inv-loop μ-loop (λ c κs. search needs) loop-holds (λ c. search needs) (λ c. search needs) (λ c. search needs) (λ c. search needs) (λ c. search needs) (λ c. search needs)
+    (λ c. search needs) (λ c. search needs) loop-again same-length returns)

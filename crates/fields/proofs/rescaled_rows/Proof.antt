@@ -1,3 +1,4 @@
+-- `fields::rescaled_rows`: before degree n the table holds the rescaled rows below n. Assumes nothing.
 use borrow.Author.Needs.{needs}
 use mathlib.Core.Path.{_≡_, refl, ap}
 use Prim.Native.Nat.{_+_, _-_, _≤_}
@@ -30,9 +31,11 @@ add-k-2 c = omega (arith, tri-small (c .before .before .before .before .before .
 
 loop-again : tie.Need-loop-again Inv-loop μ-loop
 loop-again c =
-    let l = c .before .before .before .before .before .loop in
-    let a = c .before .before .before .before .before .before .before .before .args in
-    let r = c .before .before .rescaled-row in
+    let at-rescaled-row = c .before .before in
+    let at-loop = at-rescaled-row .before .before .before in
+    let l = at-loop .loop in
+    let a = at-loop .before .before .before .args in
+    let r = at-rescaled-row .rescaled-row in
     (omega arith, omega (arith, tri-next (l .n)), search needs, rows-turn (rescaledAt (a .start) (a .gm) (a .radius) (a .field .now)) (l .out) _ (l .k) (l .n) (l .inv .3) (r .ensures))
 
 same-length : tie.Need-same-length Inv-loop μ-loop

@@ -1,3 +1,4 @@
+-- `fit::hand_out`: the states copied into out stay with the rms where all are finite, else refusal 10 over zeros; by proofs/Calls.antt. Assumes nothing.
 use Rattle.fit.proofs.Calls.{hand-good, hand-bad}
 use native.Mathlib.Omega.{arith}
 use borrow.Author.Needs.{needs}
@@ -26,7 +27,9 @@ part-copy-start : tie.Need-part-copy-start
 part-copy-start c = search needs
 
 part-copy-end : tie.Need-part-copy-end
-part-copy-end c = omega (arith, c .before .front-size .ensures .0 (c .before .before .before .before .pre .0), c .before .before .before .before .pre .1, c .before .before .before .before .pre .2)
+part-copy-end c =
+    let start = c .before .before .before .before in
+    omega (arith, c .before .front-size .ensures .0 (start .pre .0), start .pre .1, start .pre .2)
 
 copy-requires : tie.Need-copy-requires
 copy-requires c κs = search needs
@@ -50,7 +53,16 @@ same-length-2 : tie.Need-same-length-2
 same-length-2 c = search needs
 
 returns : tie.Need-returns
-returns c = let s = c .before .before .before .before .before .before .before .before .before .before .before .before .before .before .before .before .before .before .args in hand-good (s .x) (s .degree) (s .steps) _ (s .scratch .now) (s .out .now) _ _ (c .before .before .before .before .before .before .before .before .before .before .before .before .before .before .before .before .before .before .pre .0) (c .before .before .before .before .before .before .before .before .before .before .before .before .before .before .before .before .before .before .pre .1) (c .before .before .before .before .before .before .before .before .before .before .before .before .before .before .before .before .before .before .pre .2) (c .before .before .before .before .before .before .before .before .before .before .before .before .before .before .before .before .before .before .pre .3) (c .before .before .before .before .before .before .before .before .before .before .before .before .before .before .before .front-size .ensures) (c .before .before .before .before .before .before .before .before .before .before .before .copy .ensures) (c .before .before .before .before .before .before .before .clear .ensures) _ _ _ (c .before .before .before .before .is-finite .ensures) (c .before .before .all-finite .ensures) (c .before .both .ensures) (c .if1 .taken)
+returns c =
+    let at-both = c .before in
+    let at-is-finite = at-both .before .before .before in
+    let at-clear = at-is-finite .before .before .before in
+    let at-copy = at-clear .before .before .before .before in
+    let at-front-size = at-copy .before .before .before .before in
+    let start = at-front-size .before .before .before in
+    let s = start .args in hand-good (s .x) (s .degree) (s .steps) _ (s .scratch .now) (s .out .now) _ _ (start .pre .0) (start .pre .1) (start .pre .2) (start .pre .3)
+    (at-front-size .front-size .ensures) (at-copy .copy .ensures) (at-clear .clear .ensures) _ _ _ (at-is-finite .is-finite .ensures) (at-both .before .all-finite .ensures)
+    (at-both .both .ensures) (c .if1 .taken)
 
 clear-requires-2 : tie.Need-clear-requires-2
 clear-requires-2 c κs = search needs
@@ -62,7 +74,18 @@ same-length-4 : tie.Need-same-length-4
 same-length-4 c = search needs
 
 returns-2 : tie.Need-returns-2
-returns-2 c = let s = c .before .before .before .before .before .before .before .before .before .before .before .before .before .before .before .before .before .before .before .before .before .before .args in hand-bad (s .x) (s .degree) (s .steps) _ (s .scratch .now) (s .out .now) _ _ (c .before .before .before .before .before .before .before .before .before .before .before .before .before .before .before .before .before .before .before .before .before .before .pre .0) (c .before .before .before .before .before .before .before .before .before .before .before .before .before .before .before .before .before .before .before .before .before .before .pre .1) (c .before .before .before .before .before .before .before .before .before .before .before .before .before .before .before .before .before .before .before .before .before .before .pre .2) (c .before .before .before .before .before .before .before .before .before .before .before .before .before .before .before .before .before .before .before .before .before .before .pre .3) (c .before .before .before .before .before .before .before .before .before .before .before .before .before .before .before .before .before .before .before .front-size .ensures) (c .before .before .before .before .before .before .before .before .before .before .before .before .before .before .before .copy .ensures) (c .before .before .before .before .before .before .before .before .before .before .before .clear .ensures) _ _ _ (c .before .before .before .before .before .before .before .before .is-finite .ensures) (c .before .before .before .before .before .before .all-finite .ensures) (c .before .before .before .before .before .both .ensures) (c .before .before .before .before .if1 .left) _ (c .before .before .clear2 .ensures)
+returns-2 c =
+    let at-clear2 = c .before .before in
+    let at-if1 = at-clear2 .before .before in
+    let at-both = at-if1 .before in
+    let at-is-finite = at-both .before .before .before in
+    let at-clear = at-is-finite .before .before .before in
+    let at-copy = at-clear .before .before .before .before in
+    let at-front-size = at-copy .before .before .before .before in
+    let start = at-front-size .before .before .before in
+    let s = start .args in hand-bad (s .x) (s .degree) (s .steps) _ (s .scratch .now) (s .out .now) _ _ (start .pre .0) (start .pre .1) (start .pre .2) (start .pre .3)
+    (at-front-size .front-size .ensures) (at-copy .copy .ensures) (at-clear .clear .ensures) _ _ _ (at-is-finite .is-finite .ensures) (at-both .before .all-finite .ensures)
+    (at-both .both .ensures) (at-if1 .if1 .left) _ (at-clear2 .clear2 .ensures)
 
 pub hand-out-spec : {M : Type 1} → statement M
 hand-out-spec =

@@ -13,10 +13,12 @@ returns c = search (needs, gravity-refused)
 
 gravity-in-requires : tie.Need-gravity-in-requires
 gravity-in-requires c κs =
-    let a = c .before .before .before .before .before .before .before .before .args in
-    let z : c .before .before .gravity-refusal .result ≡ 0 = search needs in
+    let at-gravity-refusal = c .before .before in
+    let a = at-gravity-refusal .before .before .before .before .before .before .args in
+    let z : at-gravity-refusal .gravity-refusal .result ≡ 0 = search needs in
     let f : (length (a .field .now) ≡ 2 + 2 * size (a .degree)) × Fits (a .degree) (length (a .a .now)) (length (a .b .now)) (length (a .scratch .now)) =
-    gravity-fits (a .degree) (length (a .field .now)) (length (a .a .now)) (length (a .b .now)) (length (a .scratch .now)) (c .before .before .before .values-fine .result) (c .before .before .gravity-refusal .result) (c .before .before .gravity-refusal .ensures) z in
+    gravity-fits (a .degree) (length (a .field .now)) (length (a .a .now)) (length (a .b .now)) (length (a .scratch .now)) (at-gravity-refusal .before .values-fine .result)
+    (at-gravity-refusal .gravity-refusal .result) (at-gravity-refusal .gravity-refusal .ensures) z in
     f
 
 returns-2 : tie.Need-returns-2

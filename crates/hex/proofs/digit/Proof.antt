@@ -20,7 +20,8 @@ returns-3 c = simp (lt-ltb _ _ (c .if3 .taken), le-ltb _ _ (c .before .if2 .left
 returns-4 : tie.Need-returns-4
 unfolding digitOf
 returns-4 c =
-    simp (c .wide2 .ensures, lt-ltb _ _ (c .before .if4 .taken), le-ltb _ _ (c .before .before .if3 .left), le-ltb _ _ (c .before .before .before .if2 .left), le-ltb _ _ (c .before .before .before .before .if1 .left))
+    let at-if3 = c .before .before in
+    simp (c .wide2 .ensures, lt-ltb _ _ (c .before .if4 .taken), le-ltb _ _ (at-if3 .if3 .left), le-ltb _ _ (at-if3 .before .if2 .left), le-ltb _ _ (at-if3 .before .before .if1 .left))
 
 returns-5 : tie.Need-returns-5
 unfolding digitOf

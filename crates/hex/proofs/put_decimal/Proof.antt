@@ -17,4 +17,5 @@ returns-3 c = search (needs, printed-in)
 pub put-decimal-spec : {M : Type 1} → statement M
 put-decimal-spec =
     tie.close
-    (tie.spec (λ c κs. search needs) returns (λ c. search needs) returns-2 (λ c. search needs) (λ c. search needs) (λ c. search needs) (λ c. search needs) (λ c κs. search needs) (λ c. search needs) returns-3)
+    (tie.spec (λ c κs. search needs) returns (λ c. search needs) returns-2 (λ c. search needs) (λ c. search needs) (λ c. search needs) (λ c. search needs) (λ c κs. search needs) (λ c. search needs)
+    returns-3)

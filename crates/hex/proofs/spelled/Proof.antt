@@ -25,13 +25,25 @@ returns-2 : tie.Need-returns-2 Inv-loop μ-loop
 returns-2 c = search (needs, read-over)
 
 mul-value : tie.Need-mul-value Inv-loop μ-loop
-mul-value c = let r = room (c .before .before .before .before .before .before .before .args .base) (c .before .before .before .before .before .loop .value) (c .before .before .digit .result) (c .before .before .before .before .before .before .before .pre .0) (omega arith) (c .if2 .left) in omega arith
+mul-value c =
+    let at-digit = c .before .before in
+    let at-loop = at-digit .before .before .before in
+    let r = room (at-loop .before .before .args .base) (at-loop .loop .value) (at-digit .digit .result) (at-loop .before .before .pre .0) (omega arith) (c .if2 .left) in omega arith
 
 add-value : tie.Need-add-value Inv-loop μ-loop
-add-value c = let r = room (c .before .before .before .before .before .before .before .args .base) (c .before .before .before .before .before .loop .value) (c .before .before .digit .result) (c .before .before .before .before .before .before .before .pre .0) (omega arith) (c .if2 .left) in omega arith
+add-value c =
+    let at-digit = c .before .before in
+    let at-loop = at-digit .before .before .before in
+    let r = room (at-loop .before .before .args .base) (at-loop .loop .value) (at-digit .digit .result) (at-loop .before .before .pre .0) (omega arith) (c .if2 .left) in omega arith
 
 loop-again : tie.Need-loop-again Inv-loop μ-loop
-loop-again c = (search needs, let r = room (c .before .before .before .before .before .before .before .args .base) (c .before .before .before .before .before .loop .value) (c .before .before .digit .result) (c .before .before .before .before .before .before .before .pre .0) (omega arith) (c .if2 .left) in r, search (needs, read-on))
+loop-again c =
+    let at-digit = c .before .before in
+    let at-loop = at-digit .before .before .before in (
+      search needs,
+      let r = room (at-loop .before .before .args .base) (at-loop .loop .value) (at-digit .digit .result) (at-loop .before .before .pre .0) (omega arith) (c .if2 .left) in r,
+      search (needs, read-on),
+    )
 
 returns-3 : tie.Need-returns-3 Inv-loop μ-loop
 returns-3 c = search (needs, read-done)
@@ -39,4 +51,5 @@ returns-3 c = search (needs, read-done)
 pub spelled-spec : {M : Type 1} → statement M
 spelled-spec =
     tie.close
-    (tie.spec Inv-loop μ-loop loop-holds (λ c. search needs) (λ c κs. search needs) returns (λ c. search needs) (λ c. search needs) returns-2 mul-value add-value (λ c. search needs) (λ c. search needs) loop-again returns-3)
+    (tie.spec Inv-loop μ-loop loop-holds (λ c. search needs) (λ c κs. search needs) returns (λ c. search needs) (λ c. search needs) returns-2 mul-value add-value (λ c. search needs)
+    (λ c. search needs) loop-again returns-3)

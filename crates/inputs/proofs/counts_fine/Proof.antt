@@ -1,3 +1,4 @@
+-- `inputs::counts_fine`: five counts within their bounds, from what each call ensures, by rewriting. Assumes nothing.
 use Rattle.inputs.specs.Inputs.{countsFine}
 use borrow.Author.Needs.{needs}
 use Rattle.inputs.proofs.counts_fine.Statement.{statement}
@@ -21,7 +22,8 @@ both-requires-4 c κs = search needs
 returns : tie.Need-returns
 unfolding countsFine
 returns c =
-    simp (c .both4 .ensures, c .before .fields-fine .ensures, c .before .before .both3 .ensures, c .before .before .before .both2 .ensures, c .before .before .before .before .both .ensures)
+    let at-both3 = c .before .before in
+    simp (c .both4 .ensures, c .before .fields-fine .ensures, at-both3 .both3 .ensures, at-both3 .before .both2 .ensures, at-both3 .before .before .both .ensures)
 
 pub counts-fine-spec : {M : Type 1} → statement M
 counts-fine-spec =

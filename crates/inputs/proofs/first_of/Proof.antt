@@ -1,3 +1,4 @@
+-- `inputs::first_of`: the number of the first of five tests that fails, else the rest's, from what each call ensures, by rewriting. Assumes nothing.
 use borrow.Author.Needs.{needs}
 use Rattle.inputs.proofs.first_of.Statement.{statement}
 use Rattle.inputs.proofs.first_of.Tie as tie
@@ -19,7 +20,8 @@ unless-requires-5 c κs = search needs
 
 returns : tie.Need-returns
 returns c =
-    simp (c .unless5 .ensures, c .before .unless4 .ensures, c .before .before .unless3 .ensures, c .before .before .before .unless2 .ensures, c .before .before .before .before .unless .ensures)
+    let at-unless3 = c .before .before in
+    simp (c .unless5 .ensures, c .before .unless4 .ensures, at-unless3 .unless3 .ensures, at-unless3 .before .unless2 .ensures, at-unless3 .before .before .unless .ensures)
 
 pub first-of-spec : {M : Type 1} → statement M
 first-of-spec =

@@ -1,3 +1,4 @@
+-- `inputs::least_scratch`: the sum is the definition's and wraps nowhere, since 32 fields of 16,471 places stay small (`product-small`). Assumes nothing.
 use mathlib.Core.Path.{ap}
 use Prim.Native.Nat.{ℕ, _+_, _*_}
 use native.Mathlib.Omega.{arith}

@@ -1,51 +1,30 @@
+-- `inputs::model_fine`: fields, tables and field times tested are the definition's test at any degree, by rewriting. Assumes nothing.
 use Rattle.inputs.specs.Inputs.{modelFine}
 use borrow.Author.Needs.{needs}
 use Rattle.inputs.proofs.model_fine.Statement.{statement}
 use Rattle.inputs.proofs.model_fine.Tie as tie
 
-all-finite-requires : tie.Need-all-finite-requires
-all-finite-requires c κs = search needs
-
-all-finite-requires-2 : tie.Need-all-finite-requires-2
-all-finite-requires-2 c κs = search needs
-
-both-requires : tie.Need-both-requires
-both-requires c κs = search needs
-
-all-finite-requires-3 : tie.Need-all-finite-requires-3
-all-finite-requires-3 c κs = search needs
-
-all-finite-requires-4 : tie.Need-all-finite-requires-4
-all-finite-requires-4 c κs = search needs
-
-both-requires-2 : tie.Need-both-requires-2
-both-requires-2 c κs = search needs
-
-all-times-requires : tie.Need-all-times-requires
-all-times-requires c κs = search needs
-
-both-requires-3 : tie.Need-both-requires-3
-both-requires-3 c κs = search needs
-
-both-requires-4 : tie.Need-both-requires-4
-both-requires-4 c κs = search needs
-
 returns : tie.Need-returns
 unfolding modelFine
 returns c =
-    simp (c .both4 .ensures, c .before .both3 .ensures, c .before .before .all-times .ensures, c .before .before .before .both2 .ensures, c .before .before .before .before .all-finite4 .ensures, c .before .before .before .before .before .all-finite3 .ensures, c .before .before .before .before .before .before .both .ensures, c .before .before .before .before .before .before .before .all-finite2 .ensures, c .before .before .before .before .before .before .before .before .all-finite .ensures)
+    let at-both3 = c .before in
+    let at-both2 = at-both3 .before .before .before in
+    let at-all-finite3 = at-both2 .before .before .before in
+    let at-both = at-all-finite3 .before .before in
+    λ N. simp (
+      c .both4 .ensures,
+      at-both3 .both3 .ensures,
+      at-both3 .before .all-times .ensures,
+      at-both2 .both2 .ensures,
+      at-both2 .before .all-finite4 .ensures,
+      at-all-finite3 .all-finite3 .ensures,
+      at-both .both .ensures,
+      at-both .before .all-finite2 .ensures,
+      at-both .before .before .before .all-finite .ensures,
+    )
 
 pub model-fine-spec : {M : Type 1} → statement M
 model-fine-spec =
     tie.close
-    (tie.spec
-    all-finite-requires
-    all-finite-requires-2
-    both-requires
-    all-finite-requires-3
-    all-finite-requires-4
-    both-requires-2
-    all-times-requires
-    both-requires-3
-    both-requires-4
-    returns)
+    (tie.spec (λ c. search needs) (λ c κs. search needs) (λ c. search needs) (λ c κs. search needs) (λ c κs. search needs) (λ c. search needs) (λ c κs. search needs) (λ c. search needs)
+    (λ c κs. search needs) (λ c κs. search needs) (λ c. search needs) (λ c κs. search needs) (λ c κs. search needs) (λ c κs. search needs) returns)

@@ -1,3 +1,4 @@
+-- `inputs::model_lengths`: the product of fields and places does not wrap, and the four lengths are compared as in the definition. Assumes nothing.
 use Prim.Native.Nat.{_+_, _*_}
 use native.Mathlib.Omega.{arith}
 use Rattle.inputs.proofs.Passed.{product-small}

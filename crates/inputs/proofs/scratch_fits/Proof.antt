@@ -1,3 +1,4 @@
+-- `inputs::scratch_fits`: the tests in their order say whether the scratch suffices, each by its law of proofs/Passed.antt. Assumes nothing.
 use Rattle.inputs.proofs.Passed.{scratch-degree, scratch-fields, scratch-count, scratch-within}
 use borrow.Author.Needs.{needs}
 use Rattle.inputs.proofs.scratch_fits.Statement.{statement}

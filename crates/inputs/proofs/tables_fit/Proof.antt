@@ -1,3 +1,4 @@
+-- `inputs::tables_fit`: both satellites' states and accelerometer values have their lengths, from what each call ensures, by rewriting. Assumes nothing.
 use Rattle.inputs.specs.Inputs.{tablesFit}
 use borrow.Author.Needs.{needs}
 use Rattle.inputs.proofs.tables_fit.Statement.{statement}
@@ -21,7 +22,8 @@ both-requires-3 c κs = search needs
 returns : tie.Need-returns
 unfolding tablesFit
 returns c =
-    simp (c .both3 .ensures, c .before .both2 .ensures, c .before .before .both .ensures, c .before .before .before .states-fit2 .ensures, c .before .before .before .before .states-fit .ensures)
+    let at-both = c .before .before in
+    simp (c .both3 .ensures, c .before .both2 .ensures, at-both .both .ensures, at-both .before .states-fit2 .ensures, at-both .before .before .states-fit .ensures)
 
 pub tables-fit-spec : {M : Type 1} → statement M
 tables-fit-spec =

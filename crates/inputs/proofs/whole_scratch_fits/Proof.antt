@@ -1,3 +1,4 @@
+-- `inputs::whole_scratch_fits`: the tests in their order say whether the whole path's scratch suffices, each by its law of proofs/Passed.antt. Assumes nothing.
 use Rattle.inputs.proofs.Passed.{whole-degree, whole-fields, whole-nodes, whole-count, whole-within}
 use borrow.Author.Needs.{needs}
 use Rattle.inputs.proofs.whole_scratch_fits.Statement.{statement}

@@ -1,3 +1,4 @@
+-- No more values are the same than were looked at: the loop's invariant. Assumes nothing.
 use Prim.Native.Nat.{_-_, _≤_}
 use native.Mathlib.Omega.{arith}
 use borrow.Author.Needs.{needs}
@@ -22,4 +23,5 @@ loop-again-2 c = (search needs, search needs)
 pub unchanged-spec : {M : Type 1} → statement M
 unchanged-spec =
     tie.close
-    (tie.spec Inv-loop μ-loop loop-holds (λ c. search needs) (λ c. search needs) (λ c. search needs) (λ c. search needs) (λ c. search needs) (λ c. search needs) loop-again (λ c. search needs) loop-again-2 (λ c. search needs))
+    (tie.spec Inv-loop μ-loop loop-holds (λ c. search needs) (λ c. search needs) (λ c. search needs) (λ c. search needs) (λ c. search needs) (λ c. search needs) loop-again
+    (λ c. search needs) loop-again-2 (λ c. search needs))

@@ -1,3 +1,4 @@
+-- `integrate::arc_fine`: start, node and period tested one by one are the definition's test of an arc, by `arc-is` of proofs/Calls.antt. Assumes nothing.
 use Rattle.integrate.proofs.Calls.{arc-is}
 use borrow.Author.Needs.{needs}
 use Rattle.integrate.proofs.arc_fine.Statement.{statement}

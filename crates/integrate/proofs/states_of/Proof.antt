@@ -1,7 +1,9 @@
+-- `integrate::states_of`: the states of the run, copied out of scratch, are the definition's list, by `states-are` of proofs/Calls.antt. Assumes nothing.
 use Rattle.integrate.proofs.Calls.{states-are}
 use Rattle.integrate.proofs.Calls.{ran-long}
-use Rattle.integrate.specs.Force.{model, attractionOf, runOf}
+use Rattle.integrate.specs.Force.{attractionOf, runOf}
 use native.Mathlib.Omega.{arith}
+use Rattle.inputs.specs.Inputs.{modelOf}
 use borrow.Author.Needs.{needs}
 use Rattle.integrate.proofs.states_of.Statement.{statement}
 use Rattle.integrate.proofs.states_of.Tie as tie
@@ -31,7 +33,17 @@ part-copy-start : tie.Need-part-copy-start
 part-copy-start c = search needs
 
 part-copy-end : tie.Need-part-copy-end
-part-copy-end c = let s = c .before .before .before .before .before .before .before .before .before .before .before .before .before .before .args in omega (arith, ran-long (s .degree) (s .arc .steps) (s .scratch .now) _ _ (c .before .before .before .before .before .before .before .before .before .before .before .before .before .before .pre .0) (c .before .before .before .before .before .before .before .before .before .before .before .before .before .before .pre .1) (c .before .before .before .before .before .before .before .before .before .before .before .before .before .before .pre .2) (c .before .before .before .before .before .run .ensures), c .before .before .front-size .ensures .0 (c .before .before .before .before .before .before .before .before .before .before .before .before .before .before .pre .0), c .before .before .before .before .before .before .before .before .before .before .before .before .before .before .pre .1, c .before .before .before .before .before .before .before .before .before .before .before .before .before .before .pre .2)
+part-copy-end c =
+    let at-front-size = c .before .before in
+    let at-run = at-front-size .before .before .before in
+    let start = at-run .before .before .before .before in
+    let s = start .args in omega (
+      arith,
+      ran-long (s .degree) (s .arc .steps) (s .scratch .now) _ _ (start .pre .0) (start .pre .1) (start .pre .2) (at-run .run .ensures),
+      at-front-size .front-size .ensures .0 (start .pre .0),
+      start .pre .1,
+      start .pre .2,
+    )
 
 copy-requires : tie.Need-copy-requires
 copy-requires c κs = search needs
@@ -44,8 +56,13 @@ same-length-2 c = search needs
 
 returns : tie.Need-returns
 returns c =
-    let s = c .before .before .before .before .before .before .before .before .before .before .before .before .before .before .before .before .before .before .before .args in
-    states-are (s .degree) (s .arc .steps) _ (s .scratch .now) _ (s .out .now) _ (runOf (attractionOf (s .force) (model (s .degree) (s .field .now) (s .times .now) (s .added .now)) (s .a .now) (s .b .now)) (s .arc) (s .p)) (c .before .before .before .before .before .before .before .before .before .before .before .before .before .before .before .before .before .before .before .pre .0) (c .before .before .before .before .before .before .before .before .before .before .before .before .before .before .before .before .before .before .before .pre .1) (c .before .before .before .before .before .before .before .before .before .before .before .before .before .before .before .before .before .before .before .pre .2) (c .before .before .before .before .before .before .before .before .before .before .before .before .before .before .before .before .before .before .before .pre .3) (c .before .before .before .before .before .before .before .before .before .before .run .ensures) (c .before .before .before .before .before .before .before .front-size .ensures) (c .before .before .copy .ensures)
+    let at-copy = c .before .before in
+    let at-front-size = at-copy .before .before .before .before .before in
+    let at-run = at-front-size .before .before .before in
+    let start = at-run .before .before .before .before in
+    let s = start .args in
+    states-are (s .degree) (s .arc .steps) _ (s .scratch .now) _ (s .out .now) _ (runOf (attractionOf (s .force) (modelOf (s .degree) (s .model))) (s .arc) (s .p)) (start .pre .0) (start .pre .1)
+    (start .pre .2) (start .pre .3) (at-run .run .ensures) (at-front-size .front-size .ensures) (at-copy .copy .ensures)
 
 pub states-of-spec : {M : Type 1} → statement M
 states-of-spec =

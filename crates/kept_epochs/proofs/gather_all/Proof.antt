@@ -1,20 +1,32 @@
-use Rattle.integrate.specs.Force.{model}
-use Rattle.epoch.specs.Kept.{keyed}
+-- `kept_epochs::gather_all`: from cleared outputs and an opened work slice, the loop over the observations. Assumes nothing.
 use Rattle.kept_epochs.specs.KeptEpochs.{given}
 use Rattle.kept_epochs.proofs.GatherGuard.{started, finished}
+use Rattle.inputs.specs.Inputs.{modelOf, pairOf, observedOf}
 use borrow.Author.Needs.{needs}
 use Rattle.kept_epochs.proofs.gather_all.Statement.{statement}
 use Rattle.kept_epochs.proofs.gather_all.Tie as tie
 
 gather-from-requires : tie.Need-gather-from-requires
 gather-from-requires c κs =
-    let s = c .before .before .before .before .before .before .before .before .before .before .before .before .before .before .before .before .before .before .before .before .before .before .before .before .before .before .before .before .before .args in
-    started (given (model (s .degree) (s .field .now) (s .times .now) (s .added .now)) (s .a .now) (s .b .now) (keyed (s .cacckeys .now) (s .caccs .now)) (keyed (s .dacckeys .now) (s .daccs .now)) (s .windows) (s .obstimes .now) (s .obsvalues .now) (s .good .now)) (s .outtimes .now) (s .outraws .now) (s .s .now) _ (c .before .before .before .before .before .before .before .before .before .before .before .before .before .before .before .before .before .before .before .before .before .before .before .before .before .before .before .before .before .pre) (c .before .before .before .before .before .before .before .before .before .before .before .before .before .before .before .front-size .ensures) _ _ _ (c .before .before .before .before .before .before .before .before .before .before .before .before .before .clear .ensures) (c .before .before .before .before .before .before .before .before .before .clear2 .ensures) (c .before .before .before .before .before .«open» .ensures)
+    let at-open = c .before .before .before .before .before in
+    let at-clear2 = at-open .before .before .before .before in
+    let at-clear = at-clear2 .before .before .before .before in
+    let at-front-size = at-clear .before .before in
+    let start = at-front-size .before .before .before .before .before .before .before in
+    let s = start .args in
+    started (given (modelOf (s .degree) (s .model)) (pairOf (s .acckeys) (s .accs)) (s .windows) (observedOf (s .obstimes .now) (s .obsvalues .now) (s .good .now))) (s .outtimes .now)
+    (s .outraws .now) (s .s .now) _ (start .pre) (at-front-size .front-size .ensures) _ _ _ (at-clear .clear .ensures) (at-clear2 .clear2 .ensures) (at-open .«open» .ensures)
 
 returns : tie.Need-returns
 returns c =
-    let s = c .before .before .before .before .before .before .before .before .before .before .before .before .before .before .before .before .before .before .before .before .before .before .before .before .before .before .before .before .before .before .before .before .before .before .before .before .args in
-    finished (given (model (s .degree) (s .field .now) (s .times .now) (s .added .now)) (s .a .now) (s .b .now) (keyed (s .cacckeys .now) (s .caccs .now)) (keyed (s .dacckeys .now) (s .daccs .now)) (s .windows) (s .obstimes .now) (s .obsvalues .now) (s .good .now)) (s .outtimes .now) (s .outraws .now) (s .s .now) _ (c .before .before .before .before .before .before .before .before .before .before .before .before .before .before .before .before .before .before .before .before .before .before .before .before .before .before .before .before .before .before .before .before .before .before .before .before .pre) (c .before .before .before .before .before .before .before .before .before .before .before .before .before .before .before .before .before .before .before .before .before .before .front-size .ensures) _ _ _ _ _ (c .before .before .before .before .before .before .before .before .before .before .before .before .«open» .ensures) (c .before .before .before .before .before .before .gather-from .ensures)
+    let at-gather-from = c .before .before .before .before .before .before in
+    let at-open = at-gather-from .before .before .before .before .before .before in
+    let at-clear = at-open .before .before .before .before .before .before .before .before in
+    let at-front-size = at-clear .before .before in
+    let start = at-front-size .before .before .before .before .before .before .before in
+    let s = start .args in
+    finished (given (modelOf (s .degree) (s .model)) (pairOf (s .acckeys) (s .accs)) (s .windows) (observedOf (s .obstimes .now) (s .obsvalues .now) (s .good .now))) (s .outtimes .now)
+    (s .outraws .now) (s .s .now) _ (start .pre) (at-front-size .front-size .ensures) _ _ _ _ _ (at-open .«open» .ensures) (at-gather-from .gather-from .ensures)
 
 pub gather-all-spec : {M : Type 1} → statement M
 gather-all-spec =

@@ -1,9 +1,10 @@
+-- `least_squares::residuals_of`: the first r places hold the first r residuals of the definition. Assumes nothing.
 use mathlib.Core.Path.{_≡_, refl}
 use Prim.Native.Nat.{_-_, _≤_}
 use native.Mathlib.Omega.{arith}
 use lib.ListN.{length, take, length-set}
 use borrow.Author.Needs.{needs}
-use Rattle.least_squares.proofs.Laws.{row-more, row-whole, row-end}
+use Rattle.least_squares.proofs.MatrixLoops.{row-more, row-whole, row-end}
 use Rattle.laws.specs.Tables.{row}
 use Rattle.least_squares.specs.LeastSquares.{residualAt, residualsOf}
 use Rattle.least_squares.proofs.residuals_of.Statement.{statement}
@@ -21,7 +22,10 @@ unfolding row
 loop-holds c = (omega arith, refl, c .before .before .before .before .pre .2, refl)
 
 fitted-requires : tie.Need-fitted-requires Inv-loop μ-loop
-fitted-requires c κs = (c .before .before .before .before .before .before .before .pre .1, omega (arith, row-end (c .before .before .loop .r) (length (c .before .before .before .before .before .before .before .args .y .now)) (c .before .before .before .before .before .before .before .args .p) (c .before .loop-test .taken), c .before .before .before .before .before .before .before .pre .0))
+fitted-requires c κs =
+    let at-loop-test = c .before in
+    let start = at-loop-test .before .before .before .before .before .before in
+    (start .pre .1, omega (arith, row-end (at-loop-test .before .loop .r) (length (start .args .y .now)) (start .args .p) (at-loop-test .loop-test .taken), start .pre .0))
 
 loop-again : tie.Need-loop-again Inv-loop μ-loop
 unfolding residualAt
@@ -38,4 +42,5 @@ returns c =
 pub residuals-of-spec : {M : Type 1} → statement M
 residuals-of-spec =
     tie.close
-    (tie.spec Inv-loop μ-loop loop-holds (λ c. omega arith) (λ c. omega arith) fitted-requires (λ c. omega arith) (λ c. omega arith) (λ c. omega arith) (λ c. omega arith) loop-again (λ c. search needs) returns)
+    (tie.spec Inv-loop μ-loop loop-holds (λ c. omega arith) (λ c. omega arith) fitted-requires (λ c. omega arith) (λ c. omega arith) (λ c. omega arith) (λ c. omega arith) loop-again
+    (λ c. search needs) returns)

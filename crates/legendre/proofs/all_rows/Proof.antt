@@ -1,3 +1,4 @@
+-- `legendre::all_rows`: before degree n the two arrays hold the rows n and n + 1 start from, and the sums are those of the degrees below n. Assumes nothing.
 use Rattle.laws.specs.Sums.{sumTo}
 use Rattle.legendre.specs.Rows.{tablesOf, Holds}
 use Rattle.legendre.specs.Sums.{evaluation, AllSums, allV, allR, allLat, allLon, power}
@@ -12,7 +13,8 @@ use Rattle.legendre.proofs.all_rows.Tie as tie
 
 abbrev Inv-loop : tie.InvT-loop
 Inv-loop degree q t u lon a b lower upper heads c s x y r qa₀ qb₀ p₀ d₀ sum₀ n₀ qa qb p d sum n =
-    (n ≤ degree + 1) × Holds (tablesOf a b lower upper heads) t n qa × Holds (tablesOf a b lower upper heads) t (suc n) qb × (length p ≡ 184) × (length d ≡ 184) × AllSums (evaluation (tablesOf a b lower upper heads) t u lon c s) q n (sum .v) (sum .r) (sum .lat) (sum .lon) (sum .qn)
+    (n ≤ degree + 1) × Holds (tablesOf a b lower upper heads) t n qa × Holds (tablesOf a b lower upper heads) t (suc n) qb × (length p ≡ 184) × (length d ≡ 184)
+    × AllSums (evaluation (tablesOf a b lower upper heads) t u lon c s) q n (sum .v) (sum .r) (sum .lat) (sum .lon) (sum .qn)
 
 abbrev μ-loop : tie.MeasureT-loop
 μ-loop degree q t u lon a b lower upper heads c s x y r qa₀ qb₀ p₀ d₀ sum₀ n₀ qa qb p d sum n = degree + 1 - n
@@ -20,55 +22,97 @@ abbrev μ-loop : tie.MeasureT-loop
 loop-holds : tie.Need-loop-holds Inv-loop μ-loop
 unfolding allV allR allLat allLon power sumTo
 loop-holds c =
-    let s = c .before .before .before .before .before .before .before in
-    (omega arith, s .pre .4, s .pre .5, s .pre .6, s .pre .7, record { av = refl; ar = refl; alat = refl; alon = refl; aq = refl })
+    let start = c .before .before .before .before .before .before .before in
+    (omega arith, start .pre .4, start .pre .5, start .pre .6, start .pre .7, record { av = refl; ar = refl; alat = refl; alon = refl; aq = refl })
 
 one-row-requires : tie.Need-one-row-requires Inv-loop μ-loop
 one-row-requires c κs =
-    let h = c .before .before .before .before .before in
-    let s = h .before .before .before .before .before .before .before .before in
-    let l : h .loop .n ≤ s .args .degree = omega arith in
-    (omega arith, room-less (s .args .degree) (h .loop .n) (s .pre .1) l, field-less (s .args .degree) (h .loop .n) (s .pre .2) l, has-less (s .args .degree) (h .loop .n) (s .pre .3) l, h .loop .inv .2, h .loop .inv .1, h .loop .inv .3, h .loop .inv .4, h .loop .inv .5, has-less (s .args .degree) (h .loop .n) (s .pre .8) l, has-less (s .args .degree) (h .loop .n) (s .pre .9) l)
+    let at-loop = c .before .before .before .before .before in
+    let start = at-loop .before .before .before .before .before .before .before .before in
+    let l : at-loop .loop .n ≤ start .args .degree = omega arith in (
+      omega arith,
+      room-less (start .args .degree) (at-loop .loop .n) (start .pre .1) l,
+      field-less (start .args .degree) (at-loop .loop .n) (start .pre .2) l,
+      has-less (start .args .degree) (at-loop .loop .n) (start .pre .3) l,
+      at-loop .loop .inv .2,
+      at-loop .loop .inv .1,
+      at-loop .loop .inv .3,
+      at-loop .loop .inv .4,
+      at-loop .loop .inv .5,
+      has-less (start .args .degree) (at-loop .loop .n) (start .pre .8) l,
+      has-less (start .args .degree) (at-loop .loop .n) (start .pre .9) l,
+    )
 
 returns : tie.Need-returns Inv-loop μ-loop
 returns c =
-    let h = c .before .before .before .before .before .before .before in
-    let s = h .before .before .before .before .before .before .before .before in
-    let e : h .loop .n ≡ s .args .degree = c .if1 .taken in
-    sums-at (s .args .degree + 1) (c .before .one-row .ensures .3) (omega arith)
+    let at-loop = c .before .before .before .before .before .before .before in
+    let start = at-loop .before .before .before .before .before .before .before .before in
+    let e : at-loop .loop .n ≡ start .args .degree = c .if1 .taken in
+    sums-at (start .args .degree + 1) (c .before .one-row .ensures .3) (omega arith)
 
 add-one-row : tie.Need-add-one-row Inv-loop μ-loop
-add-one-row c = let h = c .before .before .before .before .before .before .before in omega (arith, c .before .before .before .before .before .before .loop-test .taken, h .before .before .before .before .before .before .before .before .pre .0)
+add-one-row c =
+    let at-loop-test = c .before .before .before .before .before .before in
+    let at-loop = at-loop-test .before in
+    let start = at-loop .before .before .before .before .before .before .before .before in
+    omega (arith, at-loop-test .loop-test .taken, start .pre .0)
 
 one-row-requires-2 : tie.Need-one-row-requires-2 Inv-loop μ-loop
 one-row-requires-2 c κs =
-    let o = c .before .before .before .before .before in
-    let h = o .before .before .before .before .before .before in
-    let s = h .before .before .before .before .before .before .before .before in
-    let l : h .loop .n + 1 ≤ s .args .degree = omega (arith, o .before .before .before .before .before .loop-test .taken, c .before .before .before .before .if1 .left) in
-    let y : s .args .degree ≤ 180 = s .pre .0 in
-    (omega arith, room-less (s .args .degree) (h .loop .n + 1) (s .pre .1) l, field-less (s .args .degree) (h .loop .n + 1) (s .pre .2) l, has-less (s .args .degree) (h .loop .n + 1) (s .pre .3) l, holds-at (suc (h .loop .n + 1)) (o .one-row .ensures .0) (omega arith), holds-at (h .loop .n + 1) (h .loop .inv .2) (omega arith), o .one-row .ensures .1, o .one-row .ensures .2, o .one-row .ensures .3, has-less (s .args .degree) (h .loop .n + 1) (s .pre .8) l, has-less (s .args .degree) (h .loop .n + 1) (s .pre .9) l)
+    let at-if1 = c .before .before .before .before in
+    let at-one-row = at-if1 .before in
+    let at-loop-test = at-one-row .before .before .before .before .before in
+    let at-loop = at-loop-test .before in
+    let start = at-loop .before .before .before .before .before .before .before .before in
+    let l : at-loop .loop .n + 1 ≤ start .args .degree = omega (arith, at-loop-test .loop-test .taken, at-if1 .if1 .left) in
+    let y : start .args .degree ≤ 180 = start .pre .0 in (
+      omega arith,
+      room-less (start .args .degree) (at-loop .loop .n + 1) (start .pre .1) l,
+      field-less (start .args .degree) (at-loop .loop .n + 1) (start .pre .2) l,
+      has-less (start .args .degree) (at-loop .loop .n + 1) (start .pre .3) l,
+      holds-at (suc (at-loop .loop .n + 1)) (at-one-row .one-row .ensures .0) (omega arith),
+      holds-at (at-loop .loop .n + 1) (at-loop .loop .inv .2) (omega arith),
+      at-one-row .one-row .ensures .1,
+      at-one-row .one-row .ensures .2,
+      at-one-row .one-row .ensures .3,
+      has-less (start .args .degree) (at-loop .loop .n + 1) (start .pre .8) l,
+      has-less (start .args .degree) (at-loop .loop .n + 1) (start .pre .9) l,
+    )
 
 add-n : tie.Need-add-n Inv-loop μ-loop
-add-n c = let h = c .before .before .before .before .before .before .before .before .before .before .before .before in omega (arith, c .before .before .before .before .before .before .before .before .before .before .before .loop-test .taken, h .before .before .before .before .before .before .before .before .pre .0)
+add-n c =
+    let at-one-row = c .before .before .before .before .before .before in
+    let at-loop-test = at-one-row .before .before .before .before .before in
+    let at-loop = at-loop-test .before in
+    let start = at-loop .before .before .before .before .before .before .before .before in
+    omega (arith, at-loop-test .loop-test .taken, start .pre .0)
 
 loop-less : tie.Need-loop-less Inv-loop μ-loop
-loop-less c = omega (arith, c .before .before .before .before .before .before .before .before .before .before .before .loop-test .taken)
+loop-less c =
+    let at-one-row = c .before .before .before .before .before .before in
+    let at-loop-test = at-one-row .before .before .before .before .before in
+    omega (arith, at-loop-test .loop-test .taken)
 
 loop-again : tie.Need-loop-again Inv-loop μ-loop
 loop-again c =
-    let o = c .before .before .before .before .before .before in
-    let h = o .before .before .before .before .before .before in
-    let s = h .before .before .before .before .before .before .before .before in
-    let l : h .loop .n + 1 ≤ s .args .degree = omega (arith, o .before .before .before .before .before .loop-test .taken, c .before .before .before .before .before .if1 .left) in
-    (omega arith, holds-at (h .loop .n + 2) (o .one-row .ensures .0) (omega arith), holds-at (suc (h .loop .n + 2)) (c .one-row2 .ensures .0) (omega arith), c .one-row2 .ensures .1, c .one-row2 .ensures .2, sums-at (h .loop .n + 2) (c .one-row2 .ensures .3) (omega arith))
+    let at-if1 = c .before .before .before .before .before in
+    let at-loop-test = at-if1 .before .before .before .before .before .before in
+    let at-loop = at-loop-test .before in
+    let l : at-loop .loop .n + 1 ≤ at-loop .before .before .before .before .before .before .before .before .args .degree = omega (arith, at-loop-test .loop-test .taken, at-if1 .if1 .left) in (
+      omega arith,
+      holds-at (at-loop .loop .n + 2) (at-if1 .before .one-row .ensures .0) (omega arith),
+      holds-at (suc (at-loop .loop .n + 2)) (c .one-row2 .ensures .0) (omega arith),
+      c .one-row2 .ensures .1,
+      c .one-row2 .ensures .2,
+      sums-at (at-loop .loop .n + 2) (c .one-row2 .ensures .3) (omega arith),
+    )
 
 returns-2 : tie.Need-returns-2 Inv-loop μ-loop
 returns-2 c =
-    let h = c .before in
-    let s = h .before .before .before .before .before .before .before .before in
-    let e : h .loop .n ≡ s .args .degree + 1 = omega (arith, c .loop-test .left, h .loop .inv .0) in
-    sums-at (s .args .degree + 1) (h .loop .inv .5) e
+    let at-loop = c .before in
+    let start = at-loop .before .before .before .before .before .before .before .before in
+    let e : at-loop .loop .n ≡ start .args .degree + 1 = omega (arith, c .loop-test .left, at-loop .loop .inv .0) in
+    sums-at (start .args .degree + 1) (at-loop .loop .inv .5) e
 
 pub all-rows-spec : {M : Type 1} → statement M
 all-rows-spec =

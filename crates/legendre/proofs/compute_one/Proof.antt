@@ -1,3 +1,4 @@
+-- `legendre::compute_one`: one row of the Legendre functions and of their derivatives is the definition's row. Assumes nothing.
 use borrow.Author.Needs.{needs}
 use Prim.Native.Nat.{_+_, _-_}
 use mathlib.Core.Path.{ap, _∙_}
@@ -13,16 +14,27 @@ use Rattle.legendre.proofs.compute_one.Tie as tie
 
 returns : tie.Need-returns
 returns c =
-    let s = c .before .before .before .before .before .before .before .before .before .before .before .before .before .before .before .before .before .before .before .before .before .before .before .before .before in
-    let a = s .args in
-    let e = c .before .before .before .before .before .before .before .before .before .before .before .before .before .before .before .before .before .tri-of .ensures .0 in
+    let at-store-row2 = c .before .before in
+    let at-store-row = at-store-row2 .before .before .before .before .before in
+    let at-derived-row = at-store-row .before .before .before in
+    let at-legendre-row = at-derived-row .before .before .before in
+    let at-tri-of = at-legendre-row .before .before .before .before in
+    let start = at-tri-of .before .before .before .before .before .before .before .before in
+    let a = start .args in
+    let e = at-tri-of .tri-of .ensures .0 in
     let T : Tables = tablesOf (a .a .now) (a .b .now) (a .lower .now) (a .upper .now) (a .heads .now) in
-    let lr = c .before .before .before .before .before .before .before .before .before .before .before .before .before .legendre-row .ensures in
-    let hp = p-is T (a .t) (a .n) (a .q1 .now) (a .q2 .now) (s .pre .3) (s .pre .4) (s .pre .0) (a .u) (s .pre .2) (rw e at (lr .1)) in
-    let hd = d-is T (a .t) (a .u) (a .n) hp (rw e at (c .before .before .before .before .before .before .before .before .before .before .derived-row .ensures)) in
-    (holds-next T (a .t) (a .n) (a .q1 .now) (a .q2 .now) (s .pre .3) (s .pre .4) (s .pre .0) (rw e at (lr .0)), hp .len, hd .len, (rw e at (c .before .before .before .before .before .before .before .store-row .ensures)) ∙ ap (λ (l : List Float). take (tri (a .n)) (a .p .now) ++ l) (row-has hp), (rw e at (c .before .before .store-row2 .ensures)) ∙ ap (λ (l : List Float). take (tri (a .n)) (a .dp .now) ++ l) (row-has hd))
+    let lr = at-legendre-row .legendre-row .ensures in
+    let hp = p-is T (a .t) (a .n) (a .q1 .now) (a .q2 .now) (start .pre .3) (start .pre .4) (start .pre .0) (a .u) (start .pre .2) (rw e at (lr .1)) in
+    let hd = d-is T (a .t) (a .u) (a .n) hp (rw e at (at-derived-row .derived-row .ensures)) in (
+      holds-next T (a .t) (a .n) (a .q1 .now) (a .q2 .now) (start .pre .3) (start .pre .4) (start .pre .0) (rw e at (lr .0)),
+      hp .len,
+      hd .len,
+      (rw e at (at-store-row .store-row .ensures)) ∙ ap (λ (l : List Float). take (tri (a .n)) (a .p .now) ++ l) (row-has hp),
+      (rw e at (at-store-row2 .store-row2 .ensures)) ∙ ap (λ (l : List Float). take (tri (a .n)) (a .dp .now) ++ l) (row-has hd),
+    )
 
 pub compute-one-spec : {M : Type 1} → statement M
 compute-one-spec =
     tie.close
-    (tie.spec (λ c κs. search needs) (λ c. search needs) (λ c. search needs) (λ c κs. search needs) (λ c κs. search needs) (λ c κs. search needs) (λ c κs. search needs) (λ c. search needs) (λ c. search needs) returns)
+    (tie.spec (λ c κs. search needs) (λ c. search needs) (λ c. search needs) (λ c κs. search needs) (λ c κs. search needs) (λ c κs. search needs) (λ c κs. search needs) (λ c. search needs)
+    (λ c. search needs) returns)

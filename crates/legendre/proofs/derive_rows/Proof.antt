@@ -1,3 +1,4 @@
+-- `legendre::derive_rows`: before degree n the table holds the derivatives' rows below n. Assumes nothing.
 use borrow.Author.Needs.{needs}
 use Prim.Native.Nat.{ℕ, _+_, _-_, _≤_}
 use mathlib.Core.Path.{_≡_, refl}
@@ -17,21 +18,26 @@ abbrev μ-loop : tie.MeasureT-loop
 μ-loop degree lower upper p x₀ d₀ dp₀ n₀ x d dp n = degree + 1 - n
 
 loop-holds : tie.Need-loop-holds Inv-loop μ-loop
-loop-holds c = (omega arith, c .before .before .before .before .pre .4, c .before .before .before .before .pre .5, refl, search rows-none)
+loop-holds c =
+    let start = c .before .before .before .before in
+    (omega arith, start .pre .4, start .pre .5, refl, search rows-none)
 
 derive-one-requires : tie.Need-derive-one-requires Inv-loop μ-loop
 derive-one-requires c κs =
-    let l = c .before .before .before .before .before .loop in
-    let more = tri-mono (l .n + 1) (c .before .before .before .before .before .before .before .before .before .before .args .degree + 1) (omega arith) in
+    let at-loop = c .before .before .before .before .before in
+    let l = at-loop .loop in
+    let more = tri-mono (l .n + 1) (at-loop .before .before .before .before .before .args .degree + 1) (omega arith) in
     let next = tri-next (l .n) in
     (omega arith, omega arith, omega arith, omega arith, l .inv .1, l .inv .2, omega arith)
 
 loop-again : tie.Need-loop-again Inv-loop μ-loop
 loop-again c =
-    let a = c .before .before .before .before .before .before .before .before .before .before .before .before .before .args in
-    let l = c .before .before .before .before .before .before .before .before .loop in
-    let t = c .before .before .before .before .before .before .tri-of in
-    let r = c .before .before .derive-one .ensures in
+    let at-derive-one = c .before .before in
+    let at-tri-of = at-derive-one .before .before .before .before in
+    let a = at-tri-of .before .before .before .before .before .before .before .args in
+    let l = at-tri-of .before .before .loop in
+    let t = at-tri-of .tri-of in
+    let r = at-derive-one .derive-one .ensures in
     let f : ℕ → ℕ → Float = derivedFrom (a .lower .now) (a .upper .now) (a .p .now) in
     (omega arith, r .1, r .2, search needs, rows-more f (l .dp) _ (tri (l .n)) (l .n) refl (l .inv .4) (rw (t .ensures .0) at (r .0)))
 

@@ -1,3 +1,4 @@
+-- `legendre::derived_row`: the first m places hold the row of the definition, whose first, middle and last places differ. Assumes nothing.
 use Rattle.laws.specs.Floats.{_⊗_}
 use Rattle.legendre.specs.Legendre.{derivedRow}
 use Rattle.legendre.specs.Arrays.{from, at, Has}
@@ -28,23 +29,33 @@ returns c =
 
 loop-holds : tie.Need-loop-holds Inv-loop μ-loop
 loop-holds c =
-    let s = c .before .before .before .args in
-    (omega arith, omega arith, has-one (s .d .now) _ (omega arith) (ap (λ (x : Float). x ⊗ getD (s .p .now) 1 nan) (zero-place (s .upper .now) (s .k)) ∙ der-first (s .n) (from (s .lower .now) (s .k)) (from (s .upper .now) (s .k)) (at (s .p .now)) (omega arith)))
+    let s = c .before .before .before .args in (
+      omega arith,
+      omega arith,
+      has-one (s .d .now) _ (omega arith) (ap (λ (x : Float). x ⊗ getD (s .p .now) 1 nan) (zero-place (s .upper .now) (s .k))
+          ∙ der-first (s .n) (from (s .lower .now) (s .k)) (from (s .upper .now) (s .k)) (at (s .p .now)) (omega arith)),
+    )
 
 loop-again : tie.Need-loop-again Inv-loop μ-loop
 loop-again c =
-    let g = c .before .before .before .before .before in
-    let s = g .before .before .before .before .args in
-    (omega arith, omega arith, has-more _ (g .loop .inv .2) (omega arith) (der-mid (s .n) (from (s .lower .now) (s .k)) (from (s .upper .now) (s .k)) (at (s .p .now)) (g .loop .m) (omega arith) (omega arith)))
+    let at-loop = c .before .before .before .before .before in
+    let s = at-loop .before .before .before .before .args in (
+      omega arith,
+      omega arith,
+      has-more _ (at-loop .loop .inv .2) (omega arith) (der-mid (s .n) (from (s .lower .now) (s .k)) (from (s .upper .now) (s .k)) (at (s .p .now)) (at-loop .loop .m) (omega arith) (omega arith)),
+    )
 
 returns-2 : tie.Need-returns-2 Inv-loop μ-loop
 returns-2 c =
-    let g = c .before .before .before in
-    let s = g .before .before .before .before .args in
-    let e : g .loop .m ≡ s .n = omega arith in
-    has-more _ (rw e at (g .loop .inv .2)) (omega arith) (der-last (s .n) (from (s .lower .now) (s .k)) (from (s .upper .now) (s .k)) (at (s .p .now)) (omega arith))
+    let at-loop = c .before .before .before in
+    let s = at-loop .before .before .before .before .args in
+    let e : at-loop .loop .m ≡ s .n = omega arith in
+    has-more _ (rw e at (at-loop .loop .inv .2)) (omega arith) (der-last (s .n) (from (s .lower .now) (s .k)) (from (s .upper .now) (s .k)) (at (s .p .now)) (omega arith))
 
 pub derived-row-spec : {M : Type 1} → statement M
 derived-row-spec =
     tie.close
-    (tie.spec Inv-loop μ-loop (λ c. omega arith) returns (λ c. omega arith) (λ c. omega arith) (λ c. omega arith) (λ c. omega arith) loop-holds (λ c. omega arith) (λ c. omega arith) (λ c. omega arith) (λ c. omega arith) (λ c. omega arith) (λ c. omega arith) (λ c. omega arith) (λ c. omega arith) (λ c. omega arith) (λ c. omega arith) (λ c. omega arith) (λ c. omega arith) (λ c. omega arith) (λ c. omega arith) (λ c. omega arith) (λ c. omega arith) loop-again (λ c. omega arith) (λ c. omega arith) (λ c. omega arith) (λ c. omega arith) (λ c. omega arith) (λ c. omega arith) (λ c. omega arith) (λ c. omega arith) returns-2)
+    (tie.spec Inv-loop μ-loop (λ c. omega arith) returns (λ c. omega arith) (λ c. omega arith) (λ c. omega arith) (λ c. omega arith) loop-holds (λ c. omega arith) (λ c. omega arith) (λ c. omega arith)
+    (λ c. omega arith) (λ c. omega arith) (λ c. omega arith) (λ c. omega arith) (λ c. omega arith) (λ c. omega arith) (λ c. omega arith) (λ c. omega arith) (λ c. omega arith) (λ c. omega arith)
+    (λ c. omega arith) (λ c. omega arith) (λ c. omega arith) loop-again (λ c. omega arith) (λ c. omega arith) (λ c. omega arith) (λ c. omega arith) (λ c. omega arith) (λ c. omega arith)
+    (λ c. omega arith) (λ c. omega arith) returns-2)

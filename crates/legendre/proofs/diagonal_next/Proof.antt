@@ -5,10 +5,12 @@ use Rattle.legendre.proofs.diagonal_next.Statement.{statement}
 use Rattle.legendre.proofs.diagonal_next.Tie as tie
 
 returns : tie.Need-returns
-returns c = let s = c .before .before in rw (eq-eqb (s .args .m) 1 (c .before .if1 .taken)) (cc)
+returns c = rw (eq-eqb (c .before .before .args .m) 1 (c .before .if1 .taken)) (cc)
 
 returns-2 : tie.Need-returns-2
-returns-2 c = let s = c .before .before .before .before in rw (ne-eqb (s .args .m) 1 (c .before .before .before .if1 .left)) (cc)
+returns-2 c =
+    let at-if1 = c .before .before .before in
+    rw (ne-eqb (at-if1 .before .args .m) 1 (at-if1 .if1 .left)) (cc)
 
 pub diagonal-next-spec : {M : Type 1} → statement M
 diagonal-next-spec =

@@ -1,3 +1,4 @@
+-- `legendre::diagonal_row`: the first m places hold the diagonal, and pmm is its next number. Assumes nothing.
 use borrow.Author.Needs.{needs}
 use Prim.Native.Nat.{_+_, _-_, _≤_}
 use mathlib.Core.Path.{_≡_, refl}

@@ -17,4 +17,5 @@ returns-4 c = simp (c .upper-of .ensures, c .before .enum-told4 .given .1)
 pub factor-at-spec : {M : Type 1} → statement M
 factor-at-spec =
     tie.close
-    (tie.spec (λ c. search needs) (λ c κs. search needs) (λ c. search needs) (λ c κs. search needs) (λ c. search needs) (λ c κs. search needs) (λ c. search needs) (λ c κs. search needs) returns returns-2 returns-3 returns-4)
+    (tie.spec (λ c. search needs) (λ c κs. search needs) (λ c. search needs) (λ c κs. search needs) (λ c. search needs) (λ c κs. search needs) (λ c. search needs) (λ c κs. search needs) returns
+    returns-2 returns-3 returns-4)

@@ -1,3 +1,4 @@
+-- `legendre::factor_row`: behind the first k places stand the first m factors of row n. Assumes nothing.
 use borrow.Author.Needs.{needs}
 use Prim.Native.Nat.{_+_, _-_, _≤_}
 use mathlib.Core.Path.{_≡_, refl}

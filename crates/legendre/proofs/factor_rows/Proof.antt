@@ -1,3 +1,4 @@
+-- `legendre::factor_rows`: before degree n the table holds the factors' rows below n. Assumes nothing.
 use borrow.Author.Needs.{needs}
 use Prim.Native.Nat.{_+_, _-_, _≤_}
 use mathlib.Core.Path.{_≡_, refl}
@@ -20,17 +21,20 @@ loop-holds c = (omega arith, refl, search rows-none)
 
 factor-row-requires : tie.Need-factor-row-requires Inv-loop μ-loop
 factor-row-requires c κs =
-    let n = c .before .before .before .loop .n in
-    let more = tri-mono (n + 1) (c .before .before .before .before .before .args .degree + 1) (omega arith) in
+    let at-loop = c .before .before .before in
+    let n = at-loop .loop .n in
+    let more = tri-mono (n + 1) (at-loop .before .before .args .degree + 1) (omega arith) in
     let next = tri-next n in
     (omega arith, omega arith, omega arith)
 
 loop-again : tie.Need-loop-again Inv-loop μ-loop
 loop-again c =
-    let l = c .before .before .before .before .before .before .loop in
-    let f = c .before .before .before .before .before .before .before .before .args .f in
-    let r = c .before .before .factor-row in
-    (omega arith, search needs, rows-more (factorOf f) (l .out) _ (c .before .before .before .before .tri-of .result) (l .n) (c .before .before .before .before .tri-of .ensures .0) (l .inv .2) (r .ensures))
+    let at-factor-row = c .before .before in
+    let at-tri-of = at-factor-row .before .before in
+    let l = at-tri-of .before .before .loop in
+    let f = at-tri-of .before .before .before .before .args .f in
+    let r = at-factor-row .factor-row in
+    (omega arith, search needs, rows-more (factorOf f) (l .out) _ (at-tri-of .tri-of .result) (l .n) (at-tri-of .tri-of .ensures .0) (l .inv .2) (r .ensures))
 
 same-length : tie.Need-same-length Inv-loop μ-loop
 same-length c = c .before .loop .inv .1

@@ -1,3 +1,4 @@
+-- `legendre::legendre_row`: the first m places are the next row in the place of the row before last, and p has its products with r. Assumes nothing.
 use Rattle.laws.specs.Floats.{_⊗_}
 use Rattle.legendre.specs.Rows.{nextRow}
 use Rattle.legendre.specs.Arrays.{at, Begins, Has}
@@ -22,20 +23,22 @@ loop-holds c = (omega arith, pre-none, has-none (omega arith))
 
 loop-again : tie.Need-loop-again Inv-loop μ-loop
 loop-again c =
-    let g = c .before .before .before .before .before .before in
-    let s = g .before .args in
-    let v = next-mid (s .n) (s .k) (s .t) (s .head) (s .a .now) (s .b .now) (s .q1 .now) (s .q2 .now) (g .loop .inv .1) (omega arith) in
-    (omega arith, pre-more _ (g .loop .inv .1) (omega arith) v, has-more _ (g .loop .inv .2) (omega arith) (ap (λ (x : Float). x ⊗ getD (s .r .now) (g .loop .m) nan) v))
+    let at-loop = c .before .before .before .before .before .before in
+    let s = at-loop .before .args in
+    let v = next-mid (s .n) (s .k) (s .t) (s .head) (s .a .now) (s .b .now) (s .q1 .now) (s .q2 .now) (at-loop .loop .inv .1) (omega arith) in
+    (omega arith, pre-more _ (at-loop .loop .inv .1) (omega arith) v, has-more _ (at-loop .loop .inv .2) (omega arith) (ap (λ (x : Float). x ⊗ getD (s .r .now) (at-loop .loop .m) nan) v))
 
 returns : tie.Need-returns Inv-loop μ-loop
 returns c =
-    let g = c .before .before in
-    let s = g .before .args in
-    let e : g .loop .m ≡ s .n = omega arith in
+    let at-loop = c .before .before in
+    let s = at-loop .before .args in
+    let e : at-loop .loop .m ≡ s .n = omega arith in
     let v = next-last (s .n) (s .k) (s .t) (s .head) (s .a .now) (s .b .now) (at (s .q1 .now)) (at (s .q2 .now)) in
-    (pre-more _ (rw e at (g .loop .inv .1)) (omega arith) v, has-more _ (rw e at (g .loop .inv .2)) (omega arith) (ap (λ (x : Float). x ⊗ getD (s .r .now) (s .n) nan) v))
+    (pre-more _ (rw e at (at-loop .loop .inv .1)) (omega arith) v, has-more _ (rw e at (at-loop .loop .inv .2)) (omega arith) (ap (λ (x : Float). x ⊗ getD (s .r .now) (s .n) nan) v))
 
 pub legendre-row-spec : {M : Type 1} → statement M
 legendre-row-spec =
     tie.close
-    (tie.spec Inv-loop μ-loop loop-holds (λ c. omega arith) (λ c. omega arith) (λ c. omega arith) (λ c. omega arith) (λ c. omega arith) (λ c. omega arith) (λ c. omega arith) (λ c. omega arith) (λ c. omega arith) (λ c. omega arith) (λ c. omega arith) (λ c. omega arith) (λ c. omega arith) (λ c. omega arith) (λ c. omega arith) (λ c. omega arith) (λ c. omega arith) (λ c. omega arith) loop-again (λ c. omega arith) (λ c. omega arith) (λ c. omega arith) (λ c. omega arith) (λ c. omega arith) (λ c. omega arith) returns)
+    (tie.spec Inv-loop μ-loop loop-holds (λ c. omega arith) (λ c. omega arith) (λ c. omega arith) (λ c. omega arith) (λ c. omega arith) (λ c. omega arith) (λ c. omega arith) (λ c. omega arith)
+    (λ c. omega arith) (λ c. omega arith) (λ c. omega arith) (λ c. omega arith) (λ c. omega arith) (λ c. omega arith) (λ c. omega arith) (λ c. omega arith) (λ c. omega arith) (λ c. omega arith)
+    loop-again (λ c. omega arith) (λ c. omega arith) (λ c. omega arith) (λ c. omega arith) (λ c. omega arith) (λ c. omega arith) returns)

@@ -1,3 +1,4 @@
+-- `legendre::load_row`: the first m places of the array are those of the row that begins at k. Assumes nothing.
 use borrow.Author.Needs.{needs}
 use Prim.Native.Nat.{_+_, _-_, _≤_}
 use mathlib.Core.Path.{_≡_, refl}

@@ -1,3 +1,4 @@
+-- `legendre::one_row`: a row of Legendre functions, of derivatives and its sums, from what each call ensures, add one degree. Assumes nothing.
 use Rattle.legendre.specs.Rows.{tablesOf, Tables}
 use Rattle.legendre.specs.Sums.{evaluation, Evaluation}
 use Rattle.legendre.specs.Arrays.{at}
@@ -11,27 +12,41 @@ use Rattle.legendre.proofs.one_row.Tie as tie
 
 row-sums-requires : tie.Need-row-sums-requires
 row-sums-requires c κs =
-    let dr = c .before .before in
-    let lr = dr .before .before .before in
-    let s = lr .before .before .before .before .before .before .before .before .before .before .before .before .before in
-    (s .pre .0, omega (arith, lr .before .before .before .before .tri-of .ensures .0, s .pre .2 .c), omega (arith, lr .before .before .before .before .tri-of .ensures .0, s .pre .2 .s), s .pre .9 .len, s .pre .10 .len, lr .legendre-row .ensures .1 .len, dr .derived-row .ensures .len)
+    let at-derived-row = c .before .before in
+    let at-legendre-row = at-derived-row .before .before .before in
+    let at-tri-of = at-legendre-row .before .before .before .before in
+    let at-float-of = at-tri-of .before in
+    let start = at-float-of .before .before .before .before .before .before .before .before in (
+      start .pre .0,
+      omega (arith, at-tri-of .tri-of .ensures .0, start .pre .2 .c),
+      omega (arith, at-tri-of .tri-of .ensures .0, start .pre .2 .s),
+      start .pre .9 .len,
+      start .pre .10 .len,
+      at-legendre-row .legendre-row .ensures .1 .len,
+      at-derived-row .derived-row .ensures .len,
+    )
 
 returns : tie.Need-returns
 returns c =
-    let rs = c .before .before .before .before .before .before .before .before .before .before .before .before .before in
-    let dr = rs .before .before .before in
-    let lr = dr .before .before .before in
-    let tr = lr .before .before .before .before in
-    let fo = tr .before in
-    let s = fo .before .before .before .before .before .before .before .before in
-    let a = s .args in
-    let e = tr .tri-of .ensures .0 in
+    let at-struct-known5 = c .before .before .before .before .before .before .before .before in
+    let at-row-sums = at-struct-known5 .before .before .before .before .before in
+    let at-derived-row = at-row-sums .before .before .before in
+    let at-legendre-row = at-derived-row .before .before .before in
+    let at-tri-of = at-legendre-row .before .before .before .before in
+    let at-float-of = at-tri-of .before in
+    let start = at-float-of .before .before .before .before .before .before .before .before in
+    let a = start .args in
+    let e = at-tri-of .tri-of .ensures .0 in
     let T : Tables = tablesOf (a .a .now) (a .b .now) (a .lower .now) (a .upper .now) (a .heads .now) in
     let F : Evaluation = evaluation T (a .t) (a .u) (a .lon) (a .c .now) (a .s .now) in
-    let hp = p-is T (a .t) (a .n) (a .q1 .now) (a .q2 .now) (s .pre .4) (s .pre .5) (s .pre .0) (a .u) (s .pre .3) (rw e at (lr .legendre-row .ensures .1)) in
-    let hd = d-is T (a .t) (a .u) (a .n) hp (rw e at (dr .derived-row .ensures)) in
-    let hs = row-sums-are F (a .n) (s .pre .9) (s .pre .10) hp hd (rw e at (rs .row-sums .ensures)) in
-    (holds-next T (a .t) (a .n) (a .q1 .now) (a .q2 .now) (s .pre .4) (s .pre .5) (s .pre .0) (rw e at (lr .legendre-row .ensures .0)), hp .len, hd .len, all-more (s .pre .8) hs (fo .float-of .ensures))
+    let hp = p-is T (a .t) (a .n) (a .q1 .now) (a .q2 .now) (start .pre .4) (start .pre .5) (start .pre .0) (a .u) (start .pre .3) (rw e at (at-legendre-row .legendre-row .ensures .1)) in
+    let hd = d-is T (a .t) (a .u) (a .n) hp (rw e at (at-derived-row .derived-row .ensures)) in
+    let hs = row-sums-are F (a .n) (start .pre .9) (start .pre .10) hp hd (rw e at (at-row-sums .row-sums .ensures)) in (
+      holds-next T (a .t) (a .n) (a .q1 .now) (a .q2 .now) (start .pre .4) (start .pre .5) (start .pre .0) (rw e at (at-legendre-row .legendre-row .ensures .0)),
+      hp .len,
+      hd .len,
+      all-more (start .pre .8) hs (at-float-of .float-of .ensures),
+    )
 
 pub one-row-spec : {M : Type 1} → statement M
 one-row-spec =

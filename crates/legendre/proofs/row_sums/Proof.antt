@@ -1,3 +1,4 @@
+-- `legendre::row_sums`: the three sums after m orders are the definition's. Assumes nothing.
 use Rattle.legendre.specs.Arrays.{at, from}
 use Rattle.legendre.specs.Sums.{RowSums, degreeOf}
 use Rattle.laws.specs.Floats.{_⊕_, one64}
@@ -33,4 +34,5 @@ returns c = let e : c .before .loop .m ≡ c .before .before .args .n + 1 = omeg
 pub row-sums-spec : {M : Type 1} → statement M
 row-sums-spec =
     tie.close
-    (tie.spec Inv-loop μ-loop loop-holds (λ c. omega arith) (λ c. omega arith) (λ c. omega arith) (λ c. omega arith) (λ c. omega arith) (λ c. omega arith) (λ c. omega arith) (λ c. omega arith) (λ c. omega arith) (λ c. omega arith) (λ c. omega arith) (λ c. omega arith) (λ c. omega arith) (λ c. omega arith) (λ c. omega arith) (λ c. omega arith) loop-again returns)
+    (tie.spec Inv-loop μ-loop loop-holds (λ c. omega arith) (λ c. omega arith) (λ c. omega arith) (λ c. omega arith) (λ c. omega arith) (λ c. omega arith) (λ c. omega arith) (λ c. omega arith)
+    (λ c. omega arith) (λ c. omega arith) (λ c. omega arith) (λ c. omega arith) (λ c. omega arith) (λ c. omega arith) (λ c. omega arith) (λ c. omega arith) loop-again returns)

@@ -1,3 +1,4 @@
+-- `legendre::streamed`: the rows start from zeros, and their sums over all degrees give the definition's total. Assumes nothing.
 use borrow.Author.Needs.{needs}
 use Prim.Native.Nat.{_+_}
 use mathlib.Core.Path.{refl}
@@ -11,16 +12,21 @@ use Rattle.legendre.proofs.streamed.Tie as tie
 
 all-rows-requires : tie.Need-all-rows-requires
 all-rows-requires c κs =
-    let o = c .before .before .before .before .before .before .before in
-    let s = o .before .before .before .before .before .before .before .before .before .before .before .before in
-    let a = s .args in
+    let at-order-rows = c .before .before .before .before .before .before .before in
+    let at-unscale-row = at-order-rows .before .before .before in
+    let at-r = at-unscale-row .before in
+    let start = at-r .before .before .before .before .before .before .before .before in
+    let a = start .args in
     let T : Tables = tablesOf (a .a .now) (a .b .now) (a .lower .now) (a .upper .now) (a .heads .now) in
-    let g = o .order-rows .ensures in
-    (s .pre .0, s .pre .1, s .pre .2, o .before .before .before .unscale-row .ensures, zero-row T (a .t) 0 (omega arith), zero-row T (a .t) 1 (omega arith), refl, refl, g .0, g .1)
+    let g = at-order-rows .order-rows .ensures in
+    (start .pre .0, start .pre .1, start .pre .2, at-unscale-row .unscale-row .ensures, zero-row T (a .t) 0 (omega arith), zero-row T (a .t) 1 (omega arith), refl, refl, g .0, g .1)
 
 returns : tie.Need-returns
 returns c =
-    let a = c .before .before .before .before .before .before .before .before .before .before .before .before .before .before .before .before .before .before .before .before .args in
+    let at-order-rows = c .before .before .before .before .before .before .before .before in
+    let at-r = at-order-rows .before .before .before .before in
+    let start = at-r .before .before .before .before .before .before .before .before in
+    let a = start .args in
     let T : Tables = tablesOf (a .a .now) (a .b .now) (a .lower .now) (a .upper .now) (a .heads .now) in
     total-of (evaluation T (a .t) (a .u) (a .lon) (a .c .now) (a .s .now)) (a .q) (a .degree + 1) (c .all-rows .ensures)
 

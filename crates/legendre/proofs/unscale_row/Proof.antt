@@ -1,3 +1,4 @@
+-- `legendre::unscale_row`: the first m places hold the powers of the cosine over the scale, and x is the next. Assumes nothing.
 use Rattle.legendre.specs.Legendre.{unscale}
 use Rattle.legendre.specs.Arrays.{Has}
 use Prim.Native.Nat.{_+_, _-_, _≤_}
@@ -20,7 +21,7 @@ loop-holds c = (omega arith, refl, has-none (omega arith))
 
 loop-again : tie.Need-loop-again Inv-loop μ-loop
 unfolding unscale
-loop-again c = let h = c .before in (omega arith, rw (add-one, h .loop .inv .1), has-more _ (h .loop .inv .2) (omega arith) (h .loop .inv .1))
+loop-again c = (omega arith, rw (add-one, c .before .loop .inv .1), has-more _ (c .before .loop .inv .2) (omega arith) (c .before .loop .inv .1))
 
 returns : tie.Need-returns Inv-loop μ-loop
 returns c = let e : c .before .loop .m ≡ c .before .before .args .degree + 1 = omega arith in rw (← e) (c .before .loop .inv .2)

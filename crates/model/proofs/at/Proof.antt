@@ -10,7 +10,9 @@ returns c = search (needs, at-refused)
 
 work-requires : tie.Need-work-requires
 work-requires c κs =
-    let a = c .before .before .before .before .before .before .before .before .before .before .before .before .before .before .args in
+    let at-at-refusal = c .before .before .before .before .before .before .before in
+    let start = at-at-refusal .before .before .before .before .before .before .before in
+    let a = start .args in
     let f : AtFits (a .degree) (a .field .now) (a .times .now) (a .added .now) (length (a .cosines .now)) (length (a .sines .now)) = search (needs, at-fits) in
     (f .degree, f .sizes .static, f .count, f .sizes .added, f .sizes .a, f .sizes .b)
 

@@ -9,8 +9,15 @@ use Rattle.model.proofs.kind_at.Tie as tie
 
 blend-kind-requires : tie.Need-blend-kind-requires
 blend-kind-requires c κs =
-    let s = c .before .before .before .before .before .before .before in
-    (s .pre .0, s .pre .1, s .pre .2, s .pre .3, bracket-fields (s .args .times .now) (s .args .t) (c .before .before .bracket .result) _ _ (c .before .before .bracket .ensures) (s .pre .4) (le-of-eq (sym (s .pre .5))), s .pre .6)
+    let at-bracket = c .before .before in
+    let start = at-bracket .before .before .before .before .before in (
+      start .pre .0,
+      start .pre .1,
+      start .pre .2,
+      start .pre .3,
+      bracket-fields (start .args .times .now) (start .args .t) (at-bracket .bracket .result) _ _ (at-bracket .bracket .ensures) (start .pre .4) (le-of-eq (sym (start .pre .5))),
+      start .pre .6,
+    )
 
 returns : tie.Need-returns
 returns c = search (needs, kind-is-at)

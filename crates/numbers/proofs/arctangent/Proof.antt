@@ -20,12 +20,14 @@ returns-2 c = arctangent-origin _ _ (c .before .before .before .if1 .left) (c .b
 
 returns-3 : tie.Need-returns-3
 returns-3 c =
-    let j = c .before .before .before .before .before in
-    let a = j .before .before .before .args in
+    let at-eighth = c .before .before in
+    let at-magnitude = at-eighth .before .before in
+    let at-if2 = at-magnitude .before .before in
+    let a = at-if2 .before .before .args in
     let z : eq (a .y) zero64 && eq (a .x) zero64 ≡ false =
-    ⊎-elim (λ w. rw (w .0 .taken, w .1 .left)) (λ w. rw (w .left)) (j .if3 .came) in
-    rw (c .below .ensures, c .before .left .ensures, c .before .before .eighth .ensures, c .before .before .before .magnitude2 .ensures, c .before .before .before .before .magnitude .ensures)
-    (arctangent-open (a .y) (a .x) (j .before .before .if1 .left) (j .before .if2 .left) z)
+    ⊎-elim (λ w. rw (w .0 .taken, w .1 .left)) (λ w. rw (w .left)) (at-magnitude .before .if3 .came) in
+    rw (c .below .ensures, c .before .left .ensures, at-eighth .eighth .ensures, at-eighth .before .magnitude2 .ensures, at-magnitude .magnitude .ensures)
+    (arctangent-open (a .y) (a .x) (at-if2 .before .if1 .left) (at-if2 .if2 .left) z)
 
 pub arctangent-spec : {M : Type 1} → statement M
 arctangent-spec =

@@ -17,8 +17,9 @@ truncating-f64-to-i64-requires c κs = (subst T (sym (c .before .if1 .taken)) tt
 returns : tie.Need-returns
 unfolding wholeSecond ofBits neg
 returns c =
-    let a : le (fin true 1 (pos 63)) (c .before .before .before .args .t .0) ≡ true = c .before .before .if1 .taken in
-    let b : lt (c .before .before .before .args .t .0) (fin false 1 (pos 63)) ≡ true = c .before .if2 .taken in
+    let at-if1 = c .before .before in
+    let a : le (fin true 1 (pos 63)) (at-if1 .before .args .t .0) ≡ true = at-if1 .if1 .taken in
+    let b : lt (at-if1 .before .args .t .0) (fin false 1 (pos 63)) ≡ true = c .before .if2 .taken in
     rw (toZ-ofZ w64 (c .truncating-f64-to-i64 .result) (record { sfits = c .truncating-f64-to-i64 .ok }), c .truncating-f64-to-i64 .ensures, a, b)
 
 returns-2 : tie.Need-returns-2

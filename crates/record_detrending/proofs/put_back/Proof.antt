@@ -1,4 +1,5 @@
--- `record_detrending::put_back` meets its contract: a walk of its MIR, by hand. The list of records at the head of the loop is `upto i`; a turn opens both borrows, reads the value, writes it into the residual of one record, and closes them.
+-- `record_detrending::put_back` meets its contract: a walk of its MIR, by hand. The list of records at the head of the loop is `upto i`; a turn opens both borrows, reads the value, writes it into the residual
+-- of one record, and closes them.
 -- Assumes nothing.
 use mathlib.Core.Path.{_≡_, refl, sym, _∙_, ap, subst}
 use Prim.Native.Nat.{ℕ, zero, suc, _+_, _*_, _-_, _<_, _≤_, _^_, zero-le}
@@ -25,7 +26,8 @@ use ghost.Atoms.{Atoms}
 use contract.Monad.{Fun}
 use contract.Running.{givenOf, tables, tablesOf}
 use types.Kit.{Given, Item, Sq, ‵, _⊛_, ⋆, runs, anyQ, atRet, _$_, _∵_, !, qed, by, move, keep, drop, split, join, rewrite, fsplit, fjoin, feqI, suffices, frame, done}
-use types.Run.{look, init, store, forget, stop, hop, fld, from, load, lit, unit-lit, of-opd, bin, assigns, assigns-last, first, branches, skips, jumps, blocks, exec, returns, enter, alloc1, alloc0, params1, pass1, pass0, free1, free0, Below, again, loops}
+use types.Run.{look, init, store, forget, stop, hop, fld, from, load, lit, unit-lit, of-opd, bin, assigns, assigns-last, first, branches, skips, jumps, blocks, exec, returns, enter, alloc1, alloc0}
+use types.Run.{params1, pass1, pass0, free1, free0, Below, again, loops}
 use types.Part.{whole, sub, look-in, store-in}
 use types.Share.{arr-parts}
 use sound.WpLaws.{WpFn-mono}
@@ -120,7 +122,8 @@ made e v ok was =
     let had = LL.owed T.the-type T′.the-laws e (vals e) was in
     LL.owes T.the-type T′.the-laws (withResidual e v) (had .0, ((refl, ok), had .1 .1))
 
-module _ {M : Type 1} (𝓤 : URA M) (H : Heap 𝓤) (A : Atoms 𝓤) (W : Given 𝓤 H A) (at-mem : Memory → SProp 𝓤) (run : Routine → Fun 𝓤) (κ κ′ : Lft) (q q′ : Share) (b o : ℕ) (γ : GName) (xs : List Epoch) (b′ o′ : ℕ) (γ′ : GName) (vs : List Float)
+module _ {M : Type 1} (𝓤 : URA M) (H : Heap 𝓤) (A : Atoms 𝓤) (W : Given 𝓤 H A) (at-mem : Memory → SProp 𝓤) (run : Routine → Fun 𝓤) (κ κ′ : Lft) (q q′ : Share) (b o : ℕ) (γ : GName) (xs : List Epoch)
+    (b′ o′ : ℕ) (γ′ : GName) (vs : List Float)
     (room : Room T.the-row (length xs)) (room′ : Room f64 (length vs)) (same : length xs ≤ length vs) where
   abbrev n : ℕ
   n = length xs
@@ -174,7 +177,11 @@ module _ {M : Type 1} (𝓤 : URA M) (H : Heap 𝓤) (A : Atoms 𝓤) (W : Given
       suffices ! _ (ends-at 𝓤 H A f.ended stayed (f.clauses 𝓤 H A at-mem run) W bound vunit tt (L i, (tt, tt)) (length-upto xs vs i, (tt, tt))) $ says ! (ap L e ∙ upto-all xs vs same) $
       nothing ! $ move ! (5 ∷ 0 ∷ []) $ join ! $ move ! (3 ∷ 0 ∷ []) $ join ! $ frame ! $
       -- [obs; the borrow; the shared borrow; res]
-      fjoin ! $ pureI ! (at-slice T.the-row (x (L i)) (s ∷ [])) (tt, (tt, tt)) (ap (λ (m : ℕ). sliceVal (b, o) m ∷ []) (sym (length-upto xs vs i)), subst (Room T.the-row) (sym (length-upto xs vs i)) room) $ fjoin ! $
+      fjoin ! $ pureI ! (at-slice T.the-row (x (L i)) (s ∷ [])) (tt, (tt, tt)) (
+        ap (λ (m : ℕ). sliceVal (b, o) m ∷ []) (sym (length-upto xs vs i)),
+        subst (Room T.the-row)
+            (sym (length-upto xs vs i)) room,
+      ) $ fjoin ! $
       move ! (2 ∷ 1 ∷ []) $ fjoin ! $ pureI ! (at-slice f64 y (s′ ∷ [])) (tt, (tt, tt)) (refl, room′) $ fjoin ! $
       nothing ! $ move ! (1 ∷ 0 ∷ []) $ fjoin ! $ move ! (1 ∷ 0 ∷ []) $ fjoin ! $ feqI ! (List Val) (vunit ∷ []) (vunit ∷ []) refl $ move ! (1 ∷ 0 ∷ []) $ done !
 
@@ -206,7 +213,8 @@ module _ {M : Type 1} (𝓤 : URA M) (H : Heap 𝓤) (A : Atoms 𝓤) (W : Given
     At i = ‵ (Obs (i .0)) ∷ ‵ (Bor (i .0)) ∷ ‵ (flft κ q) ∷ ‵ Shr ∷ ‵ (flft κ′ q′) ∷ ‵ (fat fullShare word l₃ 0 (vint w64 (i .0)))
         ∷ ‵ (froom word l₄ 0) ∷ ‵ (froom tyBool l₅ 0) ∷ ‵ (froom tyPtr l₆ 0) ∷ ‵ (froom (tyFloat binary64) l₇ 0) ∷ ‵ (froom word l₈ 0) ∷ ‵ (froom tyPtr l₉ 0)
         ∷ ‵ (fat fullShare slice₁ l₁ 0 s) ∷ ‵ (fat fullShare slice₂ l₂ 0 s′) ∷ ‵ (froom tyUnit l₀ 0) ∷ ‵ Res
-        ∷ ‵ (fdies tyUnit l₀) ∷ ‵ (fdies slice₁ l₁) ∷ ‵ (fdies slice₂ l₂) ∷ ‵ (fdies word l₃) ∷ ‵ (fdies word l₄) ∷ ‵ (fdies tyBool l₅) ∷ ‵ (fdies tyPtr l₆) ∷ ‵ (fdies (tyFloat binary64) l₇) ∷ ‵ (fdies word l₈) ∷ ‵ (fdies tyPtr l₉) ∷ []
+        ∷ ‵ (fdies tyUnit l₀) ∷ ‵ (fdies slice₁ l₁) ∷ ‵ (fdies slice₂ l₂) ∷ ‵ (fdies word l₃) ∷ ‵ (fdies word l₄) ∷ ‵ (fdies tyBool l₅) ∷ ‵ (fdies tyPtr l₆) ∷ ‵ (fdies (tyFloat binary64) l₇)
+        ∷ ‵ (fdies word l₈) ∷ ‵ (fdies tyPtr l₉) ∷ []
 
     abbrev Turned : Upto → Out → SProp 𝓤
     Turned i = afterTurn 𝓤 H (Below 𝓤 H A Nearer At i) (afterBlock 𝓤 H (afterSeq 𝓤 H (Wp 𝓤 H C Λ En mirs.t-3 (atReturn 𝓤 H En Post)) (atReturn 𝓤 H En Post)))
@@ -235,7 +243,8 @@ module _ {M : Type 1} (𝓤 : URA M) (H : Heap 𝓤) (A : Atoms 𝓤) (W : Given
         elem-out ! T.the-row (Is T.the-row) (shows 𝓤 H A T.the-row) vals (LL.tells T.the-type T′.the-laws) fullShare (L (i .0)) (i .0) none b o (in₁ less) (λ was.
         -- [epochs[i]; what it owns; the others; the open borrow; obs; auth; the token; the shared borrow; _3; _4; _5; _6; _7; _8; _9; _1; _2; ..]
         assigns ! (of-opd ! (load ! (from ! (stop !)) (look ! 12 refl))) (from ! (hop ! (look ! 14 refl) (fld ! refl (stop !)))) (store-in ! 0 (sub ! 1 refl (whole !)) (tt, passes _ (g .1))) $
-        move ! (1 ∷ []) $ drop ! $ owned ! T.the-row (Is T.the-row) (LL.makes T.the-type T′.the-plain 𝓤 H A) (new (i .0)) (vals (new (i .0))) (made (getD (L (i .0)) (i .0) none) (getD vs (i .0) nan) (g .1) was) $ move ! (1 ∷ 0 ∷ []) $
+        move ! (1 ∷ []) $ drop ! $ owned ! T.the-row (Is T.the-row) (LL.makes T.the-type T′.the-plain 𝓤 H A) (new (i .0)) (vals (new (i .0)))
+        (made (getD (L (i .0)) (i .0) none) (getD vs (i .0) nan) (g .1) was) $ move ! (1 ∷ 0 ∷ []) $
         elem-put ! T.the-row fullShare (L (i .0)) (i .0) (new (i .0)) (vals (new (i .0))) b o (in₁ less) $ closes-slice ! tt T.the-row (L (i .0)) (L (suc (i .0))) (simp length-set) b o $
         -- [obs; the borrow; its token; the other token; the shared borrow; _3 ..]
         assigns-last ! (bin ! (load ! (from ! (stop !)) (look ! 5 refl)) (lit ! tt) (record { fits = next-fits less })) (from ! (stop !)) (store ! 5 refl (tt, record { fits = next-fits less })) $
@@ -295,7 +304,8 @@ module _ {M : Type 1} (𝓤 : URA M) (H : Heap 𝓤) (A : Atoms 𝓤) (W : Given
 
 put-back-meets : {M : Type 1} (𝓤 : URA M) (H : Heap 𝓤) (A : Atoms 𝓤) → Given 𝓤 H A → (at-mem : Memory → SProp 𝓤) (run : Routine → Fun 𝓤) (𝓣 : Tables 𝓤 H)
     → Meets 𝓤 H A f.signature (WpFn 𝓤 H (𝓣 .C) (𝓣 .Λ) code.function) (f.spec 𝓤 H A at-mem run)
-put-back-meets 𝓤 H A W at-mem run 𝓣 = walk-meets 𝓤 H A f.ended stayed W (goes 𝓤 H A W at-mem run) (f.clauses 𝓤 H A at-mem run) (WpFn 𝓤 H (𝓣 .C) (𝓣 .Λ) code.function) (WpFn-mono 𝓤 H (W .laws) 𝓣 code.function) (put-back-walks 𝓤 H A W at-mem run 𝓣)
+put-back-meets 𝓤 H A W at-mem run 𝓣 = walk-meets 𝓤 H A f.ended stayed W (goes 𝓤 H A W at-mem run) (f.clauses 𝓤 H A at-mem run) (WpFn 𝓤 H (𝓣 .C) (𝓣 .Λ) code.function)
+    (WpFn-mono 𝓤 H (W .laws) 𝓣 code.function) (put-back-walks 𝓤 H A W at-mem run 𝓣)
 
 pub put-back-spec : {M : Type 1} → stated.statement M
 unfolding code.routine tablesOf

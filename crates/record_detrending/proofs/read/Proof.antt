@@ -1,4 +1,5 @@
--- `record_detrending::read` meets its contract: a walk of its MIR, by hand. The work area at the head of the loop is `reading i`; a turn looks into one record through the shared borrow, and writes its time and its residual through the other borrow.
+-- `record_detrending::read` meets its contract: a walk of its MIR, by hand. The work area at the head of the loop is `reading i`; a turn looks into one record through the shared borrow, and writes its time and
+-- its residual through the other borrow.
 -- Assumes nothing.
 use mathlib.Core.Path.{_≡_, refl, sym, _∙_, ap, subst}
 use Prim.Native.Nat.{ℕ, suc, _+_, _*_, _-_, _<_, _≤_, _^_, zero-le}
@@ -25,7 +26,8 @@ use ghost.Atoms.{Atoms}
 use contract.Monad.{Fun}
 use contract.Running.{givenOf, tables, tablesOf}
 use types.Kit.{Given, Item, Sq, ‵, _⊛_, ⋆, runs, anyQ, atRet, _$_, _∵_, !, qed, by, move, keep, drop, split, join, rewrite, fsplit, fjoin, feqI, suffices, frame, done}
-use types.Run.{look, init, store, forget, stop, hop, fld, from, load, lit, unit-lit, of-opd, bin, assigns, assigns-last, first, branches, skips, jumps, blocks, exec, returns, enter, alloc1, alloc0, params1, pass1, pass0, free1, free0, Below, again, loops}
+use types.Run.{look, init, store, forget, stop, hop, fld, from, load, lit, unit-lit, of-opd, bin, assigns, assigns-last, first, branches, skips, jumps, blocks, exec, returns, enter, alloc1, alloc0}
+use types.Run.{params1, pass1, pass0, free1, free0, Below, again, loops}
 use types.Part.{whole, sub, look-in}
 use types.Share.{arr-parts}
 use sound.WpLaws.{WpFn-mono}
@@ -90,7 +92,8 @@ after (call k xs d) = skip
 abbrev more : Body
 more = after (after mirs.turn-1)
 
-module _ {M : Type 1} (𝓤 : URA M) (H : Heap 𝓤) (A : Atoms 𝓤) (W : Given 𝓤 H A) (at-mem : Memory → SProp 𝓤) (run : Routine → Fun 𝓤) (κ κ′ : Lft) (q q′ : Share) (b o : ℕ) (γ : GName) (xs : List Epoch) (b′ o′ : ℕ) (γ′ : GName) (vs : List Float)
+module _ {M : Type 1} (𝓤 : URA M) (H : Heap 𝓤) (A : Atoms 𝓤) (W : Given 𝓤 H A) (at-mem : Memory → SProp 𝓤) (run : Routine → Fun 𝓤) (κ κ′ : Lft) (q q′ : Share) (b o : ℕ) (γ : GName) (xs : List Epoch)
+    (b′ o′ : ℕ) (γ′ : GName) (vs : List Float)
     (room : Room T.the-row (length xs)) (room′ : Room f64 (length vs)) (same : length xs + length xs ≤ length vs) where
   abbrev n : ℕ
   n = length xs
@@ -144,7 +147,11 @@ module _ {M : Type 1} (𝓤 : URA M) (H : Heap 𝓤) (A : Atoms 𝓤) (W : Given
       suffices ! _ (ends-at 𝓤 H A f.ended stayed (f.clauses 𝓤 H A at-mem run) W bound vunit tt (tt, (L i, tt)) (tt, (length-reading xs vs i, tt))) $ says ! (ap L e ∙ reading-all xs vs same) $
       nothing ! $ move ! (3 ∷ 0 ∷ []) $ join ! $ move ! (4 ∷ 0 ∷ []) $ join ! $ frame ! $
       -- [obs; the borrow; the shared borrow; res]
-      fjoin ! $ pureI ! (at-slice f64 (y (L i)) (s′ ∷ [])) (tt, (tt, tt)) (ap (λ (m : ℕ). sliceVal (b′, o′) m ∷ []) (sym (length-reading xs vs i)), subst (Room f64) (sym (length-reading xs vs i)) room′) $ fjoin ! $
+      fjoin ! $ pureI ! (at-slice f64 (y (L i)) (s′ ∷ [])) (tt, (tt, tt)) (
+        ap (λ (m : ℕ). sliceVal (b′, o′) m ∷ []) (sym (length-reading xs vs i)),
+        subst (Room f64)
+            (sym (length-reading xs vs i)) room′,
+      ) $ fjoin ! $
       nothing ! $ move ! (1 ∷ 0 ∷ []) $ fjoin ! $ move ! (2 ∷ 1 ∷ []) $ fjoin ! $ pureI ! (at-slice T.the-row x (s ∷ [])) (tt, (tt, tt)) (refl, room) $ fjoin ! $ fjoin ! $
       feqI ! (List Val) (vunit ∷ []) (vunit ∷ []) refl $ move ! (1 ∷ 0 ∷ []) $ done !
 
@@ -178,14 +185,17 @@ module _ {M : Type 1} (𝓤 : URA M) (H : Heap 𝓤) (A : Atoms 𝓤) (W : Given
     Λ = 𝓣 .Λ
 
     abbrev En : Env 𝓤 H
-    En = (tyUnit, l₀) ∷ (slice₁, l₁) ∷ (slice₂, l₂) ∷ (word, l₃) ∷ (word, l₄) ∷ (tyBool, l₅) ∷ (word, l₆) ∷ (tyPtr, l₇) ∷ (tyFloat binary64, l₈) ∷ (word, l₉) ∷ (tyPtr, m₀) ∷ (tyPtr, m₁) ∷ (word, m₂) ∷ (tyPtr, m₃) ∷ []
+    En = (tyUnit, l₀) ∷ (slice₁, l₁) ∷ (slice₂, l₂) ∷ (word, l₃) ∷ (word, l₄) ∷ (tyBool, l₅) ∷ (word, l₆) ∷ (tyPtr, l₇) ∷ (tyFloat binary64, l₈) ∷ (word, l₉) ∷ (tyPtr, m₀) ∷ (tyPtr, m₁)
+        ∷ (word, m₂) ∷ (tyPtr, m₃) ∷ []
 
     -- the whole context at the head of the loop
     abbrev At : Upto → List (Item 𝓤)
     At i = ‵ (Obs (i .0)) ∷ ‵ (Bor (i .0)) ∷ ‵ (flft κ′ q′) ∷ ‵ Shr ∷ ‵ (flft κ q) ∷ ‵ (fat fullShare word l₄ 0 (vint w64 (i .0))) ∷ ‵ (fat fullShare word l₃ 0 (vint w64 n))
-        ∷ ‵ (froom tyBool l₅ 0) ∷ ‵ (froom word l₆ 0) ∷ ‵ (froom tyPtr l₇ 0) ∷ ‵ (froom (tyFloat binary64) l₈ 0) ∷ ‵ (froom word l₉ 0) ∷ ‵ (froom tyPtr m₀ 0) ∷ ‵ (froom tyPtr m₁ 0) ∷ ‵ (froom word m₂ 0) ∷ ‵ (froom tyPtr m₃ 0)
+        ∷ ‵ (froom tyBool l₅ 0) ∷ ‵ (froom word l₆ 0) ∷ ‵ (froom tyPtr l₇ 0) ∷ ‵ (froom (tyFloat binary64) l₈ 0) ∷ ‵ (froom word l₉ 0) ∷ ‵ (froom tyPtr m₀ 0) ∷ ‵ (froom tyPtr m₁ 0)
+        ∷ ‵ (froom word m₂ 0) ∷ ‵ (froom tyPtr m₃ 0)
         ∷ ‵ (fat fullShare slice₁ l₁ 0 s) ∷ ‵ (fat fullShare slice₂ l₂ 0 s′) ∷ ‵ (froom tyUnit l₀ 0) ∷ ‵ Res
-        ∷ ‵ (fdies tyUnit l₀) ∷ ‵ (fdies slice₁ l₁) ∷ ‵ (fdies slice₂ l₂) ∷ ‵ (fdies word l₃) ∷ ‵ (fdies word l₄) ∷ ‵ (fdies tyBool l₅) ∷ ‵ (fdies word l₆) ∷ ‵ (fdies tyPtr l₇) ∷ ‵ (fdies (tyFloat binary64) l₈) ∷ ‵ (fdies word l₉) ∷ ‵ (fdies tyPtr m₀) ∷ ‵ (fdies tyPtr m₁) ∷ ‵ (fdies word m₂) ∷ ‵ (fdies tyPtr m₃) ∷ []
+        ∷ ‵ (fdies tyUnit l₀) ∷ ‵ (fdies slice₁ l₁) ∷ ‵ (fdies slice₂ l₂) ∷ ‵ (fdies word l₃) ∷ ‵ (fdies word l₄) ∷ ‵ (fdies tyBool l₅) ∷ ‵ (fdies word l₆) ∷ ‵ (fdies tyPtr l₇)
+        ∷ ‵ (fdies (tyFloat binary64) l₈) ∷ ‵ (fdies word l₉) ∷ ‵ (fdies tyPtr m₀) ∷ ‵ (fdies tyPtr m₁) ∷ ‵ (fdies word m₂) ∷ ‵ (fdies tyPtr m₃) ∷ []
 
     abbrev Turned : Upto → Out → SProp 𝓤
     Turned i = afterTurn 𝓤 H (Below 𝓤 H A Nearer At i) (afterBlock 𝓤 H (afterSeq 𝓤 H (Wp 𝓤 H C Λ En mirs.t-4 (atReturn 𝓤 H En Post)) (atReturn 𝓤 H En Post)))
@@ -223,7 +233,8 @@ module _ {M : Type 1} (𝓤 : URA M) (H : Heap 𝓤) (A : Atoms 𝓤) (W : Given
         elem-out ! T.the-row (Is T.the-row) (shows 𝓤 H A T.the-row) vals (LL.tells T.the-type T′.the-laws) u′ xs (i .0) none b o (in₁ less) (λ was′.
         assigns ! (of-opd ! (load ! (from ! (hop ! (look ! 16 refl) (fld ! refl (stop !)))) (look-in ! 0 (sub ! 1 refl (whole !))))) (from ! (stop !)) (store ! 13 refl (tt, passes _ (ok₂ was′))) $
         elem-back ! T.the-row u′ xs (i .0) none (vals (getD xs (i .0) none)) b o (in₁ less) $ shuts-slice ! tt T.the-row u′ xs b o $
-        assigns ! (bin ! (load ! (from ! (stop !)) (look ! 6 refl)) (load ! (from ! (stop !)) (look ! 5 refl)) (record { fits = sum-fits less })) (from ! (stop !)) (store ! 11 refl (tt, record { fits = sum-fits less })) $
+        assigns ! (bin ! (load ! (from ! (stop !)) (look ! 6 refl)) (load ! (from ! (stop !)) (look ! 5 refl)) (record { fits = sum-fits less })) (from ! (stop !))
+        (store ! 11 refl (tt, record { fits = sum-fits less })) $
         assigns ! (bin ! (load ! (from ! (stop !)) (look ! 11 refl)) (lit ! tt) (record { fits = byte₃ less })) (from ! (stop !)) (init ! 14 refl (tt, record { fits = byte₃ less })) $
         assigns ! (bin ! (load ! (from ! (fld ! refl (stop !))) (look-in ! 17 (sub ! 0 refl (whole !)))) (load ! (from ! (stop !)) (look ! 14 refl)) tt) (from ! (stop !)) (init ! 15 refl (tt, tt)) $
         rewrite ! 15 (λ (p : ℕ). ‵ (fat fullShare tyPtr m₃ 0 (vptr b′ p))) (sym (place-is 8 o′ (n + i .0))) refl $
@@ -231,15 +242,19 @@ module _ {M : Type 1} (𝓤 : URA M) (H : Heap 𝓤) (A : Atoms 𝓤) (W : Given
         elem-out ! f64 (Is f64) (shows 𝓤 H A f64) (float-vals binary64) (float-tells binary64) fullShare (M₁ (i .0)) (n + i .0) nan b′ o′ (in₃ less) (λ _.
         assigns ! (of-opd ! (load ! (from ! (stop !)) (look ! 13 refl))) (from ! (hop ! (look ! 18 refl) (stop !))) (store ! 0 refl (tt, passes _ (ok₂ was′))) $
         move ! (1 ∷ []) $ drop ! $ owned ! f64 (Is f64) (float-makes 𝓤 H A W binary64) (new₂ (i .0)) (vfloat binary64 (new₂ (i .0)) ∷ []) (refl, ok₂ was′) $ move ! (1 ∷ 0 ∷ []) $
-        elem-put ! f64 fullShare (M₁ (i .0)) (n + i .0) (new₂ (i .0)) (vfloat binary64 (new₂ (i .0)) ∷ []) b′ o′ (in₃ less) $ closes-slice ! tt f64 (M₁ (i .0)) (L (suc (i .0))) (simp length-set) b′ o′ $
+        elem-put ! f64 fullShare (M₁ (i .0)) (n + i .0) (new₂ (i .0)) (vfloat binary64 (new₂ (i .0)) ∷ []) b′ o′ (in₃ less) $
+        closes-slice ! tt f64 (M₁ (i .0)) (L (suc (i .0))) (simp length-set) b′ o′ $
         assigns-last ! (bin ! (load ! (from ! (stop !)) (look ! 5 refl)) (lit ! tt) (record { fits = next-fits less })) (from ! (stop !)) (store ! 5 refl (tt, record { fits = next-fits less })) $
-        forget ! 7 refl $ forget ! 8 refl $ forget ! 9 refl $ forget ! 10 refl $ forget ! 11 refl $ forget ! 12 refl $ forget ! 13 refl $ forget ! 14 refl $ forget ! 15 refl $ move ! (0 ∷ 1 ∷ 2 ∷ 4 ∷ 3 ∷ []) $
+        forget ! 7 refl $ forget ! 8 refl $ forget ! 9 refl $ forget ! 10 refl $ forget ! 11 refl $ forget ! 12 refl $ forget ! 13 refl $ forget ! 14 refl $ forget ! 15 refl $
+        move ! (0 ∷ 1 ∷ 2 ∷ 4 ∷ 3 ∷ []) $
         rewrite ! 5 (λ (j : ℕ). ‵ (fat fullShare word l₄ 0 (vint w64 j))) (add-one (i .0)) refl $ again ! Nearer At i (next less) (nearer less))))))))
         (λ over. jumps ! $ exec ! C Λ En mirs.t-4 (atRet En Post) $
         assigns ! (of-opd ! (unit-lit !)) (from ! (stop !)) (init ! 18 refl (tt, tt)) $
         returns ! (look ! 18 refl) $ forget ! 5 refl $ forget ! 6 refl $ forget ! 7 refl $ forget ! 16 refl $ forget ! 17 refl $ forget ! 18 refl $
-        move ! (18 ∷ 20 ∷ []) $ free1 ! $ move ! (16 ∷ 19 ∷ []) $ free1 ! $ move ! (16 ∷ 18 ∷ []) $ free1 ! $ move ! (6 ∷ 17 ∷ []) $ free1 ! $ move ! (5 ∷ 16 ∷ []) $ free1 ! $ move ! (5 ∷ 15 ∷ []) $ free1 ! $ move ! (5 ∷ 14 ∷ []) $ free1 ! $
-        move ! (5 ∷ 13 ∷ []) $ free1 ! $ move ! (5 ∷ 12 ∷ []) $ free1 ! $ move ! (5 ∷ 11 ∷ []) $ free1 ! $ move ! (5 ∷ 10 ∷ []) $ free1 ! $ move ! (5 ∷ 9 ∷ []) $ free1 ! $ move ! (5 ∷ 8 ∷ []) $ free1 ! $ move ! (5 ∷ 7 ∷ []) $ free1 ! $ free0 ! $
+        move ! (18 ∷ 20 ∷ []) $ free1 ! $ move ! (16 ∷ 19 ∷ []) $ free1 ! $ move ! (16 ∷ 18 ∷ []) $ free1 ! $ move ! (6 ∷ 17 ∷ []) $ free1 ! $ move ! (5 ∷ 16 ∷ []) $ free1 ! $ move ! (5 ∷ 15 ∷ []) $
+        free1 ! $ move ! (5 ∷ 14 ∷ []) $ free1 ! $
+        move ! (5 ∷ 13 ∷ []) $ free1 ! $ move ! (5 ∷ 12 ∷ []) $ free1 ! $ move ! (5 ∷ 11 ∷ []) $ free1 ! $ move ! (5 ∷ 10 ∷ []) $ free1 ! $ move ! (5 ∷ 9 ∷ []) $ free1 ! $ move ! (5 ∷ 8 ∷ []) $
+        free1 ! $ move ! (5 ∷ 7 ∷ []) $ free1 ! $ free0 ! $
         by ! (exits (i .0) (le-antisymm (i .1) (nltb→le (i .0) n over))))
       where
         ok₁ : Is T.the-row (getD xs (i .0) none) (vals (getD xs (i .0) none)) → fits binary64 (new₁ (i .0)) ≡ true
@@ -281,7 +296,8 @@ module _ {M : Type 1} (𝓤 : URA M) (H : Heap 𝓤) (A : Atoms 𝓤) (W : Given
   walk : (𝓣 : Tables 𝓤 H) → ent 𝓤 (onEntry 𝓤 H A f.signature (κ, (κ′, tt)) (q, (q′, tt)) a at) (WpFn 𝓤 H (𝓣 .C) (𝓣 .Λ) code.function (s ∷ s′ ∷ []) Post)
   walk 𝓣 =
       qed W ((‵ (flft κ q) ⊛ ‵ (flft κ′ q′) ⊛ ‵ ftrue) ∷ ‵ (owns (ShrSlice (named 0) κ T.the-row ∷ MutSlice (named 1) κ′ f64 ∷ []) a at) ∷ []) ∵ enter ! (𝓣 .C) (𝓣 .Λ) code.function (s ∷ s′ ∷ []) _ $
-      alloc1 ! (λ l₀. alloc1 ! (λ l₁. alloc1 ! (λ l₂. alloc1 ! (λ l₃. alloc1 ! (λ l₄. alloc1 ! (λ l₅. alloc1 ! (λ l₆. alloc1 ! (λ l₇. alloc1 ! (λ l₈. alloc1 ! (λ l₉. alloc1 ! (λ m₀. alloc1 ! (λ m₁. alloc1 ! (λ m₂. alloc1 ! (λ m₃. alloc0 ! $ params1 ! $
+      alloc1 ! (λ l₀. alloc1 ! (λ l₁. alloc1 ! (λ l₂. alloc1 ! (λ l₃. alloc1 ! (λ l₄. alloc1 !
+      (λ l₅. alloc1 ! (λ l₆. alloc1 ! (λ l₇. alloc1 ! (λ l₈. alloc1 ! (λ l₉. alloc1 ! (λ m₀. alloc1 ! (λ m₁. alloc1 ! (λ m₂. alloc1 ! (λ m₃. alloc0 ! $ params1 ! $
       pass1 ! (init ! 24 refl (tt, (tt, (record { fits = room .0 }, tt)))) $ pass1 ! (init ! 22 refl (tt, (tt, (record { fits = room′ .0 }, tt)))) $ pass0 ! $
       assigns ! (of-opd ! (load ! (from ! (fld ! refl (stop !))) (look-in ! 24 (sub ! 1 refl (whole !))))) (from ! (stop !)) (init ! 20 refl (tt, record { fits = room .0 })) $
       assigns ! (of-opd ! (lit ! tt)) (from ! (stop !)) (init ! 18 refl (tt, record { fits = lit< tt })) $
@@ -304,7 +320,8 @@ module _ {M : Type 1} (𝓤 : URA M) (H : Heap 𝓤) (A : Atoms 𝓤) (W : Given
 
 read-meets : {M : Type 1} (𝓤 : URA M) (H : Heap 𝓤) (A : Atoms 𝓤) → Given 𝓤 H A → (at-mem : Memory → SProp 𝓤) (run : Routine → Fun 𝓤) (𝓣 : Tables 𝓤 H)
     → Meets 𝓤 H A f.signature (WpFn 𝓤 H (𝓣 .C) (𝓣 .Λ) code.function) (f.spec 𝓤 H A at-mem run)
-read-meets 𝓤 H A W at-mem run 𝓣 = walk-meets 𝓤 H A f.ended stayed W (goes 𝓤 H A W at-mem run) (f.clauses 𝓤 H A at-mem run) (WpFn 𝓤 H (𝓣 .C) (𝓣 .Λ) code.function) (WpFn-mono 𝓤 H (W .laws) 𝓣 code.function) (read-walks 𝓤 H A W at-mem run 𝓣)
+read-meets 𝓤 H A W at-mem run 𝓣 = walk-meets 𝓤 H A f.ended stayed W (goes 𝓤 H A W at-mem run) (f.clauses 𝓤 H A at-mem run) (WpFn 𝓤 H (𝓣 .C) (𝓣 .Λ) code.function)
+    (WpFn-mono 𝓤 H (W .laws) 𝓣 code.function) (read-walks 𝓤 H A W at-mem run 𝓣)
 
 pub read-spec : {M : Type 1} → stated.statement M
 unfolding code.routine tablesOf

@@ -1,3 +1,4 @@
+-- The two ends, all values finite or not, by the laws of the work area. Assumes nothing.
 use borrow.Author.Needs.{needs}
 use Rattle.record_detrending.proofs.Settling.{settled-accepts, settled-refuses, settled-clear, settled-values}
 use Rattle.record_detrending.proofs.settle.Statement.{statement}
@@ -5,10 +6,17 @@ use Rattle.record_detrending.proofs.settle.Tie as tie
 
 returns : tie.Need-returns
 returns c =
-    let a = c .before .before .before .before .before .before .before .before .before .before .before .before .before .before .before .before .before .before .args in
-    let w = c .before .before .before .before .before .before .before .before .before .before .before .before .before .before .remove-within in (
+    let at-clear = c .before .before in
+    let at-lower = at-clear .before .before .before .before in
+    let at-if1 = at-lower .before .before in
+    let at-remove-within = at-if1 .before .before .before .before .before .before in
+    let start = at-remove-within .before .before .before .before in
+    let a = start .args in
+    let w = at-remove-within .remove-within in (
       search (needs, settled-accepts),
-      settled-values (a .nodes .now) (a .n) (a .work .now) (w .last .0) (c .before .before .before .before .before .before .before .before .before .before .before .before .before .before .before .before .before .before .pre) (w .ensures) _ (c .before .before .before .before .before .before .before .before .before .all-finite .ensures) (c .before .before .before .before .before .before .lower .last .0) (c .before .before .clear .last .0) (c .before .before .before .before .before .before .before .before .if1 .taken) (search needs) (search needs) (c .before .before .before .before .before .before .lower .ensures) (c .before .before .clear .ensures),
+      settled-values (a .nodes .now) (a .n) (a .work .now) (w .last .0) (start .pre) (w .ensures) _ (at-if1 .before .all-finite .ensures)
+          (at-lower .lower .last .0) (at-clear .clear .last .0) (at-if1 .if1 .taken)
+          (search needs) (search needs) (at-lower .lower .ensures) (at-clear .clear .ensures),
     )
 
 returns-2 : tie.Need-returns-2
@@ -17,4 +25,5 @@ returns-2 c = (search (needs, settled-refuses), search (needs, settled-clear))
 pub settle-spec : {M : Type 1} → statement M
 settle-spec =
     tie.close
-    (tie.spec (λ c κs. search needs) (λ c. search needs) (λ c. search needs) (λ c. search needs) (λ c. search needs) (λ c. search needs) (λ c κs. search needs) (λ c κs. search needs) (λ c. search needs) (λ c. search needs) (λ c. search needs) (λ c. search needs) (λ c κs. search needs) (λ c. search needs) returns (λ c κs. search needs) (λ c. search needs) returns-2)
+    (tie.spec (λ c κs. search needs) (λ c. search needs) (λ c. search needs) (λ c. search needs) (λ c. search needs) (λ c. search needs) (λ c κs. search needs) (λ c κs. search needs)
+    (λ c. search needs) (λ c. search needs) (λ c. search needs) (λ c. search needs) (λ c κs. search needs) (λ c. search needs) returns (λ c κs. search needs) (λ c. search needs) returns-2)

@@ -1,6 +1,6 @@
 -- `replay::signed` meets its contract. Assumes nothing.
 use native.Mathlib.Omega.{arith}
-use Rattle.replay.proofs.Signs.{far, far-is}
+use Rattle.replay.proofs.TwosComplement.{far, far-is}
 use borrow.Author.Needs.{needs}
 use Rattle.replay.proofs.signed.Statement.{statement}
 use Rattle.replay.proofs.signed.Tie as tie

@@ -5,7 +5,7 @@ use lib.IntN.{negsuc, _-ℤ_}
 use mir.Syntax.{w64}
 use mir.Val.{toZ, ofZ}
 use mir.ValLaws.{toZ-ofZ}
-use Rattle.replay.proofs.Signs.{Negative, negative, Positive, positive}
+use Rattle.replay.proofs.TwosComplement.{Negative, negative, Positive, positive}
 use Rattle.replay.proofs.unsigned.Statement.{statement}
 use Rattle.replay.proofs.unsigned.Tie as tie
 

@@ -1,3 +1,4 @@
+-- The list keeps its length, and i is below the count given: the loop is safe and ends. Assumes nothing.
 use mathlib.Core.Path.{_≡_, refl}
 use Prim.Native.Nat.{_-_}
 use lib.ListN.{length, length-set}
@@ -23,4 +24,5 @@ returns-2 c = tt
 pub fill-counts-spec : {M : Type 1} → statement M
 fill-counts-spec =
     tie.close
-    (tie.spec Inv-loop μ-loop (λ c. refl) (λ c. search needs) returns (λ c κs. search needs) (λ c. search needs) (λ c. search needs) (λ c. search needs) (λ c. search needs) loop-again (λ c. search needs) returns-2)
+    (tie.spec Inv-loop μ-loop (λ c. refl) (λ c. search needs) returns (λ c κs. search needs) (λ c. search needs) (λ c. search needs) (λ c. search needs) (λ c. search needs) loop-again
+    (λ c. search needs) returns-2)

@@ -1,3 +1,4 @@
+-- Each count is said once; the measure is what is left of the list. Assumes nothing.
 use Prim.Native.Nat.{_-_}
 use lib.ListN.{length}
 use borrow.Author.Needs.{needs}

@@ -1,4 +1,5 @@
--- `replay_records::removed` meets its contract: a walk of its MIR, by hand. The first n records of the local array are lent for the call (`Owned.antt`), the scratch is lent again (`records`' `Lent.antt`).
+-- `replay_records::removed` meets its contract: a walk of its MIR, by hand. The first n records of the local array are lent for the call (`Owned.antt`), the scratch is lent again (`records`'
+-- `Lent.antt`).
 -- All that the proof knows of the callee is that it meets its contract. Assumes nothing.
 use mathlib.Core.Path.{_≡_, refl, sym, _∙_, ap, subst}
 use Prim.Native.Nat.{ℕ, _+_, _-_, _<_, _≤_, _^_, zero}
@@ -21,7 +22,8 @@ use prog.Wp.{Heap, Calls, Loops, WpFn, Tables}
 use ghost.Atoms.{Atoms, sem}
 use contract.Monad.{Fun, fact}
 use contract.Running.{givenOf, tables, tablesOf}
-use types.Kit.{Given, ‵, raw, _⊛_, some, given, later, ⋆, _$_, _∵_, !, qed, by, move, keep, drop, use1, use2, use3, split, join, pick, learn, check, rewrite, fsplit, fjoin, feqL, suffices, frame, await, updating, now as at-once, show, done}
+use types.Kit.{Given, ‵, raw, _⊛_, some, given, later, ⋆, _$_, _∵_, !, qed, by, move, keep, drop, use1, use2, use3, split, join, pick, learn, check, rewrite, fsplit, fjoin, feqL, suffices, frame}
+use types.Kit.{await, updating, now as at-once, show, done}
 use types.Run.{look, init, forget, stop, hop, fld, from, load, addr, of-opd, and-then, no-more, assigns, land, returns, enter, alloc1, alloc0, params1, pass1, pass0, free1, free0}
 use types.Part.{agg, whole, sub, look-in}
 use types.Tokens.{lft-new, lft-end}
@@ -93,9 +95,16 @@ as-tuples (x ∷ xs) [] s = absurd s
 as-tuples (x ∷ xs) (u ∷ us) s = (s .0, as-tuples xs us (s .1))
 
 abbrev stayed : Stays (f.ended .signature .params) (f.ended .kept)
-stayed = (stay-dropped (ArrayOf (plain (λ _. T.the-row)) (λ _. tt) 128) yes, (stay-dropped (plain (λ _. usize)) yes, (stay-none-slice (0 ∷ []) tt (plain (λ _. f64)) yes, (stay-slice (1 ∷ []) tt (plain (λ _. f64)), tt))))
+stayed = (
+  stay-dropped (ArrayOf (plain (λ _. T.the-row)) (λ _. tt) 128) yes,
+  (
+    stay-dropped (plain (λ _. usize)) yes,
+    (stay-none-slice (0 ∷ []) tt (plain (λ _. f64)) yes, (stay-slice (1 ∷ []) tt (plain (λ _. f64)), tt)),
+  ),
+)
 
-module _ {M : Type 1} (𝓤 : URA M) (H : Heap 𝓤) (A : Atoms 𝓤) (W : Given 𝓤 H A) (mem : Memory → SProp 𝓤) (run : Routine → Fun 𝓤) (κ″ κ′ : Lft) (q″ q′ : Share) (es : List Epoch) (n : ℕ) (b″ o″ : ℕ) (γ″ : GName) (ns : List Float) (b′ o′ : ℕ) (γ′ : GName) (ss : List Float)
+module _ {M : Type 1} (𝓤 : URA M) (H : Heap 𝓤) (A : Atoms 𝓤) (W : Given 𝓤 H A) (mem : Memory → SProp 𝓤) (run : Routine → Fun 𝓤) (κ″ κ′ : Lft) (q″ q′ : Share) (es : List Epoch) (n : ℕ) (b″ o″ : ℕ)
+    (γ″ : GName) (ns : List Float) (b′ o′ : ℕ) (γ′ : GName) (ss : List Float)
     (v : Val) (are : Is Records es (v ∷ [])) (small : n < 2 ^ 64) (room″ : Room f64 (length ns)) (room′ : Room f64 (length ss)) (few : n ≤ 128) where
   abbrev m : ℕ
   m = length ss
@@ -183,26 +192,34 @@ module _ {M : Type 1} (𝓤 : URA M) (H : Heap 𝓤) (A : Atoms 𝓤) (W : Given
   Numbers ν δ = MutSlice (named 2) (ν ∷ []) f64 .own (y δ ss) (s′ ∷ [])
 
   goes-call : (b ν ν′ : ℕ) (δ δ′ : GName)
-      → ent 𝓤 (sep 𝓤 (sep 𝓤 (sep 𝓤 (A .lft (ν ∷ []) fullShare) (sem 𝓤 H A (Mine b ν δ head))) (sep 𝓤 (A .lft κ″ q″) (sem 𝓤 H A N))) (sep 𝓤 (A .lft (ν′ ∷ []) fullShare) (sem 𝓤 H A (Numbers ν′ δ′)))) (Removal 𝓤 H A mem run .pre (to-call b ν ν′ δ δ′))
+      → ent 𝓤 (sep 𝓤 (sep 𝓤 (sep 𝓤 (A .lft (ν ∷ []) fullShare) (sem 𝓤 H A (Mine b ν δ head))) (sep 𝓤 (A .lft κ″ q″) (sem 𝓤 H A N))) (sep 𝓤 (A .lft (ν′ ∷ []) fullShare) (sem 𝓤 H A (Numbers ν′ δ′))))
+      (Removal 𝓤 H A mem run .pre (to-call b ν ν′ δ δ′))
   goes-call b ν ν′ δ δ′ = via 𝓤 (onEntry 𝓤 H A call.signature (ν ∷ [], (κ″, (ν′ ∷ [], tt))) (fullShare, (q″, (fullShare, tt))) (x b δ head, (z, (y δ′ ss, tt))) (args b))
       (qed W (((‵ (flft (ν ∷ []) fullShare) ⊛ ‵ (Mine b ν δ head)) ⊛ (‵ (flft κ″ q″) ⊛ ‵ N)) ∷ ‵ (flft (ν′ ∷ []) fullShare) ∷ ‵ (Numbers ν′ δ′) ∷ []) ∵
       split ! $ split ! $ move ! (2 ∷ []) $ split ! $ nothing ! $ move ! (5 ∷ 0 ∷ []) $ join ! $ move ! (1 ∷ 0 ∷ []) $ join ! $ move ! (2 ∷ 0 ∷ []) $ join ! $ frame ! $
       nothing ! $ move ! (3 ∷ 0 ∷ []) $ fjoin ! $ move ! (1 ∷ 0 ∷ []) $ fjoin ! $ move ! (1 ∷ 0 ∷ []) $ fjoin ! $ done !) (∗emp 𝓤 _)
 
   abbrev Gives : ℕ → ℕ → GName → GName → Val → Outcome → SProp 𝓤
-  Gives ν ν′ δ δ′ w r = guard 𝓤 ((r ≡ After .answer) × ((length (After .scratch) ≡ m) × (length (After .epochs) ≡ n))) (sep 𝓤 (sem 𝓤 H A (U.the-row .own r (w ∷ []))) (sep 𝓤 (A .lft (ν ∷ []) fullShare) (sep 𝓤 (A .lft κ″ q″) (sep 𝓤 (A .lft (ν′ ∷ []) fullShare) (sep 𝓤 (sem 𝓤 H A (finally T.the-row δ (After .epochs))) (sem 𝓤 H A (finally f64 δ′ (After .scratch))))))))
+  Gives ν ν′ δ δ′ w r = guard 𝓤 ((r ≡ After .answer) × ((length (After .scratch) ≡ m) × (length (After .epochs) ≡ n)))
+      (sep 𝓤 (sem 𝓤 H A (U.the-row .own r (w ∷ []))) (sep 𝓤 (A .lft (ν ∷ []) fullShare)
+      (sep 𝓤 (A .lft κ″ q″) (sep 𝓤 (A .lft (ν′ ∷ []) fullShare) (sep 𝓤 (sem 𝓤 H A (finally T.the-row δ (After .epochs))) (sem 𝓤 H A (finally f64 δ′ (After .scratch))))))))
 
   gives-call : (b ν ν′ : ℕ) (δ δ′ : GName) (w : Val) → ent 𝓤 (Removal 𝓤 H A mem run .post (to-call b ν ν′ δ δ′) w) (H .⇛ (ex 𝓤 (Gives ν ν′ δ δ′ w)))
   gives-call b ν ν′ δ δ′ w =
       qed W (raw (Removal 𝓤 H A mem run .post (to-call b ν ν′ δ δ′) w) ∷ []) ∵ updating ! $
-      use1 W (later (some (λ (r : Outcome). ((‵ (flft (ν ∷ []) fullShare) ⊛ ‵ (flft κ″ q″) ⊛ ‵ (flft (ν′ ∷ []) fullShare) ⊛ ‵ ftrue) ⊛ ‵ (U.the-row .own r (w ∷ []))) ⊛ raw (ensured 𝓤 H A call.ended (call.clauses 𝓤 H A mem run) (ν ∷ [], (κ″, (ν′ ∷ [], tt))) (x b δ head, (z, (y δ′ ss, tt))) tt r)))) (id⊢ 𝓤 _) $ await ! tt $ pick ! (λ r.
-      split ! $ move ! (1 ∷ []) $ use1 W (some (λ (ws : List Epoch × (Unit {0} × (List Float × Unit {0}))). ‵ (lasts call.ended (ν ∷ [], (κ″, (ν′ ∷ [], tt))) (x b δ head, (z, (y δ′ ss, tt))) ws) ⊛ raw (fact 𝓤 (leftRecords r (ws .0) (ws .1 .1 .0) ≡ After)))) (id⊢ 𝓤 _) $ pick ! (λ ws.
+      use1 W (later (some (λ (r : Outcome). ((‵ (flft (ν ∷ []) fullShare) ⊛ ‵ (flft κ″ q″) ⊛ ‵ (flft (ν′ ∷ []) fullShare) ⊛ ‵ ftrue) ⊛ ‵ (U.the-row .own r (w ∷ [])))
+      ⊛ raw (ensured 𝓤 H A call.ended (call.clauses 𝓤 H A mem run) (ν ∷ [], (κ″, (ν′ ∷ [], tt))) (x b δ head, (z, (y δ′ ss, tt))) tt r)))) (id⊢ 𝓤 _) $ await ! tt $ pick ! (λ r.
+      split ! $ move ! (1 ∷ []) $ use1 W (some (λ (ws : List Epoch × (Unit {0} × (List Float × Unit {0}))). ‵ (lasts call.ended (ν ∷ [], (κ″, (ν′ ∷ [], tt))) (x b δ head, (z, (y δ′ ss, tt))) ws)
+      ⊛ raw (fact 𝓤 (leftRecords r (ws .0) (ws .1 .1 .0) ≡ After)))) (id⊢ 𝓤 _) $ pick ! (λ ws.
       split ! $ move ! (1 ∷ []) $ heard ! (leftRecords r (ws .0) (ws .1 .1 .0) ≡ After) (λ e.
       fsplit ! $ fsplit ! $ rewrite ! 0 (λ (l : List Epoch). ‵ (finally T.the-row δ l)) (ap (λ (l : LeftRecords). l .epochs) e) refl $
       move ! (2 ∷ []) $ fsplit ! $ drop ! $ fsplit ! $ fsplit ! $ rewrite ! 0 (λ (l : List Float). ‵ (finally f64 δ′ l)) (ap (λ (l : LeftRecords). l .scratch) e) refl $
       -- [the numbers at last; as long; true; the records at last; as long; the tokens and the answer]
       move ! (1 ∷ []) $ feqL ! (λ long. move ! (3 ∷ []) $ feqL ! (λ long′. move ! (3 ∷ []) $ split ! $ split ! $ move ! (1 ∷ []) $ split ! $ move ! (1 ∷ []) $ split ! $
-      at-once ! $ show ! (Gives ν ν′ δ δ′ w) r $ check ! (ap (λ (l : LeftRecords). l .answer) e, (sym (ap (λ (l : LeftRecords). length (l .scratch)) e) ∙ long, sym (ap (λ (l : LeftRecords). length (l .epochs)) e) ∙ long′ ∙ head-long)) $ keep ! (4 ∷ 3 ∷ 2 ∷ 0 ∷ 7 ∷ 5 ∷ []) $ done !)))))
+      at-once ! $ show ! (Gives ν ν′ δ δ′ w) r $ check ! (
+        ap (λ (l : LeftRecords). l .answer) e,
+        (sym (ap (λ (l : LeftRecords). length (l .scratch)) e) ∙ long, sym (ap (λ (l : LeftRecords). length (l .epochs)) e) ∙ long′ ∙ head-long),
+      ) $ keep ! (4 ∷ 3 ∷ 2 ∷ 0 ∷ 7 ∷ 5 ∷ []) $ done !)))))
 
   typed : (l : List Epoch) (u : Val) → Is Records l (u ∷ []) → T (hasTy (tyArray (lone (T.the-row .mir)) 128) u) × WT u
   typed l u is = array-lawful 𝓤 H A W T.the-row (LL.lawful T.the-type T′.the-laws 𝓤 H A W) 128 .typed l (u ∷ []) is .0
@@ -226,40 +243,57 @@ module _ {M : Type 1} (𝓤 : URA M) (H : Heap 𝓤) (A : Atoms 𝓤) (W : Given
   module _ (C : Calls 𝓤 H) (Λ : Loops 𝓤 H) (fm : FmC 𝓤 H (W .laws) C) (known : Triple 𝓤 (C #call) (Removal 𝓤 H A mem run)) where
     walk : ent 𝓤 (onEntry 𝓤 H A f.signature (κ″, (κ′, tt)) (q″, (q′, tt)) a at) (WpFn 𝓤 H C Λ code.function (v ∷ vint w64 n ∷ s″ ∷ s′ ∷ []) Post)
     walk =
-        qed W ((‵ (flft κ″ q″) ⊛ ‵ (flft κ′ q′) ⊛ ‵ ftrue) ∷ ‵ (owns (Records ∷ usize ∷ ShrSlice (named 0) κ″ f64 ∷ MutSlice (named 1) κ′ f64 ∷ []) a at) ∷ []) ∵ enter ! C Λ code.function (v ∷ vint w64 n ∷ s″ ∷ s′ ∷ []) _ $
-        alloc1 ! (λ l₀. alloc1 ! (λ l₁. alloc1 ! (λ l₂. alloc1 ! (λ l₃. alloc1 ! (λ l₄. alloc1 ! (λ l₅. alloc1 ! (λ l₆. alloc1 ! (λ l₇. alloc1 ! (λ l₈. alloc1 ! (λ l₉. alloc1 ! (λ m₀. alloc1 ! (λ m₁. alloc0 ! $ params1 ! $
-        pass1 ! (init ! 20 refl (typed es v are)) $ pass1 ! (init ! 18 refl (tt, record { fits = small })) $ pass1 ! (init ! 16 refl (tt, (tt, (record { fits = room″ .0 }, tt)))) $ pass1 ! (init ! 14 refl (tt, (tt, (record { fits = room′ .0 }, tt)))) $ pass0 ! $
+        qed W ((‵ (flft κ″ q″) ⊛ ‵ (flft κ′ q′) ⊛ ‵ ftrue) ∷ ‵ (owns (Records ∷ usize ∷ ShrSlice (named 0) κ″ f64 ∷ MutSlice (named 1) κ′ f64 ∷ []) a at) ∷ []) ∵ enter ! C Λ code.function
+        (v ∷ vint w64 n ∷ s″ ∷ s′ ∷ []) _ $
+        alloc1 ! (λ l₀. alloc1 ! (λ l₁. alloc1 ! (λ l₂. alloc1 ! (λ l₃. alloc1 ! (λ l₄. alloc1 !
+        (λ l₅. alloc1 ! (λ l₆. alloc1 ! (λ l₇. alloc1 ! (λ l₈. alloc1 ! (λ l₉. alloc1 ! (λ m₀. alloc1 ! (λ m₁. alloc0 ! $ params1 ! $
+        pass1 ! (init ! 20 refl (typed es v are)) $ pass1 ! (init ! 18 refl (tt, record { fits = small })) $ pass1 ! (init ! 16 refl (tt, (tt, (record { fits = room″ .0 }, tt)))) $
+        pass1 ! (init ! 14 refl (tt, (tt, (record { fits = room′ .0 }, tt)))) $ pass0 ! $
         -- [_11; …; _0; …; the tokens; what epochs, n, nodes and scratch own]
         move ! (25 ∷ []) $ fsplit ! $ move ! (1 ∷ []) $ fsplit ! $ move ! (1 ∷ []) $ fsplit ! $ move ! (1 ∷ []) $ fsplit ! $ move ! (29 ∷ []) $ split ! $ move ! (1 ∷ []) $ split ! $
         move ! (1 ∷ []) $ drop ! $ move ! (3 ∷ []) $ drop ! $ move ! (4 ∷ []) $ drop ! $ move ! (4 ∷ 2 ∷ 0 ∷ 3 ∷ 1 ∷ []) $
         -- [what the records own; the numbers; their token; the nodes; their token; _11; …], so that local i stands at 27 - 2 i
         assigns ! (of-opd ! (load ! (from ! (stop !)) (look ! 25 refl))) (from ! (stop !)) (init ! 17 refl (typed es v are)) $
         assigns ! (addr ! (from ! (stop !))) (from ! (stop !)) (init ! 13 refl (tt, tt)) $
-        assigns ! (agg ! (and-then ! (load ! (from ! (stop !)) (look ! 13 refl)) (and-then ! (load ! (from ! (stop !)) (look ! 23 refl)) (no-more !)))) (from ! (stop !)) (init ! 11 refl (tt, (tt, (record { fits = small }, tt)))) $
+        assigns ! (agg ! (and-then ! (load ! (from ! (stop !)) (look ! 13 refl)) (and-then ! (load ! (from ! (stop !)) (look ! 23 refl)) (no-more !)))) (from ! (stop !))
+        (init ! 11 refl (tt, (tt, (record { fits = small }, tt)))) $
         assigns ! (addr ! (from ! (fld ! refl (hop ! (look-in ! 19 (sub ! 0 refl (whole !))) (stop !))))) (from ! (stop !)) (init ! 9 refl (tt, tt)) $
-        assigns ! (agg ! (and-then ! (load ! (from ! (stop !)) (look ! 9 refl)) (and-then ! (load ! (from ! (fld ! refl (stop !))) (look-in ! 19 (sub ! 1 refl (whole !)))) (no-more !)))) (from ! (stop !)) (init ! 7 refl (tt, (tt, (record { fits = room′ .0 }, tt)))) $
+        assigns ! (agg ! (and-then ! (load ! (from ! (stop !)) (look ! 9 refl)) (and-then ! (load ! (from ! (fld ! refl (stop !))) (look-in ! 19 (sub ! 1 refl (whole !)))) (no-more !))))
+        (from ! (stop !)) (init ! 7 refl (tt, (tt, (record { fits = room′ .0 }, tt)))) $
         lft-new ! tt (λ ν₁. move ! (18 ∷ 1 ∷ []) $
-        use2 W (later (some (λ (δ₁ : GName). ‵ (Mine l₅ ν₁ δ₁ head) ⊛ ‵ (Kept T.the-row tt 128 (ν₁ ∷ []) l₅ n rest δ₁)))) (lends-head T.the-row tt 128 (ν₁ ∷ []) l₅ 𝓤 H A W (named 0) es n n head-long v room) $ await ! tt $ pick ! (λ δ₁. split ! $
+        use2 W (later (some (λ (δ₁ : GName). ‵ (Mine l₅ ν₁ δ₁ head) ⊛ ‵ (Kept T.the-row tt 128 (ν₁ ∷ []) l₅ n rest δ₁))))
+        (lends-head T.the-row tt 128 (ν₁ ∷ []) l₅ 𝓤 H A W (named 0) es n n head-long v room) $ await ! tt $ pick ! (λ δ₁. split ! $
         lft-new ! tt (λ ν₂. move ! (4 ∷ 5 ∷ []) $
-        use2 W (later (some (λ (δ₂ : GName). ‵ (Numbers ν₂ δ₂) ⊛ ‵ (LentAgain f64 κ′ (ν₂ ∷ []) q′ γ′ b′ o′ δ₂ ss)))) (lends-mut f64 κ′ (ν₂ ∷ []) q′ γ′ b′ o′ 𝓤 H A W (named 1) (named 2) ss m refl) $ await ! tt $ pick ! (λ δ₂. split ! $
+        use2 W (later (some (λ (δ₂ : GName). ‵ (Numbers ν₂ δ₂) ⊛ ‵ (LentAgain f64 κ′ (ν₂ ∷ []) q′ γ′ b′ o′ δ₂ ss)))) (lends-mut f64 κ′ (ν₂ ∷ []) q′ γ′ b′ o′ 𝓤 H A W (named 1) (named 2) ss m refl) $
+        await ! tt $ pick ! (λ δ₂. split ! $
         move ! (6 ∷ []) $ use1 W (‵ N ⊛ ‵ N) (shr-slice-copy 𝓤 H A W (named 0) κ″ f64 .twice z (s″ ∷ [])) $ split ! $
-        move ! (7 ∷ 5 ∷ 8 ∷ 0 ∷ 4 ∷ 2 ∷ []) $ join ! $ move ! (1 ∷ 2 ∷ []) $ join ! $ move ! (1 ∷ []) $ join ! $ use3 W (raw (Removal 𝓤 H A mem run .pre (to-call l₅ ν₁ ν₂ δ₁ δ₂))) (goes-call l₅ ν₁ ν₂ δ₁ δ₂) $
+        move ! (7 ∷ 5 ∷ 8 ∷ 0 ∷ 4 ∷ 2 ∷ []) $ join ! $ move ! (1 ∷ 2 ∷ []) $ join ! $ move ! (1 ∷ []) $ join ! $
+        use3 W (raw (Removal 𝓤 H A mem run .pre (to-call l₅ ν₁ ν₂ δ₁ δ₂))) (goes-call l₅ ν₁ ν₂ δ₁ δ₂) $
         -- [what the call takes; the nodes; what is kept of the numbers and of the records; _11; …]
-        calls-at ! fm (Removal 𝓤 H A mem run) known (to-call l₅ ν₁ ν₂ δ₁ δ₂) (and-then ! (load ! (from ! (stop !)) (look ! 10 refl)) (and-then ! (load ! (from ! (stop !)) (look ! 19 refl)) (and-then ! (load ! (from ! (stop !)) (look ! 6 refl)) (no-more !)))) (λ w.
-        use1 W (later (some (λ (r : Outcome). given ((r ≡ After .answer) × ((length (After .scratch) ≡ m) × (length (After .epochs) ≡ n))) (‵ (U.the-row .own r (w ∷ [])) ⊛ ‵ (flft (ν₁ ∷ []) fullShare) ⊛ ‵ (flft κ″ q″) ⊛ ‵ (flft (ν₂ ∷ []) fullShare) ⊛ ‵ (finally T.the-row δ₁ (After .epochs)) ⊛ ‵ (finally f64 δ₂ (After .scratch)))))) (gives-call l₅ ν₁ ν₂ δ₁ δ₂ w) $ await ! tt $ pick ! (λ r. learn ! (λ er.
+        calls-at ! fm (Removal 𝓤 H A mem run) known (to-call l₅ ν₁ ν₂ δ₁ δ₂) (and-then ! (load ! (from ! (stop !)) (look ! 10 refl))
+        (and-then ! (load ! (from ! (stop !)) (look ! 19 refl)) (and-then ! (load ! (from ! (stop !)) (look ! 6 refl)) (no-more !)))) (λ w.
+        use1 W (later (some (λ (r : Outcome). given ((r ≡ After .answer) × ((length (After .scratch) ≡ m) × (length (After .epochs) ≡ n)))
+        (‵ (U.the-row .own r (w ∷ [])) ⊛ ‵ (flft (ν₁ ∷ []) fullShare) ⊛ ‵ (flft κ″ q″) ⊛ ‵ (flft (ν₂ ∷ []) fullShare) ⊛ ‵ (finally T.the-row δ₁ (After .epochs))
+        ⊛ ‵ (finally f64 δ₂ (After .scratch)))))) (gives-call l₅ ν₁ ν₂ δ₁ δ₂ w) $ await ! tt $ pick ! (λ r. learn ! (λ er.
         split ! $ move ! (1 ∷ []) $ split ! $ move ! (1 ∷ []) $ split ! $ move ! (1 ∷ []) $ split ! $ move ! (1 ∷ []) $ split ! $
         -- [the records at last; the numbers at last; the tokens of the numbers, the nodes and the records; the answer; the nodes; what is kept of the numbers and of the records; _11; …]
         move ! (5 ∷ []) $ peeks ! U.the-row (Is U.the-row) (shows 𝓤 H A U.the-row) r (w ∷ []) (λ is.
         land ! (from ! (stop !)) (init ! 19 refl (EL.lawful U.the-type U′.the-laws 𝓤 H A W tt .typed r (w ∷ []) is .0)) $
-        move ! (3 ∷ []) $ lft-end ! tt $ move ! (0 ∷ 7 ∷ 3 ∷ []) $ use3 W (later (‵ (F (After .scratch)) ⊛ ‵ (flft κ′ q′))) (mut-back f64 κ′ (ν₂ ∷ []) q′ γ′ b′ o′ 𝓤 H A W (named 1) (named 2) ss m refl δ₂ (After .scratch) room′ (er .1 .0)) $ await ! tt $ split ! $
+        move ! (3 ∷ []) $ lft-end ! tt $ move ! (0 ∷ 7 ∷ 3 ∷ []) $ use3 W (later (‵ (F (After .scratch)) ⊛ ‵ (flft κ′ q′)))
+        (mut-back f64 κ′ (ν₂ ∷ []) q′ γ′ b′ o′ 𝓤 H A W (named 1) (named 2) ss m refl δ₂ (After .scratch) room′ (er .1 .0)) $ await ! tt $ split ! $
         move ! (5 ∷ []) $ lft-end ! tt $ move ! (0 ∷ 7 ∷ 4 ∷ []) $
-        use3 W (later (some (λ (u : Val). given (Is Records all (u ∷ [])) (‵ (fat fullShare (tyArray (lone (T.the-row .mir)) 128) l₅ 0 u))))) (head-back T.the-row tt 128 (ν₁ ∷ []) l₅ 𝓤 H A W (named 0) es n n δ₁ (After .epochs) rest-long) $ await ! tt $ pick ! (λ u. learn ! (λ isu.
+        use3 W (later (some (λ (u : Val). given (Is Records all (u ∷ [])) (‵ (fat fullShare (tyArray (lone (T.the-row .mir)) 128) l₅ 0 u)))))
+        (head-back T.the-row tt 128 (ν₁ ∷ []) l₅ 𝓤 H A W (named 0) es n n δ₁ (After .epochs) rest-long) $ await ! tt $ pick ! (λ u. learn ! (λ isu.
         -- [_5; the numbers; their token; the answer; the nodes' token; the nodes; _11; …]
         assigns ! (of-opd ! (load ! (from ! (stop !)) (look ! 0 refl))) (from ! (stop !)) (init ! 6 refl (typed all u isu)) $
-        assigns ! (agg ! (and-then ! (load ! (from ! (stop !)) (look ! 16 refl)) (and-then ! (load ! (from ! (stop !)) (look ! 6 refl)) (no-more !)))) (from ! (stop !)) (init ! 27 refl (LL.lawful L.the-type L′.the-laws 𝓤 H A W .typed (result r) (pair w u ∷ []) (made r w u is isu) .0)) $
-        returns ! (look ! 27 refl) $ forget ! 0 refl $ forget ! 6 refl $ forget ! 8 refl $ forget ! 10 refl $ forget ! 12 refl $ forget ! 14 refl $ forget ! 16 refl $ forget ! 19 refl $ forget ! 21 refl $ forget ! 23 refl $ forget ! 25 refl $ forget ! 27 refl $
-        move ! (27 ∷ 28 ∷ []) $ free1 ! $ move ! (25 ∷ 26 ∷ []) $ free1 ! $ move ! (23 ∷ 24 ∷ []) $ free1 ! $ move ! (21 ∷ 22 ∷ []) $ free1 ! $ move ! (19 ∷ 20 ∷ []) $ free1 ! $ move ! (0 ∷ 18 ∷ []) $ free1 ! $
-        move ! (15 ∷ 16 ∷ []) $ free1 ! $ move ! (13 ∷ 14 ∷ []) $ free1 ! $ move ! (11 ∷ 12 ∷ []) $ free1 ! $ move ! (9 ∷ 10 ∷ []) $ free1 ! $ move ! (7 ∷ 8 ∷ []) $ free1 ! $ move ! (5 ∷ 6 ∷ []) $ free1 ! $ free0 ! $
+        assigns ! (agg ! (and-then ! (load ! (from ! (stop !)) (look ! 16 refl)) (and-then ! (load ! (from ! (stop !)) (look ! 6 refl)) (no-more !)))) (from ! (stop !))
+        (init ! 27 refl (LL.lawful L.the-type L′.the-laws 𝓤 H A W .typed (result r) (pair w u ∷ []) (made r w u is isu) .0)) $
+        returns ! (look ! 27 refl) $ forget ! 0 refl $ forget ! 6 refl $ forget ! 8 refl $ forget ! 10 refl $ forget ! 12 refl $ forget ! 14 refl $ forget ! 16 refl $ forget ! 19 refl $
+        forget ! 21 refl $ forget ! 23 refl $ forget ! 25 refl $ forget ! 27 refl $
+        move ! (27 ∷ 28 ∷ []) $ free1 ! $ move ! (25 ∷ 26 ∷ []) $ free1 ! $ move ! (23 ∷ 24 ∷ []) $ free1 ! $ move ! (21 ∷ 22 ∷ []) $ free1 ! $ move ! (19 ∷ 20 ∷ []) $ free1 ! $
+        move ! (0 ∷ 18 ∷ []) $ free1 ! $
+        move ! (15 ∷ 16 ∷ []) $ free1 ! $ move ! (13 ∷ 14 ∷ []) $ free1 ! $ move ! (11 ∷ 12 ∷ []) $ free1 ! $ move ! (9 ∷ 10 ∷ []) $ free1 ! $ move ! (7 ∷ 8 ∷ []) $ free1 ! $
+        move ! (5 ∷ 6 ∷ []) $ free1 ! $ free0 ! $
         owned ! L.the-row (Is L.the-row) (LL.makes L.the-type L′.the-plain 𝓤 H A) (result r) (pair w u ∷ []) (made r w u is isu) $
         -- [what is returned; the numbers; their token; the answer; the nodes' token; the nodes]
         keep ! (5 ∷ 4 ∷ 1 ∷ 2 ∷ 0 ∷ []) $ by ! (exits (result r) (pair w u) (After .scratch) (er .1 .0) (ends (er .0) (er .1 .1)))))))))))))))))))))))))
@@ -269,11 +303,15 @@ module _ {M : Type 1} (𝓤 : URA M) (H : Heap 𝓤) (A : Atoms 𝓤) (W : Given
   removed-walks C Λ fm known = walked 𝓤 H A f.ended stayed (f.clauses 𝓤 H A mem run) (WpFn 𝓤 H C Λ code.function) (λ κs. (array-vals rowvals, (uint-vals w64, (slice-vals, (slice-vals, tt)))))
       (λ κs. (array-tells T.the-row rowvals (LL.tells T.the-type T′.the-laws) 128, (uint-tells w64, (shr-slice-tells (named 0) (κs .0) f64, (mut-slice-tells (named 1) (κs .1 .0) f64, tt)))))
       (λ κs qs bounds a g are. needs 𝓤 _ _ (λ few.
-      walk 𝓤 H A W mem run (κs .0) (κs .1 .0) (qs .0) (qs .1 .0) (a .0) (a .1 .0) (a .1 .1 .0 .ptr .0) (a .1 .1 .0 .ptr .1) (a .1 .1 .0 .name) (a .1 .1 .0 .now) (a .1 .1 .1 .0 .ptr .0) (a .1 .1 .1 .0 .ptr .1) (a .1 .1 .1 .0 .name) (a .1 .1 .1 .0 .now)
+      walk 𝓤 H A W mem run (κs .0) (κs .1 .0) (qs .0) (qs .1 .0) (a .0) (a .1 .0) (a .1 .1 .0 .ptr .0) (a .1 .1 .0 .ptr .1) (a .1 .1 .0 .name) (a .1 .1 .0 .now) (a .1 .1 .1 .0 .ptr .0)
+      (a .1 .1 .1 .0 .ptr .1) (a .1 .1 .1 .0 .name) (a .1 .1 .1 .0 .now)
       (firstOf (array-vals rowvals (a .0))) (are .0) (are .1 .0 .1) (are .1 .1 .0 .0 .1) (are .1 .1 .1 .0 .0 .1) few C Λ fm known))
 
   all-go : AllGo 𝓤 H A W 2 (f.signature .params) (f.ended .kept) stayed
-  all-go = (goes-dropped 𝓤 H A W 2 (ArrayOf (plain (λ _. T.the-row)) (λ _. tt) 128) yes (λ κs x l. refl), (goes-dropped 𝓤 H A W 2 (plain (λ _. usize)) yes (λ κs x l. refl), (goes-none-slice 𝓤 H A W 2 (0 ∷ []) tt (plain (λ _. f64)) yes, (goes-slice 𝓤 H A W 2 1 tt (plain (λ _. f64)), tt))))
+  all-go = (
+    goes-dropped 𝓤 H A W 2 (ArrayOf (plain (λ _. T.the-row)) (λ _. tt) 128) yes (λ κs x l. refl),
+    (goes-dropped 𝓤 H A W 2 (plain (λ _. usize)) yes (λ κs x l. refl), (goes-none-slice 𝓤 H A W 2 (0 ∷ []) tt (plain (λ _. f64)) yes, (goes-slice 𝓤 H A W 2 1 tt (plain (λ _. f64)), tt))),
+  )
 
 removed-meets : {M : Type 1} (𝓤 : URA M) (H : Heap 𝓤) (A : Atoms 𝓤) → Given 𝓤 H A → (mem : Memory → SProp 𝓤) (run : Routine → Fun 𝓤) (𝓣 : Tables 𝓤 H)
     → Triple 𝓤 (𝓣 .C #call) (Removal 𝓤 H A mem run) → Meets 𝓤 H A f.signature (WpFn 𝓤 H (𝓣 .C) (𝓣 .Λ) code.function) (f.spec 𝓤 H A mem run)

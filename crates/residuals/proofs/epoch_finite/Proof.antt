@@ -1,3 +1,4 @@
+-- `residuals::epoch_finite`: time, residual, terms, position and velocity tested are the definition's test, by rewriting. Assumes nothing.
 use Rattle.residuals.specs.Calls.{epochFinite}
 use borrow.Author.Needs.{needs}
 use Rattle.residuals.proofs.epoch_finite.Statement.{statement}
@@ -42,7 +43,21 @@ both-requires-4 c κs = search needs
 returns : tie.Need-returns
 unfolding epochFinite
 returns c =
-    simp (c .both4 .ensures, c .before .both3 .ensures, c .before .before .is-finite2 .ensures, c .before .before .before .is-finite .ensures, c .before .before .before .before .both2 .ensures, c .before .before .before .before .before .both .ensures, c .before .before .before .before .before .before .all-finite3 .ensures, c .before .before .before .before .before .before .before .before .all-finite2 .ensures, c .before .before .before .before .before .before .before .before .before .before .all-finite .ensures)
+    let at-both3 = c .before in
+    let at-is-finite = at-both3 .before .before in
+    let at-both = at-is-finite .before .before in
+    let at-all-finite2 = at-both .before .before .before in
+    simp (
+      c .both4 .ensures,
+      at-both3 .both3 .ensures,
+      at-both3 .before .is-finite2 .ensures,
+      at-is-finite .is-finite .ensures,
+      at-is-finite .before .both2 .ensures,
+      at-both .both .ensures,
+      at-both .before .all-finite3 .ensures,
+      at-all-finite2 .all-finite2 .ensures,
+      at-all-finite2 .before .before .all-finite .ensures,
+    )
 
 pub epoch-finite-spec : {M : Type 1} → statement M
 epoch-finite-spec =

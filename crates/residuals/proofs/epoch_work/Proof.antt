@@ -1,9 +1,8 @@
-use mathlib.Core.Path.{_≡_, _∙_}
+-- `residuals::epoch_work`: on the opened scratch the epoch tried and judged is the definition's answer, by `work-answers` of proofs/Answers.antt. Assumes nothing.
+use mathlib.Core.Path.{refl, _≡_, _∙_}
 use native.Mathlib.Omega.{arith}
-use Rattle.inputs.specs.Inputs.{frontSize}
-use Rattle.integrate.specs.Force.{model}
-use Rattle.epoch.specs.Kept.{keyed, observation}
-use Rattle.residuals.specs.Inputs.{inputs}
+use Rattle.inputs.specs.Inputs.{modelOf, frontSize, pairOf, inputs}
+use Rattle.epoch.specs.Kept.{observation}
 use Rattle.residuals.proofs.Answers.{work-answers}
 use borrow.Author.Needs.{needs}
 use Rattle.residuals.proofs.epoch_work.Statement.{statement}
@@ -17,9 +16,18 @@ open-requires c κs = search needs
 
 try-epoch-requires : tie.Need-try-epoch-requires
 try-epoch-requires c κs =
-    let s = c .before .before .before .before .before .before .before .before .before .before .before .before .before .before .before .before .args in
-    let e : _ ≡ frontSize (s .degree) = c .before .before .before .before .before .front-size .ensures .0 (c .before .before .before .before .before .before .before .before .before .before .before .before .before .before .before .before .pre .degree) in
-    (c .before .before .before .before .before .before .before .before .before .before .before .before .before .before .before .before .pre .statesC, c .before .before .before .before .before .before .before .before .before .before .before .before .before .before .before .before .pre .statesD, c .before .before .before .before .before .before .before .before .before .before .before .before .before .before .before .before .pre .accC, c .before .before .before .before .before .before .before .before .before .before .before .before .before .before .before .before .pre .accD, omega (arith, e, c .before .before .before .before .before .before .before .before .before .before .before .before .before .before .before .before .pre .room, c .before .before .before .«open» .ensures .only .long), c .before .before .before .«open» .ensures .usable e (omega (arith, e, c .before .before .before .before .before .before .before .before .before .before .before .before .before .before .before .before .pre .room)) (s .field .now) (s .times .now) (s .added .now))
+    let at-open = c .before .before .before in
+    let at-front-size = at-open .before .before in
+    let start = at-front-size .before .before in
+    let s = start .args in
+    let e : _ ≡ frontSize (s .degree) = at-front-size .front-size .ensures .0 (start .pre .degree) in (
+      start .pre .statesC,
+      start .pre .statesD,
+      start .pre .accC,
+      start .pre .accD,
+      omega (arith, e, start .pre .room, at-open .«open» .ensures .only .long),
+      at-open .«open» .ensures .usable e (omega (arith, e, start .pre .room)) (modelOf (s .degree) (s .model)) refl,
+    )
 
 judged-requires : tie.Need-judged-requires
 judged-requires c κs = search needs
@@ -29,8 +37,13 @@ same-length c = search needs
 
 returns : tie.Need-returns
 returns c =
-    let s = c .before .before .before .before .before .before .before .before .before .before .before .before .before .before .before .before .before .before .before .before .args in
-    (work-answers (inputs (model (s .degree) (s .field .now) (s .times .now) (s .added .now)) (s .a .now) (s .b .now) (keyed (s .ckeys .now) (s .cstates .now)) (keyed (s .dkeys .now) (s .dstates .now)) (keyed (s .cacckeys .now) (s .caccs .now)) (keyed (s .dacckeys .now) (s .daccs .now))) (observation (s .t) (s .observed) (s .good)) _ _ (c .before .before .before .try-epoch .ensures .is) (c .judged .ensures), c .before .before .before .try-epoch .ensures .long ∙ c .before .before .before .before .before .before .before .«open» .ensures .only .long)
+    let at-try-epoch = c .before .before .before in
+    let at-open = at-try-epoch .before .before .before .before in
+    let s = at-open .before .before .before .before .args in (
+      work-answers (inputs (modelOf (s .degree) (s .model)) (pairOf (s .keys) (s .states)) (pairOf (s .acckeys) (s .accs))) (observation (s .t) (s .observed) (s .good)) _ _
+          (at-try-epoch .try-epoch .ensures .is) (c .judged .ensures),
+      at-try-epoch .try-epoch .ensures .long ∙ at-open .«open» .ensures .only .long,
+    )
 
 pub epoch-work-spec : {M : Type 1} → statement M
 epoch-work-spec =

@@ -1,3 +1,4 @@
+-- `residuals::judged`: kept and finite, kept but not finite, or not kept, by the cases of the two tests and rewriting. Assumes nothing.
 use mathlib.Core.Path.{sym, _∙_}
 use borrow.Author.Needs.{needs}
 use Rattle.residuals.proofs.judged.Statement.{statement}

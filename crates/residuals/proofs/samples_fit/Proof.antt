@@ -6,7 +6,9 @@ use Rattle.residuals.proofs.samples_fit.Tie as tie
 returns : tie.Need-returns
 unfolding samplesFit
 returns c =
-    simp (c .both6 .ensures, c .before .both5 .ensures, c .before .before .both4 .ensures, c .before .before .before .both3 .ensures, c .before .before .before .before .both2 .ensures, c .before .before .before .before .before .both .ensures)
+    let at-both5 = c .before in
+    let at-both3 = at-both5 .before .before in
+    simp (c .both6 .ensures, at-both5 .both5 .ensures, at-both5 .before .both4 .ensures, at-both3 .both3 .ensures, at-both3 .before .both2 .ensures, at-both3 .before .before .both .ensures)
 
 pub samples-fit-spec : {M : Type 1} → statement M
 samples-fit-spec =

@@ -19,8 +19,9 @@ settled-requires c κs = omega (arith, sum-range (c .before .before .args .f) (c
 
 returns : tie.Need-returns
 returns c =
-    let a = c .before .before .before .args in
-    λ n e. placed-at n (a .f) (a .k) (a .f + c .before .before .lack .result) (c .settled .result) (omega arith) (omega arith) (omega arith) e (c .before .before .lack .ensures) (c .settled .ensures)
+    let at-lack = c .before .before in
+    let a = at-lack .before .args in
+    λ n e. placed-at n (a .f) (a .k) (a .f + at-lack .lack .result) (c .settled .result) (omega arith) (omega arith) (omega arith) e (at-lack .lack .ensures) (c .settled .ensures)
 
 pub placed-spec : {M : Type 1} → statement M
 placed-spec =

@@ -35,13 +35,13 @@ add-result-3 c = search needs
 
 returns : tie.Need-returns
 returns c =
-    let s = c .before .before .before .before .before in
-    not-above (s .before .args .c) (s .before .args .r) (s .square .result .hi) (s .square .result .lo) (omega arith) (omega arith) (omega arith) (omega arith)
+    let at-square = c .before .before .before .before .before in
+    not-above (at-square .before .args .c) (at-square .before .args .r) (at-square .square .result .hi) (at-square .square .result .lo) (omega arith) (omega arith) (omega arith) (omega arith)
 
 returns-2 : tie.Need-returns-2
 returns-2 c =
-    let s = c .before .before .before in
-    above (s .before .args .c) (s .before .args .r) (s .square .result .hi) (s .square .result .lo) (omega arith) (omega arith)
+    let at-square = c .before .before .before in
+    above (at-square .before .args .c) (at-square .before .args .r) (at-square .square .result .hi) (at-square .square .result .lo) (omega arith) (omega arith)
 
 pub right-spec : {M : Type 1} → statement M
 right-spec =

@@ -12,9 +12,13 @@ use Rattle.root.proofs.significand.Reads as significand-reads
 
 returns : tie.Need-returns
 returns c =
-    let s = c .before .before in
+    let at-significand = c .before .before in
     let n = c .before .right .ensures .0 (c .if1 .taken) in
-    record { root = s .significand .result; nearest = n; pattern = s .significand .ensures .1 (not-zero (s .before .args .c) (s .significand .result) (omega arith) n) }
+    record {
+      root = at-significand .significand .result;
+      nearest = n;
+      pattern = at-significand .significand .ensures .1 (not-zero (at-significand .before .args .c) (at-significand .significand .result) (omega arith) n);
+    }
 
 pub settled-spec : {M : Type 1} → statement M
 settled-spec =

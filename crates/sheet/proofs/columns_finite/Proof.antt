@@ -1,10 +1,22 @@
-use Rattle.sheet.proofs.Fours.{four-all}
+use mathlib.Core.Bool.{and-true}
 use borrow.Author.Needs.{needs}
 use Rattle.sheet.proofs.columns_finite.Statement.{statement}
 use Rattle.sheet.proofs.columns_finite.Tie as tie
 
 returns : tie.Need-returns
-returns c = four-all _ _ _ _ _ _ _ _ _ _ _ (c .before .before .before .all-finite3 .ensures) (c .before .before .all-finite4 .ensures) (c .before .before .before .before .before .before .all-finite .ensures) (c .before .before .before .before .before .all-finite2 .ensures) (c .before .before .before .before .both .ensures) (c .before .both2 .ensures) (c .both3 .ensures)
+returns c =
+    let at-all-finite4 = c .before .before in
+    let at-both = at-all-finite4 .before .before in
+    simp (
+      and-true,
+      c .both3 .ensures,
+      c .before .both2 .ensures,
+      at-all-finite4 .all-finite4 .ensures,
+      at-all-finite4 .before .all-finite3 .ensures,
+      at-both .both .ensures,
+      at-both .before .all-finite2 .ensures,
+      at-both .before .before .all-finite .ensures,
+    )
 
 pub columns-finite-spec : {M : Type 1} → statement M
 columns-finite-spec =

@@ -1,5 +1,7 @@
-use Rattle.windows.specs.Stage.{setting}
-use Rattle.sheet.specs.Calls.{lists}
+-- `sheet::sheet`: refused, accepted with both counts, or not finite and cleared, each by its law of proofs/Answers.antt. Assumes nothing.
+use mathlib.Core.Path.{refl}
+use mathlib.Core.List.{[], _∷_}
+use Rattle.inputs.specs.Inputs.{modelOf, pairOf, observedOf, lists}
 use Rattle.sheet.proofs.Answers.{refused, passes, accepted, unfit, kept-within}
 use borrow.Author.Needs.{needs}
 use Rattle.sheet.proofs.sheet.Statement.{statement}
@@ -7,28 +9,71 @@ use Rattle.sheet.proofs.sheet.Tie as tie
 
 returns : tie.Need-returns
 returns c =
-    let a = c .before .before .before .before .before .before .before .before .before .before .before .before .before .before .before .before .before .before .before .before .before .args in
-    refused (setting (a .degree) (a .field .now) (a .a .now) (a .b .now)) (lists (a .times .now) (a .added .now) (a .ckeys .now) (a .cstates .now) (a .dkeys .now) (a .dstates .now) (a .cacckeys .now) (a .caccs .now) (a .dacckeys .now) (a .daccs .now) (a .nodes .now) (a .obstimes .now) (a .obsvalues .now) (a .good .now)) (a .outtimes .now) (a .outraws .now) (a .outdetrended .now) (a .outpassed .now) (a .scratch .now) _ _ (c .before .before .outputs-fit .ensures) (c .before .refusal .ensures) (c .if1 .taken)
+    let at-refusal = c .before in
+    let at-shared-slice-known3 = at-refusal .before .before .before .before .before .before .before .before in
+    let start = at-shared-slice-known3 .before .before .before in
+    let a = start .args in
+    refused (modelOf (a .degree) (a .t2) .fixed)
+    (lists (modelOf (a .degree) (a .t2)) (pairOf (a .keys) (a .states)) (pairOf (a .acckeys) (a .accs)) (a .nodes .now) (observedOf (a .obstimes .now) (a .obsvalues .now) (a .good .now)))
+    (a .outtimes .now ∷ a .outraws .now ∷ a .outdetrended .now ∷ a .outpassed .now ∷ []) (a .scratch .now) _ _ (at-refusal .before .outputs-fit .ensures) (at-refusal .refusal .ensures)
+    (c .if1 .taken)
 
 work-requires : tie.Need-work-requires
 work-requires c κs =
-    let a = c .before .before .before .before .before .before .before .before .before .before .before .before .before .before .before .before .before .before .before .before .before .before .before .before .before .before .args in
-    passes (setting (a .degree) (a .field .now) (a .a .now) (a .b .now)) (lists (a .times .now) (a .added .now) (a .ckeys .now) (a .cstates .now) (a .dkeys .now) (a .dstates .now) (a .cacckeys .now) (a .caccs .now) (a .dacckeys .now) (a .daccs .now) (a .nodes .now) (a .obstimes .now) (a .obsvalues .now) (a .good .now)) (a .outtimes .now) (a .outraws .now) (a .outdetrended .now) (a .outpassed .now) (a .scratch .now) _ _ (c .before .before .before .before .before .before .before .outputs-fit .ensures) (c .before .before .before .before .before .before .refusal .ensures) (c .before .before .before .before .before .if1 .left)
+    let at-if1 = c .before .before .before .before .before in
+    let at-refusal = at-if1 .before in
+    let at-shared-slice-known3 = at-refusal .before .before .before .before .before .before .before .before in
+    let start = at-shared-slice-known3 .before .before .before in
+    let a = start .args in
+    passes (modelOf (a .degree) (a .t2) .fixed)
+    (lists (modelOf (a .degree) (a .t2)) (pairOf (a .keys) (a .states)) (pairOf (a .acckeys) (a .accs)) (a .nodes .now) (observedOf (a .obstimes .now) (a .obsvalues .now) (a .good .now)))
+    (a .outtimes .now ∷ a .outraws .now ∷ a .outdetrended .now ∷ a .outpassed .now ∷ []) (a .scratch .now) _ _ (at-refusal .before .outputs-fit .ensures) (at-refusal .refusal .ensures)
+    (at-if1 .if1 .left)
 
 part-count-final-end : tie.Need-part-count-final-end
-part-count-final-end c = kept-within _ _ _ _ _ _ _ _ _ (c .before .before .before .before .before .before .before .before .before .before .before .before .before .before .before .before .before .before .before .before .before .work .ensures)
+part-count-final-end c =
+    let at-slice-known11 = c .before .before .before .before .before .before .before .before in
+    let at-outpassed = at-slice-known11 .before .before .before .before .before .before .before in
+    let at-work = at-outpassed .before .before .before .before .before .before .before in
+    kept-within _ _ _ _ _ _ (at-work .work .ensures)
 
 returns-2 : tie.Need-returns-2
 returns-2 c =
-    let a = c .before .before .before .before .before .before .before .before .before .before .before .before .before .before .before .before .before .before .before .before .before .before .before .before .before .before .before .before .before .before .before .before .before .before .before .before .before .before .before .before .before .before .before .before .before .before .before .before .before .before .args in
-    accepted (setting (a .degree) (a .field .now) (a .a .now) (a .b .now)) (lists (a .times .now) (a .added .now) (a .ckeys .now) (a .cstates .now) (a .dkeys .now) (a .dstates .now) (a .cacckeys .now) (a .caccs .now) (a .dacckeys .now) (a .daccs .now) (a .nodes .now) (a .obstimes .now) (a .obsvalues .now) (a .good .now)) (a .outtimes .now) (a .outraws .now) (a .outdetrended .now) (a .outpassed .now) (a .scratch .now) _ _ (c .before .before .before .before .before .before .before .before .before .before .before .before .before .before .before .before .before .before .before .before .before .before .before .before .before .before .before .before .before .before .before .outputs-fit .ensures) (c .before .before .before .before .before .before .before .before .before .before .before .before .before .before .before .before .before .before .before .before .before .before .before .before .before .before .before .before .before .before .refusal .ensures) (c .before .before .before .before .before .before .before .before .before .before .before .before .before .before .before .before .before .before .before .before .before .before .before .before .before .before .before .before .before .if1 .left) _ _ _ _ _ _ _ (c .before .before .before .before .before .before .before .before .before .before .before .before .before .before .before .before .before .before .before .before .before .before .before .work .ensures) (c .before .before .before .before .before .before .before .before .before .before .before .clear .ensures) _ (c .before .before .before .before .columns-finite .ensures) _ (c .before .before .before .if2 .taken) (c .count-final .ensures)
+    let at-if2 = c .before .before .before .before in
+    let at-clear = at-if2 .before .before .before .before .before .before .before .before in
+    let at-outdetrended = at-clear .before .before .before .before .before .before .before in
+    let at-work = at-outdetrended .before .before .before .before .before in
+    let at-if1 = at-work .before .before .before .before .before .before in
+    let at-refusal = at-if1 .before in
+    let at-shared-slice-known3 = at-refusal .before .before .before .before .before .before .before .before in
+    let start = at-shared-slice-known3 .before .before .before in
+    let a = start .args in
+    accepted (modelOf (a .degree) (a .t2) .fixed)
+    (lists (modelOf (a .degree) (a .t2)) (pairOf (a .keys) (a .states)) (pairOf (a .acckeys) (a .accs)) (a .nodes .now) (observedOf (a .obstimes .now) (a .obsvalues .now) (a .good .now)))
+    (a .outtimes .now ∷ a .outraws .now ∷ a .outdetrended .now ∷ a .outpassed .now ∷ []) (a .scratch .now) _ _ (at-refusal .before .outputs-fit .ensures) (at-refusal .refusal .ensures)
+    (at-if1 .if1 .left) _ _ _ _ (at-work .work .ensures) (at-clear .clear .ensures) _ (at-if2 .before .columns-finite .ensures) _ (at-if2 .if2 .taken) (c .count-final .ensures)
 
 returns-3 : tie.Need-returns-3
 returns-3 c =
-    let a = c .before .before .before .before .before .before .before .before .before .before .before .before .before .before .before .before .before .before .before .before .before .before .before .before .before .before .before .before .before .before .before .before .before .before .before .before .before .before .before .before .before .before .before .before .before .before .before .before .before .before .before .before .before .before .before .before .before .before .before .before .args in
-    unfit (setting (a .degree) (a .field .now) (a .a .now) (a .b .now)) (lists (a .times .now) (a .added .now) (a .ckeys .now) (a .cstates .now) (a .dkeys .now) (a .dstates .now) (a .cacckeys .now) (a .caccs .now) (a .dacckeys .now) (a .daccs .now) (a .nodes .now) (a .obstimes .now) (a .obsvalues .now) (a .good .now)) (a .outtimes .now) (a .outraws .now) (a .outdetrended .now) (a .outpassed .now) (a .scratch .now) _ _ (c .before .before .before .before .before .before .before .before .before .before .before .before .before .before .before .before .before .before .before .before .before .before .before .before .before .before .before .before .before .before .before .before .before .before .before .before .before .before .before .before .before .outputs-fit .ensures) (c .before .before .before .before .before .before .before .before .before .before .before .before .before .before .before .before .before .before .before .before .before .before .before .before .before .before .before .before .before .before .before .before .before .before .before .before .before .before .before .before .refusal .ensures) (c .before .before .before .before .before .before .before .before .before .before .before .before .before .before .before .before .before .before .before .before .before .before .before .before .before .before .before .before .before .before .before .before .before .before .before .before .before .before .before .if1 .left) _ _ _ _ _ _ _ (c .before .before .before .before .before .before .before .before .before .before .before .before .before .before .before .before .before .before .before .before .before .before .before .before .before .before .before .before .before .before .before .before .before .work .ensures) (c .before .before .before .before .before .before .before .before .before .before .before .before .before .before .before .before .before .before .before .before .before .clear .ensures) _ (c .before .before .before .before .before .before .before .before .before .before .before .before .before .before .columns-finite .ensures) _ (c .before .before .before .before .before .before .before .before .before .before .before .before .before .if2 .left) (c .before .before .before .before .before .before .before .before .clear-columns .ensures) (c .before .before .before .before .before .before .before .before .before .before .before .before .before .before .before .before .before .before .before .before .before .before .before .before .before .before .before .before .before .before .before .before .outtimes .given) (c .before .before .before .before .before .before .before .before .before .before .before .before .before .before .before .before .before .before .before .before .before .before .before .before .before .before .before .before .before .before .outraws .given) (c .before .before .before .before .before .before .before .before .before .before .before .before .before .before .before .before .before .before .before .before .before .before .before .before .before .before .before .before .outdetrended .given) (c .before .before .before .before .before .before .before .before .before .before .before .before .before .before .before .before .before .before .before .before .before .before .before .before .before .before .outpassed .given)
+    let at-clear-columns = c .before .before .before .before .before .before .before .before in
+    let at-if2 = at-clear-columns .before .before .before .before .before in
+    let at-clear = at-if2 .before .before .before .before .before .before .before .before in
+    let at-outdetrended = at-clear .before .before .before .before .before .before .before in
+    let at-work = at-outdetrended .before .before .before .before .before in
+    let at-if1 = at-work .before .before .before .before .before .before in
+    let at-refusal = at-if1 .before in
+    let at-shared-slice-known3 = at-refusal .before .before .before .before .before .before .before .before in
+    let start = at-shared-slice-known3 .before .before .before in
+    let a = start .args in
+    unfit (modelOf (a .degree) (a .t2) .fixed)
+    (lists (modelOf (a .degree) (a .t2)) (pairOf (a .keys) (a .states)) (pairOf (a .acckeys) (a .accs)) (a .nodes .now) (observedOf (a .obstimes .now) (a .obsvalues .now) (a .good .now)))
+    (a .outtimes .now ∷ a .outraws .now ∷ a .outdetrended .now ∷ a .outpassed .now ∷ []) (a .scratch .now) _ _ (at-refusal .before .outputs-fit .ensures) (at-refusal .refusal .ensures)
+    (at-if1 .if1 .left) _ _ _ _ (at-work .work .ensures) (at-clear .clear .ensures) _ (at-if2 .before .columns-finite .ensures) _ (at-if2 .if2 .left) (at-clear-columns .clear-columns .ensures)
+    refl
 
 pub sheet-spec : {M : Type 1} → statement M
 sheet-spec =
     tie.close
-    (tie.spec (λ c κs. search needs) (λ c κs. search needs) returns work-requires (λ c κs. search needs) (λ c κs. search needs) (λ c. search needs) (λ c. search needs) part-count-final-end (λ c κs. search needs) (λ c. search needs) (λ c. search needs) (λ c. search needs) (λ c. search needs) (λ c. search needs) returns-2 (λ c κs. search needs) (λ c. search needs) (λ c. search needs) (λ c. search needs) (λ c. search needs) (λ c. search needs) returns-3)
+    (tie.spec (λ c κs. search needs) (λ c κs. search needs) returns work-requires (λ c κs. search needs) (λ c κs. search needs) (λ c. search needs) (λ c. search needs) (λ c. search needs)
+    part-count-final-end (λ c κs. search needs) (λ c. search needs) (λ c. search needs) (λ c. search needs) (λ c. search needs) (λ c. search needs) returns-2 (λ c κs. search needs)
+    (λ c. search needs) (λ c. search needs) (λ c. search needs) (λ c. search needs) (λ c. search needs) returns-3)

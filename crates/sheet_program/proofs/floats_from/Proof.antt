@@ -1,3 +1,4 @@
+-- What is copied, followed by the floats that are left, is the whole list: the loop's invariant. Assumes nothing.
 use Rattle.sheet_program.proofs.Laws.{floats-start, floats-turn, floats-done}
 use mathlib.Core.Path.{_≡_, refl}
 use mathlib.Core.List.{_++_}
@@ -9,7 +10,8 @@ use Rattle.sheet_program.proofs.floats_from.Statement.{statement}
 use Rattle.sheet_program.proofs.floats_from.Tie as tie
 
 abbrev Inv-loop : tie.InvT-loop
-Inv-loop numbers from step width out₀ i₀ out i = (length out ≡ length out₀) × (take i out ++ floatsFrom numbers from step width i (length out₀ - i) ≡ floatsFrom numbers from step width 0 (length out₀))
+Inv-loop numbers from step width out₀ i₀ out i = (length out ≡ length out₀) × (take i out ++ floatsFrom numbers from step width i
+    (length out₀ - i) ≡ floatsFrom numbers from step width 0 (length out₀))
 
 abbrev μ-loop : tie.MeasureT-loop
 μ-loop numbers from step width out₀ i₀ out i = length out₀ - i
@@ -26,4 +28,5 @@ returns c = search (needs, floats-done)
 pub floats-from-spec : {M : Type 1} → statement M
 floats-from-spec =
     tie.close
-    (tie.spec Inv-loop μ-loop loop-holds (λ c κs. search needs) (λ c. search needs) (λ c κs. search needs) (λ c. search needs) (λ c. search needs) (λ c. search needs) (λ c. search needs) loop-again (λ c. search needs) returns)
+    (tie.spec Inv-loop μ-loop loop-holds (λ c κs. search needs) (λ c. search needs) (λ c κs. search needs) (λ c. search needs) (λ c. search needs) (λ c. search needs) (λ c. search needs) loop-again
+    (λ c. search needs) returns)

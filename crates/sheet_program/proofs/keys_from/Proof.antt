@@ -1,3 +1,4 @@
+-- What is copied, followed by the keys that are left, is the whole list: the loop's invariant. Assumes nothing.
 use Rattle.sheet_program.proofs.Laws.{keys-start, keys-turn, keys-done}
 use mathlib.Core.Path.{_≡_, refl}
 use mathlib.Core.List.{_++_}
@@ -26,4 +27,5 @@ returns c = search (needs, keys-done)
 pub keys-from-spec : {M : Type 1} → statement M
 keys-from-spec =
     tie.close
-    (tie.spec Inv-loop μ-loop loop-holds (λ c κs. search needs) (λ c κs. search needs) (λ c. search needs) (λ c. search needs) (λ c. search needs) (λ c. search needs) loop-again (λ c. search needs) returns)
+    (tie.spec Inv-loop μ-loop loop-holds (λ c κs. search needs) (λ c κs. search needs) (λ c. search needs) (λ c. search needs) (λ c. search needs) (λ c. search needs) loop-again
+    (λ c. search needs) returns)

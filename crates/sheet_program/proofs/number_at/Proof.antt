@@ -1,3 +1,4 @@
+-- Past the end of the list a number is NaN, as the definition reads it. Assumes nothing.
 use lib.Ieee.{div, ofBits}
 use Rattle.sheet_program.proofs.Laws.{number-there, number-behind}
 use borrow.Author.Needs.{needs}

@@ -1,3 +1,4 @@
+-- Neither product nor sum wraps, by the bounds on the place, the step and the width. Assumes nothing.
 use Rattle.sheet_program.proofs.Laws.{lines-far}
 use native.Mathlib.Omega.{arith}
 use native.Mathlib.Nat.{mod-lt}

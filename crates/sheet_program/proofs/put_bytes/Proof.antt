@@ -1,3 +1,4 @@
+-- The first k bytes stand from `at` on, and nothing before them has moved: the loop's invariant. Assumes nothing.
 use Rattle.hex.proofs.Printing.{bytes-starts, bytes-turn, bytes-done}
 use mathlib.Core.Path.{_≡_, refl}
 use mathlib.Core.List.{_++_}

@@ -1,3 +1,4 @@
+-- What is printed, followed by the text of the rows that are left, is the text of all: the loop's invariant. Assumes nothing.
 use Rattle.sheet_program.proofs.Laws.{rows-start, rows-turn, rows-done, rows-count}
 use mathlib.Core.Path.{_≡_, refl}
 use mathlib.Core.List.{_++_}
@@ -9,7 +10,8 @@ use Rattle.sheet_program.proofs.put_rows.Statement.{statement}
 use Rattle.sheet_program.proofs.put_rows.Tie as tie
 
 abbrev Inv-loop : tie.InvT-loop
-Inv-loop i n times raws detrended passed out₀ k₀ out k = (length out ≡ length out₀) × (k ≤ n) × (take (68 * k) out ++ rowsText (i + k) (n - k) times raws detrended passed ≡ rowsText i n times raws detrended passed)
+Inv-loop i n times raws detrended passed out₀ k₀ out k = (length out ≡ length out₀) × (k ≤ n) ×
+    (take (68 * k) out ++ rowsText (i + k) (n - k) times raws detrended passed ≡ rowsText i n times raws detrended passed)
 
 abbrev μ-loop : tie.MeasureT-loop
 μ-loop i n times raws detrended passed out₀ k₀ out k = n - k
@@ -26,4 +28,5 @@ returns c = (search (needs, rows-done), search (needs, rows-count))
 pub put-rows-spec : {M : Type 1} → statement M
 put-rows-spec =
     tie.close
-    (tie.spec Inv-loop μ-loop loop-holds (λ c. search needs) (λ c. search needs) (λ c κs. search needs) (λ c. search needs) (λ c. search needs) loop-again (λ c. search needs) (λ c. search needs) returns)
+    (tie.spec Inv-loop μ-loop loop-holds (λ c. search needs) (λ c. search needs) (λ c κs. search needs) (λ c. search needs) (λ c. search needs) loop-again (λ c. search needs)
+    (λ c. search needs) returns)

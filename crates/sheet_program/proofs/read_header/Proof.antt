@@ -1,3 +1,4 @@
+-- The bytes read so far fit the line, which keeps its length: the loop's invariant. Assumes nothing.
 use Rattle.sheet_program.proofs.Laws.{counts, set-fits}
 use mathlib.Core.Path.{_≡_, refl}
 use Prim.Native.Nat.{_-_, _≤_}
@@ -30,4 +31,5 @@ returns-3 c = search (needs, counts)
 pub read-header-spec : {M : Type 1} → statement M
 read-header-spec =
     tie.close
-    (tie.spec Inv-loop μ-loop loop-holds (λ c. search needs) (λ c κs. search needs) (λ c. search needs) returns (λ c. search needs) (λ c. search needs) (λ c. search needs) (λ c. search needs) (λ c. search needs) returns-2 (λ c. search needs) loop-again (λ c. search needs) returns-3)
+    (tie.spec Inv-loop μ-loop loop-holds (λ c. search needs) (λ c κs. search needs) (λ c. search needs) returns (λ c. search needs) (λ c. search needs) (λ c. search needs) (λ c. search needs)
+    (λ c. search needs) returns-2 (λ c. search needs) loop-again (λ c. search needs) returns-3)

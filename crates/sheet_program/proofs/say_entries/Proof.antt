@@ -1,3 +1,4 @@
+-- Rows are said 500 at a time; i goes up to the last entry, and what is left falls. Assumes nothing.
 use Prim.Native.Nat.{_-_, _≤_}
 use borrow.Author.Needs.{needs}
 use Rattle.sheet_program.proofs.say_entries.Statement.{statement}
@@ -18,4 +19,5 @@ loop-again c = (search needs, search needs)
 pub say-entries-spec : {M : Type 1} → statement M
 say-entries-spec =
     tie.close
-    (tie.spec Inv-loop μ-loop (λ c κs. search needs) (λ c κs. search needs) loop-holds (λ c. search needs) (λ c κs. search needs) (λ c κs. search needs) (λ c. search needs) (λ c. search needs) (λ c. search needs) loop-again (λ c. search needs))
+    (tie.spec Inv-loop μ-loop (λ c κs. search needs) (λ c κs. search needs) loop-holds (λ c. search needs) (λ c κs. search needs) (λ c κs. search needs) (λ c. search needs) (λ c. search needs)
+    (λ c. search needs) loop-again (λ c. search needs))

@@ -24,19 +24,23 @@ loop-holds c = (search needs, refl)
 
 returns : tie.Need-returns Inv-loop μ-loop
 returns c =
-    let l = c .before .before .before .before .loop in
-    let x : List ℤ = c .before .before .before .before .before .args .keys .now in
-    let same : toZ w64 (ofZ w64 (getD x (l .i) (pos 0))) ≡ getD x (l .i) (pos 0) = toZ-ofZ w64 (getD x (l .i) (pos 0)) (record { sfits = c .before .before .is-key-arg .given }) in
-    let e : c .before .is-key .result ≡ isKey (toZ w64 (ofZ w64 (getD x (l .i) (pos 0)))) = c .before .is-key .ensures in
-    all-stops (pos 0) isKey x (c .before .is-key .result) (all isKey x) (l .i) (c .before .before .before .loop-test .taken) (rw same at e) (c .if1 .taken) (l .inv .1)
+    let at-is-key = c .before in
+    let at-loop-test = at-is-key .before .before in
+    let l = at-loop-test .before .loop in
+    let x : List ℤ = at-loop-test .before .before .args .keys .now in
+    let same : toZ w64 (ofZ w64 (getD x (l .i) (pos 0))) ≡ getD x (l .i) (pos 0) = toZ-ofZ w64 (getD x (l .i) (pos 0)) (record { sfits = at-is-key .before .is-key-arg .given }) in
+    let e : at-is-key .is-key .result ≡ isKey (toZ w64 (ofZ w64 (getD x (l .i) (pos 0)))) = at-is-key .is-key .ensures in
+    all-stops (pos 0) isKey x (at-is-key .is-key .result) (all isKey x) (l .i) (at-loop-test .loop-test .taken) (rw same at e) (c .if1 .taken) (l .inv .1)
 
 loop-again : tie.Need-loop-again Inv-loop μ-loop
 loop-again c =
-    let l = c .before .before .before .before .loop in
-    let x : List ℤ = c .before .before .before .before .before .args .keys .now in
-    let same : toZ w64 (ofZ w64 (getD x (l .i) (pos 0))) ≡ getD x (l .i) (pos 0) = toZ-ofZ w64 (getD x (l .i) (pos 0)) (record { sfits = c .before .before .is-key-arg .given }) in
-    let e : c .before .is-key .result ≡ isKey (toZ w64 (ofZ w64 (getD x (l .i) (pos 0)))) = c .before .is-key .ensures in
-    (search needs, all-goes (pos 0) isKey x (c .before .is-key .result) (all isKey x) (l .i) (c .before .before .before .loop-test .taken) (rw same at e) (c .if1 .left) (l .inv .1))
+    let at-is-key = c .before in
+    let at-loop-test = at-is-key .before .before in
+    let l = at-loop-test .before .loop in
+    let x : List ℤ = at-loop-test .before .before .args .keys .now in
+    let same : toZ w64 (ofZ w64 (getD x (l .i) (pos 0))) ≡ getD x (l .i) (pos 0) = toZ-ofZ w64 (getD x (l .i) (pos 0)) (record { sfits = at-is-key .before .is-key-arg .given }) in
+    let e : at-is-key .is-key .result ≡ isKey (toZ w64 (ofZ w64 (getD x (l .i) (pos 0)))) = at-is-key .is-key .ensures in
+    (search needs, all-goes (pos 0) isKey x (at-is-key .is-key .result) (all isKey x) (l .i) (at-loop-test .loop-test .taken) (rw same at e) (c .if1 .left) (l .inv .1))
 
 returns-2 : tie.Need-returns-2 Inv-loop μ-loop
 returns-2 c = search (needs, all-done isKey)

@@ -1,3 +1,4 @@
+-- `slices::copy_all`: what is copied, with the rest of x behind it, is x. Assumes nothing.
 use mathlib.Core.Path.{_≡_, refl}
 use mathlib.Core.List.{_++_}
 use Prim.Native.Nat.{_+_, _-_}

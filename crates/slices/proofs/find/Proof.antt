@@ -1,3 +1,4 @@
+-- `slices::find`, a binary search: the key's place, if it has one, stays in the bracket (proofs/Search.antt). Assumes nothing.
 use mathlib.Core.Path.{_≡_, ap, _∙_}
 use mathlib.Core.Bool.{true, false}
 use Prim.Native.Nat.{_+_, _/_}
@@ -26,52 +27,62 @@ loop-holds c = start (c .args .keys .now) (toZ w64 (ofZ w64 (c .args .key)))
 
 loop-again : tie.Need-loop-again Inv-loop μ-loop
 loop-again c =
-    let lo = c .before .before .before .loop .lo in
-    let hi = c .before .before .before .loop .hi in
+    let at-k = c .before in
+    let at-loop = at-k .before .before in
+    let lo = at-loop .loop .lo in
+    let hi = at-loop .loop .hi in
     let m : ℕ = lo + (hi - lo) / 2 in
-    let ks = c .before .before .before .before .args .keys .now in
-    let key = toZ w64 (ofZ w64 (c .before .before .before .before .args .key)) in
-    let inv : Bracket ks key lo hi = c .before .before .before .loop .inv in
-    let less : lo < hi = c .before .before .loop-test .taken in
-    let same : toZ w64 (ofZ w64 (getD ks m (pos 0))) ≡ getD ks m (pos 0) = toZ-ofZ w64 (getD ks m (pos 0)) (record { sfits = c .before .k .given }) in
+    let ks = at-loop .before .args .keys .now in
+    let key = toZ w64 (ofZ w64 (at-loop .before .args .key)) in
+    let inv : Bracket ks key lo hi = at-loop .loop .inv in
+    let less : lo < hi = at-k .before .loop-test .taken in
+    let same : toZ w64 (ofZ w64 (getD ks m (pos 0))) ≡ getD ks m (pos 0) = toZ-ofZ w64 (getD ks m (pos 0)) (record { sfits = at-k .k .given }) in
     let below : ltZ (toZ w64 (ofZ w64 (getD ks m (pos 0)))) key ≡ true = c .if1 .taken in
     up ks key lo hi inv m (omega arith) (omega arith) (rw same at below)
 
 loop-again-2 : tie.Need-loop-again-2 Inv-loop μ-loop
 loop-again-2 c =
-    let lo = c .before .before .before .before .loop .lo in
-    let hi = c .before .before .before .before .loop .hi in
+    let at-k = c .before .before in
+    let at-loop = at-k .before .before in
+    let lo = at-loop .loop .lo in
+    let hi = at-loop .loop .hi in
     let m : ℕ = lo + (hi - lo) / 2 in
-    let ks = c .before .before .before .before .before .args .keys .now in
-    let key = toZ w64 (ofZ w64 (c .before .before .before .before .before .args .key)) in
-    let inv : Bracket ks key lo hi = c .before .before .before .before .loop .inv in
-    let less : lo < hi = c .before .before .before .loop-test .taken in
-    let same : toZ w64 (ofZ w64 (getD ks m (pos 0))) ≡ getD ks m (pos 0) = toZ-ofZ w64 (getD ks m (pos 0)) (record { sfits = c .before .before .k .given }) in
+    let ks = at-loop .before .args .keys .now in
+    let key = toZ w64 (ofZ w64 (at-loop .before .args .key)) in
+    let inv : Bracket ks key lo hi = at-loop .loop .inv in
+    let less : lo < hi = at-k .before .loop-test .taken in
+    let same : toZ w64 (ofZ w64 (getD ks m (pos 0))) ≡ getD ks m (pos 0) = toZ-ofZ w64 (getD ks m (pos 0)) (record { sfits = at-k .k .given }) in
     let above : ltZ key (toZ w64 (ofZ w64 (getD ks m (pos 0)))) ≡ true = c .if2 .taken in
     down ks key lo hi inv m (omega arith) (omega arith) (rw same at above)
 
 returns : tie.Need-returns Inv-loop μ-loop
 returns c =
-    let lo = c .before .before .before .before .loop .lo in
-    let hi = c .before .before .before .before .loop .hi in
+    let at-k = c .before .before in
+    let at-loop = at-k .before .before in
+    let at-start = at-loop .before in
+    let lo = at-loop .loop .lo in
+    let hi = at-loop .loop .hi in
     let m : ℕ = lo + (hi - lo) / 2 in
-    let ks = c .before .before .before .before .before .args .keys .now in
-    let key = toZ w64 (ofZ w64 (c .before .before .before .before .before .args .key)) in
-    let inv : Bracket ks key lo hi = c .before .before .before .before .loop .inv in
-    let less : lo < hi = c .before .before .before .loop-test .taken in
-    let same : toZ w64 (ofZ w64 (getD ks m (pos 0))) ≡ getD ks m (pos 0) = toZ-ofZ w64 (getD ks m (pos 0)) (record { sfits = c .before .before .k .given }) in
+    let ks = at-start .args .keys .now in
+    let key = toZ w64 (ofZ w64 (at-start .args .key)) in
+    let inv : Bracket ks key lo hi = at-loop .loop .inv in
+    let less : lo < hi = at-k .before .loop-test .taken in
+    let same : toZ w64 (ofZ w64 (getD ks m (pos 0))) ≡ getD ks m (pos 0) = toZ-ofZ w64 (getD ks m (pos 0)) (record { sfits = at-k .k .given }) in
     let notbelow : ltZ (toZ w64 (ofZ w64 (getD ks m (pos 0)))) key ≡ false = c .before .if1 .left in
     let notabove : ltZ key (toZ w64 (ofZ w64 (getD ks m (pos 0)))) ≡ false = c .if2 .left in
-    let whole : key ≡ c .before .before .before .before .before .args .key = toZ-ofZ w64 (c .before .before .before .before .before .args .key) (c .before .before .before .before .before .fits .key) in
+    let whole : key ≡ at-start .args .key = toZ-ofZ w64 (at-start .args .key) (at-start .fits .key) in
     λ e. hit ks key lo hi inv m (omega arith) (omega arith) (rw same at notbelow) (rw same at notabove) e ∙ ap (lookup ks) whole
 
 returns-2 : tie.Need-returns-2 Inv-loop μ-loop
 returns-2 c =
-    let key = toZ w64 (ofZ w64 (c .before .before .args .key)) in
-    let whole : key ≡ c .before .before .args .key = toZ-ofZ w64 (c .before .before .args .key) (c .before .before .fits .key) in
-    λ e. over (c .before .before .args .keys .now) key (c .before .loop .lo) (c .before .loop .hi) (c .before .loop .inv) (search needs) e ∙ ap (lookup (c .before .before .args .keys .now)) whole
+    let at-loop = c .before in
+    let at-start = at-loop .before in
+    let key = toZ w64 (ofZ w64 (at-start .args .key)) in
+    let whole : key ≡ at-start .args .key = toZ-ofZ w64 (at-start .args .key) (at-start .fits .key) in
+    λ e. over (at-start .args .keys .now) key (at-loop .loop .lo) (at-loop .loop .hi) (at-loop .loop .inv) (search needs) e ∙ ap (lookup (at-start .args .keys .now)) whole
 
 pub find-spec : {M : Type 1} → statement M
 find-spec =
     tie.close
-    (tie.spec Inv-loop μ-loop loop-holds (λ c. search needs) (λ c. search needs) (λ c. search needs) (λ c. search needs) (λ c. search needs) (λ c. search needs) loop-again (λ c. search needs) loop-again-2 returns returns-2)
+    (tie.spec Inv-loop μ-loop loop-holds (λ c. search needs) (λ c. search needs) (λ c. search needs) (λ c. search needs) (λ c. search needs) (λ c. search needs) loop-again (λ c. search needs)
+    loop-again-2 returns returns-2)

@@ -1,3 +1,4 @@
+-- `slices::reverse`: the slice with its middle part still to be turned is the reverse of the slice at the start. Assumes nothing.
 use mathlib.Core.Path.{_≡_, refl}
 use mathlib.Core.List.{reverse}
 use Prim.Native.Nat.{_-_, _≤_}

@@ -25,14 +25,16 @@ loop-holds c = (omega arith, refl)
 
 loop-again : tie.Need-loop-again Inv-loop μ-loop
 loop-again c =
-    let l = c .before .before .before .before .loop in
-    let x : List Float = c .before .before .before .before .before .before .args .t .now in
+    let at-loop = c .before .before .before .before in
+    let l = at-loop .loop in
+    let x : List Float = at-loop .before .before .args .t .now in
     (omega arith, ascending-goes nan lt x (rising x) (l .i) (omega arith) (c .if2 .taken) (l .inv .1))
 
 returns-2 : tie.Need-returns-2 Inv-loop μ-loop
 returns-2 c =
-    let l = c .before .before .before .before .loop in
-    let x : List Float = c .before .before .before .before .before .before .args .t .now in
+    let at-loop = c .before .before .before .before in
+    let l = at-loop .loop in
+    let x : List Float = at-loop .before .before .args .t .now in
     ascending-stops nan lt x (rising x) (l .i) (omega arith) (c .if2 .left) (l .inv .1)
 
 returns-3 : tie.Need-returns-3 Inv-loop μ-loop
@@ -41,4 +43,5 @@ returns-3 c = search (needs, ascending-done nan lt)
 pub rising-spec : {M : Type 1} → statement M
 rising-spec =
     tie.close
-    (tie.spec Inv-loop μ-loop returns loop-holds (λ c. search needs) (λ c. search needs) (λ c. search needs) (λ c. search needs) (λ c. search needs) (λ c. search needs) (λ c. search needs) loop-again returns-2 returns-3)
+    (tie.spec Inv-loop μ-loop returns loop-holds (λ c. search needs) (λ c. search needs) (λ c. search needs) (λ c. search needs) (λ c. search needs) (λ c. search needs) (λ c. search needs) loop-again
+    returns-2 returns-3)

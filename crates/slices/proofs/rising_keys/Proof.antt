@@ -30,19 +30,23 @@ loop-holds c = (omega arith, refl)
 
 loop-again : tie.Need-loop-again Inv-loop μ-loop
 loop-again c =
-    let l = c .before .before .before .before .loop in
-    let x : List ℤ = c .before .before .before .before .before .before .args .keys .now in
-    let here = toZ-ofZ w64 (getD x (l .i) (pos 0)) (record { sfits = c .before .before .if22 .given }) in
-    let there = toZ-ofZ w64 (getD x (l .i + 1) (pos 0)) (record { sfits = c .before .if23 .given }) in
+    let at-if23 = c .before in
+    let at-loop = at-if23 .before .before .before in
+    let l = at-loop .loop in
+    let x : List ℤ = at-loop .before .before .args .keys .now in
+    let here = toZ-ofZ w64 (getD x (l .i) (pos 0)) (record { sfits = at-if23 .before .if22 .given }) in
+    let there = toZ-ofZ w64 (getD x (l .i + 1) (pos 0)) (record { sfits = at-if23 .if23 .given }) in
     let h : ltZ (toZ w64 (ofZ w64 (getD x (l .i) (pos 0)))) (toZ w64 (ofZ w64 (getD x (l .i + 1) (pos 0)))) ≡ true = c .if2 .taken in
     (omega arith, ascending-goes (pos 0) ltZ x (risingSeconds x) (l .i) (omega arith) (rw (here, there) at h) (l .inv .1))
 
 returns-2 : tie.Need-returns-2 Inv-loop μ-loop
 returns-2 c =
-    let l = c .before .before .before .before .loop in
-    let x : List ℤ = c .before .before .before .before .before .before .args .keys .now in
-    let here = toZ-ofZ w64 (getD x (l .i) (pos 0)) (record { sfits = c .before .before .if22 .given }) in
-    let there = toZ-ofZ w64 (getD x (l .i + 1) (pos 0)) (record { sfits = c .before .if23 .given }) in
+    let at-if23 = c .before in
+    let at-loop = at-if23 .before .before .before in
+    let l = at-loop .loop in
+    let x : List ℤ = at-loop .before .before .args .keys .now in
+    let here = toZ-ofZ w64 (getD x (l .i) (pos 0)) (record { sfits = at-if23 .before .if22 .given }) in
+    let there = toZ-ofZ w64 (getD x (l .i + 1) (pos 0)) (record { sfits = at-if23 .if23 .given }) in
     let h : ltZ (toZ w64 (ofZ w64 (getD x (l .i) (pos 0)))) (toZ w64 (ofZ w64 (getD x (l .i + 1) (pos 0)))) ≡ false = c .if2 .left in
     ascending-stops (pos 0) ltZ x (risingSeconds x) (l .i) (omega arith) (rw (here, there) at h) (l .inv .1)
 
@@ -52,4 +56,5 @@ returns-3 c = search (needs, ascending-done (pos 0) ltZ)
 pub rising-keys-spec : {M : Type 1} → statement M
 rising-keys-spec =
     tie.close
-    (tie.spec Inv-loop μ-loop returns loop-holds (λ c. search needs) (λ c. search needs) (λ c. search needs) (λ c. search needs) (λ c. search needs) (λ c. search needs) (λ c. search needs) loop-again returns-2 returns-3)
+    (tie.spec Inv-loop μ-loop returns loop-holds (λ c. search needs) (λ c. search needs) (λ c. search needs) (λ c. search needs) (λ c. search needs) (λ c. search needs) (λ c. search needs) loop-again
+    returns-2 returns-3)

@@ -1,3 +1,4 @@
+-- `slots::count_of`: a whole number to 3500 is its own whole part, and what fails a test is no such number (proofs/Looking.antt). Assumes nothing.
 use mathlib.Core.Path.{sym, ap, _∙_, subst}
 use mathlib.Core.Bool.{true, false}
 use native.Mathlib.Omega.{arith}

@@ -1,3 +1,4 @@
+-- `slots::held`: without room no tables stand in the slots, else the first state over all windows is found; each by its law of proofs/Looking.antt. Assumes nothing.
 use mathlib.Core.Path.{_≡_, ap, _∙_}
 use native.Mathlib.Omega.{arith}
 use mir.Syntax.{w64}

@@ -1,3 +1,4 @@
+-- `submission_text::digits_only`: whether the characters from i on are digits is whether all are. Assumes nothing.
 use mathlib.Core.Path.{_≡_, refl}
 use Prim.Native.Nat.{_-_, _≤_}
 use lib.ListN.{length, drop}

@@ -1,3 +1,4 @@
+-- `submission_text::fill_row`: the numbers written, with the words left, are the line's column of numbers. Assumes nothing.
 use Rattle.submission_text.proofs.Laws.{column-starts, column-turn, column-done}
 use mathlib.Core.Path.{_≡_, refl}
 use Prim.Native.Nat.{_+_, _-_, _*_}
@@ -26,4 +27,5 @@ returns c = search (needs, column-done)
 pub fill-row-spec : {M : Type 1} → statement M
 fill-row-spec =
     tie.close
-    (tie.spec Inv-loop μ-loop loop-holds (λ c. search needs) (λ c κs. search needs) (λ c. search needs) (λ c. search needs) (λ c. search needs) (λ c. search needs) loop-again (λ c. search needs) returns)
+    (tie.spec Inv-loop μ-loop loop-holds (λ c. search needs) (λ c κs. search needs) (λ c. search needs) (λ c. search needs) (λ c. search needs) (λ c. search needs) loop-again (λ c. search needs)
+    returns)

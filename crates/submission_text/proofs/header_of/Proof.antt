@@ -1,3 +1,4 @@
+-- `submission_text::header_of`: each section's number leads to the header with its name, any other number to none. Assumes nothing.
 use Rattle.submission_text.proofs.Laws.{beyond, header-at, header-none}
 use native.Mathlib.Omega.{arith}
 use borrow.Author.Needs.{needs}
@@ -32,9 +33,12 @@ returns-9 : tie.Need-returns-9
 returns-9 c = search (needs, header-at 8 (omega arith))
 
 returns-10 : tie.Need-returns-10
-returns-10 c = let h = c .match .rest in header-none _ _ (beyond _ (h .0 .0 .0 .0 .0 .0 .0 .0 .1) (h .0 .0 .0 .0 .0 .0 .0 .1) (h .0 .0 .0 .0 .0 .0 .1) (h .0 .0 .0 .0 .0 .1) (h .0 .0 .0 .0 .1) (h .0 .0 .0 .1) (h .0 .0 .1) (h .0 .1) (h .1))
+returns-10 c = let h = c .match .rest in header-none _ _
+    (beyond _ (h .0 .0 .0 .0 .0 .0 .0 .0 .1) (h .0 .0 .0 .0 .0 .0 .0 .1) (h .0 .0 .0 .0 .0 .0 .1) (h .0 .0 .0 .0 .0 .1) (h .0 .0 .0 .0 .1) (h .0 .0 .0 .1) (h .0 .0 .1) (h .0 .1) (h .1))
 
 pub header-of-spec : {M : Type 1} → statement M
 header-of-spec =
     tie.close
-    (tie.spec (λ c. search needs) (λ c κs. search needs) (λ c. search needs) (λ c κs. search needs) (λ c. search needs) (λ c κs. search needs) (λ c. search needs) (λ c κs. search needs) (λ c. search needs) (λ c κs. search needs) (λ c. search needs) (λ c κs. search needs) (λ c. search needs) (λ c κs. search needs) (λ c. search needs) (λ c κs. search needs) (λ c. search needs) (λ c κs. search needs) returns returns-2 returns-3 returns-4 returns-5 returns-6 returns-7 returns-8 returns-9 returns-10)
+    (tie.spec (λ c. search needs) (λ c κs. search needs) (λ c. search needs) (λ c κs. search needs) (λ c. search needs) (λ c κs. search needs) (λ c. search needs) (λ c κs. search needs)
+    (λ c. search needs) (λ c κs. search needs) (λ c. search needs) (λ c κs. search needs) (λ c. search needs) (λ c κs. search needs) (λ c. search needs) (λ c κs. search needs) (λ c. search needs)
+    (λ c κs. search needs) returns returns-2 returns-3 returns-4 returns-5 returns-6 returns-7 returns-8 returns-9 returns-10)

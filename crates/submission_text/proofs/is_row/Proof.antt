@@ -1,3 +1,4 @@
+-- `submission_text::is_row`: whether the words left make a row is whether all do. Assumes nothing.
 use Rattle.submission_text.proofs.Laws.{row-bad, row-goes, row-done}
 use mathlib.Core.Path.{_≡_, refl}
 use Prim.Native.Nat.{_+_, _-_, _*_}

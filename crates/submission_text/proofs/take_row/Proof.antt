@@ -1,3 +1,4 @@
+-- `submission_text::take_row`: a row is refused, or its numbers are added, by the laws of a row taken. Assumes nothing.
 use Rattle.submission_text.proofs.Laws.{row-room, row-refused, row-taken}
 use borrow.Author.Needs.{needs}
 use Rattle.submission_text.proofs.take_row.Statement.{statement}
@@ -21,4 +22,5 @@ returns-2 c = search (needs, row-taken)
 pub take-row-spec : {M : Type 1} → statement M
 take-row-spec =
     tie.close
-    (tie.spec (λ c κs. search needs) (λ c κs. search needs) (λ c κs. search needs) returns add-end mul-fill-row (λ c. search needs) (λ c. search needs) part-fill-row-end (λ c κs. search needs) (λ c. search needs) (λ c κs. search needs) (λ c κs. search needs) (λ c. search needs) returns-2)
+    (tie.spec (λ c κs. search needs) (λ c κs. search needs) (λ c κs. search needs) returns add-end mul-fill-row (λ c. search needs) (λ c. search needs) part-fill-row-end (λ c κs. search needs)
+    (λ c. search needs) (λ c κs. search needs) (λ c κs. search needs) (λ c. search needs) returns-2)

@@ -1,5 +1,5 @@
 use borrow.Author.Needs.{needs}
-use Rattle.detrend.proofs.Within.{within-done, within-none, within-small}
+use Rattle.detrend.proofs.WorkArea.{within-done, within-none, within-small}
 use Rattle.detrend.proofs.kernel.remove_within.Statement.{statement}
 use Rattle.detrend.proofs.kernel.remove_within.Tie as tie
 

@@ -1,10 +1,11 @@
+-- `detrend::work::all_zero`: whether the values from i on are zero is whether all are. Assumes nothing.
 use mathlib.Core.Path.{_≡_, refl}
 use Prim.Native.Nat.{_-_, _≤_}
 use native.Mathlib.Omega.{arith}
 use borrow.Author.Needs.{needs}
 use lib.ListN.{length, drop}
 use Rattle.detrend.specs.Fit.{allZero}
-use Rattle.detrend.proofs.Rows.{zero-goes, zero-stops, zero-done}
+use Rattle.detrend.proofs.DesignRows.{zero-goes, zero-stops, zero-done}
 use Rattle.detrend.proofs.work.all_zero.Statement.{statement}
 use Rattle.detrend.proofs.work.all_zero.Tie as tie
 

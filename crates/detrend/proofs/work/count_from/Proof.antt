@@ -1,10 +1,11 @@
+-- `detrend::work::count_from`: from `first` and from i on the times reach b at the same place. Assumes nothing.
 use mathlib.Core.Path.{_≡_, refl}
 use Prim.Native.Nat.{_+_, _-_, _≤_}
 use native.Mathlib.Omega.{arith}
 use borrow.Author.Needs.{needs}
 use lib.ListN.{length, drop}
 use Rattle.detrend.specs.Revolutions.{countBefore}
-use Rattle.detrend.proofs.Windows.{count-goes, count-stops, count-done}
+use Rattle.detrend.proofs.RevolutionWalk.{count-goes, count-stops, count-done}
 use Rattle.detrend.proofs.work.count_from.Statement.{statement}
 use Rattle.detrend.proofs.work.count_from.Tie as tie
 
@@ -19,15 +20,17 @@ loop-holds c = (omega arith, omega arith, refl)
 
 loop-again : tie.Need-loop-again Inv-loop μ-loop
 loop-again c =
-    let l = c .before .before .before .loop in
-    let s = c .before .before .before .before .args in
+    let at-loop = c .before .before .before in
+    let l = at-loop .loop in
+    let s = at-loop .before .args in
     let e = count-goes (s .times .now) (s .b) (l .i) (omega arith) (c .if1 .taken) in
     (omega arith, omega arith, omega arith)
 
 returns : tie.Need-returns Inv-loop μ-loop
 returns c =
-    let l = c .before .before .before .loop in
-    let s = c .before .before .before .before .args in
+    let at-loop = c .before .before .before in
+    let l = at-loop .loop in
+    let s = at-loop .before .args in
     let e = count-stops (s .times .now) (s .b) (l .i) (omega arith) (c .if1 .left) in
     (omega arith, omega arith, omega arith)
 

@@ -1,3 +1,4 @@
+-- `detrend::work::detrend_all`: the ranges from k on, applied to what stands there, give what all ranges give. Assumes nothing.
 use borrow.Author.Needs.{needs}
 use mathlib.Core.Path.{_≡_, refl}
 use mathlib.Core.Bool.{true}
@@ -37,4 +38,5 @@ returns c = search (needs, ranges-all)
 pub detrend-all-spec : {M : Type 1} → statement M
 detrend-all-spec =
     tie.close
-    (tie.spec Inv-loop μ-loop loop-holds (λ c. search needs) (λ c. search needs) (λ c. search needs) (λ c. search needs) sub-count (λ c. search needs) (λ c. search needs) (λ c. search needs) (λ c. search needs) detrend-part-requires (λ c. search needs) (λ c. search needs) loop-again (λ c. search needs) returns)
+    (tie.spec Inv-loop μ-loop loop-holds (λ c. search needs) (λ c. search needs) (λ c. search needs) (λ c. search needs) sub-count (λ c. search needs) (λ c. search needs) (λ c. search needs)
+    (λ c. search needs) detrend-part-requires (λ c. search needs) (λ c. search needs) loop-again (λ c. search needs) returns)

@@ -1,3 +1,4 @@
+-- `detrend::work::fill_rows`: after i times the work area has their rows from `to` on and is unchanged elsewhere. Assumes nothing.
 use mathlib.Core.Path.{_≡_, refl}
 use Prim.Native.Nat.{_-_, _*_, _≤_}
 use native.Mathlib.Omega.{arith}
@@ -5,8 +6,8 @@ use borrow.Author.Needs.{needs}
 use borrow.Rule.Slice.PartMut.{midOf, putMid}
 use lib.ListN.{length}
 use Rattle.detrend.specs.Fit.{rowsOf}
-use Rattle.detrend.proofs.Rows.{rows-none, rows-turn, rows-done}
-use Rattle.detrend.proofs.Lists.{put-length}
+use Rattle.detrend.proofs.DesignRows.{rows-none, rows-turn, rows-done}
+use Rattle.laws.specs.Lists.{put-length}
 use Rattle.detrend.proofs.work.fill_rows.Statement.{statement}
 use Rattle.detrend.proofs.work.fill_rows.Tie as tie
 
@@ -29,4 +30,5 @@ returns c = search (needs, rows-done)
 pub fill-rows-spec : {M : Type 1} → statement M
 fill-rows-spec =
     tie.close
-    (tie.spec Inv-loop μ-loop loop-holds (λ c. search needs) (λ c. search needs) (λ c. search needs) (λ c. search needs) (λ c. search needs) (λ c. search needs) (λ c. search needs) (λ c. search needs) (λ c. search needs) (λ c. search needs) (λ c κs. search needs) (λ c. search needs) (λ c. search needs) loop-again (λ c. search needs) returns)
+    (tie.spec Inv-loop μ-loop loop-holds (λ c. search needs) (λ c. search needs) (λ c. search needs) (λ c. search needs) (λ c. search needs) (λ c. search needs) (λ c. search needs) (λ c. search needs)
+    (λ c. search needs) (λ c. search needs) (λ c κs. search needs) (λ c. search needs) (λ c. search needs) loop-again (λ c. search needs) returns)

@@ -1,3 +1,4 @@
+-- `detrend::work::fitted`: the sum after j terms is the definition's. Assumes nothing.
 use mathlib.Core.Path.{_≡_, refl}
 use Prim.Native.Nat.{ℕ, _-_, _≤_}
 use native.Mathlib.Omega.{arith}

@@ -1,3 +1,4 @@
+-- `detrend::work::remove_all`: what is done, with the revolutions left on the rest, is the removal over all nodes. Assumes nothing.
 use mathlib.Core.Path.{_≡_, refl}
 use mathlib.Core.List.{_++_}
 use Prim.Native.Nat.{_+_, _-_, _<_, _≤_}
@@ -7,7 +8,7 @@ use borrow.Rule.Slice.PartMut.{midOf}
 use lib.Ieee.{nan}
 use lib.ListN.{length, take, drop, getD}
 use Rattle.detrend.specs.Revolutions.{windowsOf, removedOf}
-use Rattle.detrend.proofs.Windows.{removed-starts, removed-turn, removed-done, starts-inside, ends-inside, times-kept}
+use Rattle.detrend.proofs.RevolutionWalk.{removed-starts, removed-turn, removed-done, starts-inside, ends-inside, times-kept}
 use Rattle.detrend.proofs.work.remove_all.Statement.{statement}
 use Rattle.detrend.proofs.work.remove_all.Tie as tie
 
@@ -24,9 +25,11 @@ loop-holds c = (omega arith, omega arith, search (needs, starts-inside), refl, r
 
 loop-again : tie.Need-loop-again Inv-loop μ-loop
 loop-again c =
-    let s = c .before .before .before .before .before .before .before .before .before .before .before .before .before .before .args in
-    let l = c .before .before .before .before .before .before .before .loop in
-    let w = c .before .before .window in (
+    let at-window = c .before .before in
+    let at-loop = at-window .before .before .before .before .before in
+    let s = at-loop .before .before .before .before .before .before .before .args in
+    let l = at-loop .loop in
+    let w = at-window .window in (
       omega arith,
       omega arith,
       search (needs, ends-inside),
@@ -41,4 +44,5 @@ returns c = search (needs, removed-done)
 pub remove-all-spec : {M : Type 1} → statement M
 remove-all-spec =
     tie.close
-    (tie.spec Inv-loop μ-loop (λ c. search needs) (λ c. search needs) (λ c. search needs) (λ c. search needs) (λ c κs. search needs) loop-holds (λ c. search needs) (λ c. search needs) (λ c. search needs) (λ c. search needs) (λ c. search needs) (λ c κs. search needs) (λ c. search needs) (λ c. search needs) loop-again (λ c. search needs) returns)
+    (tie.spec Inv-loop μ-loop (λ c. search needs) (λ c. search needs) (λ c. search needs) (λ c. search needs) (λ c κs. search needs) loop-holds (λ c. search needs) (λ c. search needs)
+    (λ c. search needs) (λ c. search needs) (λ c. search needs) (λ c κs. search needs) (λ c. search needs) (λ c. search needs) loop-again (λ c. search needs) returns)

@@ -1,3 +1,4 @@
+-- `detrend::work::subtract_fit`: the first i values are less their fit, the others unchanged. Assumes nothing.
 use mathlib.Core.Path.{_≡_, refl}
 use Prim.Native.Nat.{_-_, _*_, _≤_}
 use native.Mathlib.Omega.{arith}
@@ -5,7 +6,7 @@ use borrow.Author.Needs.{needs}
 use borrow.Rule.Slice.PartMut.{midOf, putMid}
 use lib.ListN.{length, take}
 use Rattle.detrend.specs.Work.{lessRows}
-use Rattle.detrend.proofs.Parts.{less-none, less-turn, less-done}
+use Rattle.detrend.proofs.RevolutionFit.{less-none, less-turn, less-done}
 use Rattle.detrend.proofs.work.subtract_fit.Statement.{statement}
 use Rattle.detrend.proofs.work.subtract_fit.Tie as tie
 
@@ -28,4 +29,6 @@ returns c = search (needs, less-done)
 pub subtract-fit-spec : {M : Type 1} → statement M
 subtract-fit-spec =
     tie.close
-    (tie.spec Inv-loop μ-loop loop-holds (λ c. search needs) (λ c. search needs) (λ c. search needs) (λ c. search needs) (λ c. search needs) (λ c. search needs) (λ c. search needs) (λ c κs. search needs) (λ c. search needs) (λ c. search needs) (λ c. search needs) (λ c. search needs) (λ c. search needs) (λ c. search needs) (λ c. search needs) loop-again (λ c. search needs) returns)
+    (tie.spec Inv-loop μ-loop loop-holds (λ c. search needs) (λ c. search needs) (λ c. search needs) (λ c. search needs) (λ c. search needs) (λ c. search needs) (λ c. search needs)
+    (λ c κs. search needs) (λ c. search needs) (λ c. search needs) (λ c. search needs) (λ c. search needs) (λ c. search needs) (λ c. search needs) (λ c. search needs) loop-again
+    (λ c. search needs) returns)

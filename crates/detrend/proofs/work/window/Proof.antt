@@ -1,5 +1,5 @@
 use borrow.Author.Needs.{needs}
-use Rattle.detrend.proofs.Windows.{window-long, window-short}
+use Rattle.detrend.proofs.RevolutionWalk.{window-long, window-short}
 use Rattle.detrend.proofs.work.window.Statement.{statement}
 use Rattle.detrend.proofs.work.window.Tie as tie
 

@@ -1,3 +1,4 @@
+-- `epoch::kernel::epoch_at`: the record from gravity, tides, frame and velocity term, from what each call ensures, by rewriting. Assumes nothing.
 use Rattle.epoch.specs.Epoch.{epochWith, gravityTerm}
 use borrow.Author.Needs.{needs}
 use Rattle.epoch.proofs.kernel.epoch_at.Statement.{statement}
@@ -36,17 +37,21 @@ record-requires c κs = search needs
 returns : tie.Need-returns
 unfolding epochWith gravityTerm
 returns c =
+    let at-middle2 = c .before in
+    let at-velocity-term = at-middle2 .before .before in
+    let at-tides-term = at-velocity-term .before .before in
+    let at-sight = at-tides-term .before .before in
     simp (
       c .record .ensures,
-      c .before .middle2 .ensures,
-      c .before .before .middle .ensures,
-      c .before .before .before .velocity-term .ensures,
-      c .before .before .before .before .frame-term .ensures,
-      c .before .before .before .before .before .tides-term .ensures,
-      c .before .before .before .before .before .before .along .ensures,
-      c .before .before .before .before .before .before .before .sight .ensures,
-      c .before .before .before .before .before .before .before .before .gravity2 .ensures,
-      c .before .before .before .before .before .before .before .before .before .gravity .ensures,
+      at-middle2 .middle2 .ensures,
+      at-middle2 .before .middle .ensures,
+      at-velocity-term .velocity-term .ensures,
+      at-velocity-term .before .frame-term .ensures,
+      at-tides-term .tides-term .ensures,
+      at-tides-term .before .along .ensures,
+      at-sight .sight .ensures,
+      at-sight .before .gravity2 .ensures,
+      at-sight .before .before .gravity .ensures,
     )
 
 pub epoch-at-spec : {M : Type 1} → statement M

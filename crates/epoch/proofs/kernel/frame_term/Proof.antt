@@ -1,3 +1,4 @@
+-- `epoch::kernel::frame_term`: the frame's accelerations at D less those at C along the sight, from what each call ensures, by rewriting. Assumes nothing.
 use Rattle.epoch.specs.Epoch.{frameTerm}
 use borrow.Author.Needs.{needs}
 use Rattle.epoch.proofs.kernel.frame_term.Statement.{statement}

@@ -1,3 +1,4 @@
+-- `epoch::kernel::sight`: the vector from C to D scaled by the reciprocal of its length is the line of sight. Assumes nothing.
 use Rattle.epoch.specs.Epoch.{sightOf}
 use borrow.Author.Needs.{needs}
 use Rattle.epoch.proofs.kernel.sight.Statement.{statement}

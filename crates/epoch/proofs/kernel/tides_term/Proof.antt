@@ -1,3 +1,4 @@
+-- `epoch::kernel::tides_term`: the tides at D less those at C along the sight, from what each call ensures, by rewriting. Assumes nothing.
 use Rattle.epoch.specs.Epoch.{tidesTerm}
 use Rattle.forces.specs.Forces.{tidesOf}
 use borrow.Author.Needs.{needs}
@@ -22,12 +23,13 @@ along-requires c κs = search needs
 returns : tie.Need-returns
 unfolding tidesTerm tidesOf
 returns c =
+    let at-tides-at2 = c .before .before in
     simp (
       c .along .ensures,
       c .before .sight .ensures,
-      c .before .before .tides-at2 .ensures,
-      c .before .before .before .tides-at .ensures,
-      c .before .before .before .before .sky-at .ensures,
+      at-tides-at2 .tides-at2 .ensures,
+      at-tides-at2 .before .tides-at .ensures,
+      at-tides-at2 .before .before .sky-at .ensures,
     )
 
 pub tides-term-spec : {M : Type 1} → statement M

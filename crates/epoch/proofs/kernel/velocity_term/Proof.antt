@@ -1,3 +1,4 @@
+-- `epoch::kernel::velocity_term`: relative speed squared less range rate squared, over the distance, from what each call ensures, by rewriting. Assumes nothing.
 use Rattle.epoch.specs.Epoch.{velocityTerm}
 use borrow.Author.Needs.{needs}
 use Rattle.epoch.proofs.kernel.velocity_term.Statement.{statement}
@@ -27,14 +28,16 @@ norm-requires c κs = search needs
 returns : tie.Need-returns
 unfolding velocityTerm
 returns c =
+    let at-power = c .before .before in
+    let at-dot = at-power .before .before in
     simp (
       c .norm .ensures,
       c .before .sub2 .ensures,
-      c .before .before .power .ensures,
-      c .before .before .before .dot2 .ensures,
-      c .before .before .before .before .dot .ensures,
-      c .before .before .before .before .before .sight .ensures,
-      c .before .before .before .before .before .before .sub .ensures,
+      at-power .power .ensures,
+      at-power .before .dot2 .ensures,
+      at-dot .dot .ensures,
+      at-dot .before .sight .ensures,
+      at-dot .before .before .sub .ensures,
     )
 
 pub velocity-term-spec : {M : Type 1} → statement M

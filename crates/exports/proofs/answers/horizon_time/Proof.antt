@@ -1,5 +1,5 @@
 use borrow.Author.Needs.{needs}
-use Rattle.exports.proofs.Answered.{horizon-none}
+use Rattle.exports.proofs.AnswersTold.{horizon-none}
 use Rattle.exports.proofs.answers.horizon_time.Statement.{statement}
 use Rattle.exports.proofs.answers.horizon_time.Tie as tie
 

@@ -1,5 +1,5 @@
 use borrow.Author.Needs.{needs}
-use Rattle.exports.proofs.Answered.{length-number}
+use Rattle.exports.proofs.AnswersTold.{length-number}
 use Rattle.exports.proofs.answers.length_refusal.Statement.{statement}
 use Rattle.exports.proofs.answers.length_refusal.Tie as tie
 

@@ -1,5 +1,5 @@
 use borrow.Author.Needs.{needs}
-use Rattle.exports.proofs.Answered.{no-place}
+use Rattle.exports.proofs.AnswersTold.{no-place}
 use Rattle.exports.proofs.answers.put.Statement.{statement}
 use Rattle.exports.proofs.answers.put.Tie as tie
 

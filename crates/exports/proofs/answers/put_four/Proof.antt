@@ -1,15 +1,15 @@
 use borrow.Author.Needs.{needs}
 use native.Mathlib.Omega.{arith}
 use lib.ListN.{length-set}
-use Rattle.exports.proofs.Answered.{four-in, four-out}
+use Rattle.exports.proofs.AnswersTold.{partials-in, partials-out}
 use Rattle.exports.proofs.answers.put_four.Statement.{statement}
 use Rattle.exports.proofs.answers.put_four.Tie as tie
 
 returns : tie.Need-returns
-returns c = search (needs, four-in)
+returns c = search (needs, partials-in)
 
 returns-2 : tie.Need-returns-2
-returns-2 c = search (needs, four-out)
+returns-2 c = search (needs, partials-out)
 
 pub put-four-spec : {M : Type 1} → statement M
 put-four-spec =

@@ -1,5 +1,5 @@
 use borrow.Author.Needs.{needs}
-use Rattle.exports.proofs.Answered.{two-stored}
+use Rattle.exports.proofs.AnswersTold.{two-stored}
 use Rattle.exports.proofs.answers.put_two.Statement.{statement}
 use Rattle.exports.proofs.answers.put_two.Tie as tie
 

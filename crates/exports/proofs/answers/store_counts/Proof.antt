@@ -1,13 +1,19 @@
 use borrow.Author.Needs.{needs}
-use Rattle.exports.proofs.Answered.{sheet-stored, sheet-refused}
+use Rattle.exports.proofs.AnswersTold.{sheet-stored, sheet-refused}
 use Rattle.exports.proofs.answers.store_counts.Statement.{statement}
 use Rattle.exports.proofs.answers.store_counts.Tie as tie
 
 returns : tie.Need-returns
-returns c = sheet-stored (c .before .before .before .before .before .before .before .before .args .answer) _ _ _ _ (c .before .before .before .before .before .answer .given .1) (c .before .before .put-two .ensures)
+returns c =
+    let at-put-two = c .before .before in
+    let at-answer = at-put-two .before .before .before in
+    sheet-stored (at-answer .before .before .before .args .answer) _ _ _ _ (at-answer .answer .given .1) (at-put-two .put-two .ensures)
 
 returns-2 : tie.Need-returns-2
-returns-2 c = sheet-refused (c .before .before .before .before .before .before .before .before .args .answer) _ _ _ (c .before .before .before .before .before .answer2 .given .1) (c .before .before .put-neither .ensures)
+returns-2 c =
+    let at-put-neither = c .before .before in
+    let at-answer2 = at-put-neither .before .before .before in
+    sheet-refused (at-answer2 .before .before .before .args .answer) _ _ _ (at-answer2 .answer2 .given .1) (at-put-neither .put-neither .ensures)
 
 pub store-counts-spec : {M : Type 1} → statement M
 store-counts-spec =

@@ -1,7 +1,7 @@
 -- `exports::answers::told`: the rms, or the refusal's number below zero. Assumes nothing.
 use borrow.Author.Needs.{needs}
 use Rattle.laws.specs.WholeNumbers.{number}
-use Rattle.exports.proofs.Answered.{told-refused}
+use Rattle.exports.proofs.AnswersTold.{told-refused}
 use Rattle.exports.proofs.answers.told.Statement.{statement}
 use Rattle.exports.proofs.answers.told.Tie as tie
 

@@ -14,7 +14,9 @@ returns-2 c = rw (le-leb _ _ (c .before .if1 .left), lt-leb _ _ (c .if2 .taken))
 
 returns-3 : tie.Need-returns-3
 unfolding factorWith factorOf
-returns-3 c = rw (le-leb _ _ (c .before .before .before .before .if1 .left), le-leb _ _ (c .before .before .before .if2 .left), c .power .ensures)
+returns-3 c =
+    let at-if2 = c .before .before .before in
+    rw (le-leb _ _ (at-if2 .before .if1 .left), le-leb _ _ (at-if2 .if2 .left), c .power .ensures)
 
 pub factor-spec : {M : Type 1} → statement M
 factor-spec =

@@ -1,3 +1,4 @@
+-- `filter::kernel::count_runs`: the runs counted, with those of the times left, are all runs; likewise the long ones. Assumes nothing.
 use mathlib.Core.Path.{_≡_}
 use Prim.Native.Nat.{_+_, _-_, _≤_}
 use lib.ListN.{length, drop}
@@ -9,7 +10,8 @@ use Rattle.filter.proofs.kernel.count_runs.Statement.{statement}
 use Rattle.filter.proofs.kernel.count_runs.Tie as tie
 
 abbrev Inv-loop : tie.InvT-loop
-Inv-loop times runs₀ long₀ start₀ runs long start = (start ≤ length times) × (runs ≤ start) × (long ≤ start) × (runs + length (runsOf (drop start times)) ≡ length (runsOf times)) × (long + longRuns (runsOf (drop start times)) ≡ longRuns (runsOf times))
+Inv-loop times runs₀ long₀ start₀ runs long start = (start ≤ length times) × (runs ≤ start) × (long ≤ start) × (runs + length (runsOf (drop start times)) ≡ length (runsOf times))
+    × (long + longRuns (runsOf (drop start times)) ≡ longRuns (runsOf times))
 
 abbrev μ-loop : tie.MeasureT-loop
 μ-loop times runs₀ long₀ start₀ runs long start = length times - start

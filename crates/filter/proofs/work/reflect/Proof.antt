@@ -1,3 +1,4 @@
+-- `filter::work::reflect`: what is written, with the values still to be reflected, is the mirrored part. Assumes nothing.
 use mathlib.Core.Path.{_≡_, refl}
 use mathlib.Core.List.{_++_, reverse}
 use Prim.Native.Nat.{_+_, _-_}
@@ -11,7 +12,8 @@ use Rattle.filter.proofs.work.reflect.Statement.{statement}
 use Rattle.filter.proofs.work.reflect.Tie as tie
 
 abbrev Inv-loop : tie.InvT-loop
-Inv-loop x about end out₀ p v k₀ out k = (length out ≡ length out₀) × (take k out ++ reflected (getD x about nan) (reverse (take (length out₀ - k) (drop (end - length out₀) x))) ≡ mirrored (getD x about nan) (length out₀) end x)
+Inv-loop x about end out₀ p v k₀ out k = (length out ≡ length out₀)
+    × (take k out ++ reflected (getD x about nan) (reverse (take (length out₀ - k) (drop (end - length out₀) x))) ≡ mirrored (getD x about nan) (length out₀) end x)
 
 abbrev μ-loop : tie.MeasureT-loop
 μ-loop x about end out₀ p v k₀ out k = length out₀ - k
@@ -28,4 +30,5 @@ returns c = search (needs, reflect-done)
 pub reflect-spec : {M : Type 1} → statement M
 reflect-spec =
     tie.close
-    (tie.spec Inv-loop μ-loop (λ c. search needs) (λ c. search needs) loop-holds (λ c. search needs) (λ c. search needs) (λ c. search needs) (λ c. search needs) (λ c. search needs) (λ c. search needs) (λ c. search needs) (λ c. search needs) loop-again (λ c. search needs) returns)
+    (tie.spec Inv-loop μ-loop (λ c. search needs) (λ c. search needs) loop-holds (λ c. search needs) (λ c. search needs) (λ c. search needs) (λ c. search needs) (λ c. search needs) (λ c. search needs)
+    (λ c. search needs) (λ c. search needs) loop-again (λ c. search needs) returns)

@@ -1,3 +1,4 @@
+-- `filter::work::run_end`: the run goes on from `last` to the place where the run from `start` ends. Assumes nothing.
 use mathlib.Core.Path.{_≡_, refl}
 use mathlib.Core.List.{List}
 use Prim.Native.Nat.{suc, _+_, _-_, _<_, _≤_}
@@ -22,16 +23,18 @@ loop-holds c = (c .pre, search needs, refl)
 returns : tie.Need-returns Inv-loop μ-loop
 unfolding splits
 returns c =
-    let l = c .before .before .before .before .loop in
-    let ts : List Float = c .before .before .before .before .before .args .times .now in
+    let at-loop = c .before .before .before .before in
+    let l = at-loop .loop in
+    let ts : List Float = at-loop .before .args .times .now in
     let e : getD (runsOf (drop (l .last) ts)) 0 0 ≡ 1 = run-ends ts (l .last) (omega arith) (c .if1 .taken) in
     (omega arith, omega arith, omega arith)
 
 loop-again : tie.Need-loop-again Inv-loop μ-loop
 unfolding splits
 loop-again c =
-    let l = c .before .before .before .before .loop in
-    let ts : List Float = c .before .before .before .before .before .args .times .now in
+    let at-loop = c .before .before .before .before in
+    let l = at-loop .loop in
+    let ts : List Float = at-loop .before .args .times .now in
     let e : getD (runsOf (drop (l .last) ts)) 0 0 ≡ suc (getD (runsOf (drop (l .last + 1) ts)) 0 0) = run-goes ts (l .last) (omega arith) (c .if1 .left) in
     (omega arith, omega arith, omega arith)
 
@@ -45,4 +48,5 @@ returns-2 c =
 pub run-end-spec : {M : Type 1} → statement M
 run-end-spec =
     tie.close
-    (tie.spec Inv-loop μ-loop loop-holds (λ c. search needs) (λ c. search needs) (λ c. search needs) (λ c. search needs) (λ c. search needs) (λ c. search needs) returns (λ c. search needs) loop-again (λ c. search needs) returns-2)
+    (tie.spec Inv-loop μ-loop loop-holds (λ c. search needs) (λ c. search needs) (λ c. search needs) (λ c. search needs) (λ c. search needs) (λ c. search needs) returns (λ c. search needs) loop-again
+    (λ c. search needs) returns-2)

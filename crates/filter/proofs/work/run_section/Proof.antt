@@ -1,3 +1,4 @@
+-- `filter::work::run_section`: what has passed, with the rest through the section from its memory, is the whole through it. Assumes nothing.
 use mathlib.Core.Path.{_≡_, refl, ap}
 use mathlib.Core.List.{_++_}
 use Prim.Native.Nat.{_+_, _-_}
@@ -28,4 +29,5 @@ returns c = search (needs, section-done)
 pub run-section-spec : {M : Type 1} → statement M
 run-section-spec =
     tie.close
-    (tie.spec Inv-loop μ-loop (λ c κs. search needs) loop-holds (λ c. omega arith) (λ c. search needs) (λ c κs. search needs) (λ c. omega arith) (λ c. search needs) (λ c. omega arith) (λ c. omega arith) loop-again (λ c. search needs) returns)
+    (tie.spec Inv-loop μ-loop (λ c κs. search needs) loop-holds (λ c. omega arith) (λ c. search needs) (λ c κs. search needs) (λ c. omega arith) (λ c. search needs) (λ c. omega arith)
+    (λ c. omega arith) loop-again (λ c. search needs) returns)

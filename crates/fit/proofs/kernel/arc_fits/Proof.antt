@@ -1,3 +1,4 @@
+-- `fit::kernel::arc_fits`: the five tests in their order say whether the slices serve for a fit, each by its law of proofs/Flights.antt. Assumes nothing.
 use Rattle.fit.proofs.Flights.{serves-degree, serves-steps, serves-states, serves-room, serves-keys}
 use borrow.Author.Needs.{needs}
 use Rattle.fit.proofs.kernel.arc_fits.Statement.{statement}
@@ -22,13 +23,21 @@ add-if4 : tie.Need-add-if4
 add-if4 c = search needs
 
 returns-4 : tie.Need-returns-4
-returns-4 c = let a = c .before .before .before .before .before .args in serves-room (a .degree) (a .steps) (a .keys .now) (a .states) (a .room) (c .before .before .before .before .if1 .left) (c .before .before .before .if2 .left) (c .before .before .if3 .left) _ (c .before .front-size .ensures) (c .if4 .taken)
+returns-4 c =
+    let at-front-size = c .before in
+    let at-if2 = at-front-size .before .before in
+    let a = at-if2 .before .before .args in serves-room (a .degree) (a .steps) (a .keys .now) (a .states) (a .room) (at-if2 .before .if1 .left) (at-if2 .if2 .left) (at-front-size .before .if3 .left) _
+    (at-front-size .front-size .ensures) (c .if4 .taken)
 
 rising-keys-requires : tie.Need-rising-keys-requires
 rising-keys-requires c κs = search needs
 
 returns-5 : tie.Need-returns-5
-returns-5 c = let a = c .before .before .before .before .before .before .args in serves-keys (a .degree) (a .steps) (a .keys .now) (a .states) (a .room) (c .before .before .before .before .before .if1 .left) (c .before .before .before .before .if2 .left) (c .before .before .before .if3 .left) _ (c .before .before .front-size .ensures) (c .before .if4 .left) _ (c .rising-keys .ensures)
+returns-5 c =
+    let at-front-size = c .before .before in
+    let at-if2 = at-front-size .before .before in
+    let a = at-if2 .before .before .args in serves-keys (a .degree) (a .steps) (a .keys .now) (a .states) (a .room) (at-if2 .before .if1 .left) (at-if2 .if2 .left) (at-front-size .before .if3 .left) _
+    (at-front-size .front-size .ensures) (c .before .if4 .left) _ (c .rising-keys .ensures)
 
 pub arc-fits-spec : {M : Type 1} → statement M
 arc-fits-spec =

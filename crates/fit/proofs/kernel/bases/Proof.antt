@@ -1,3 +1,4 @@
+-- `fit::kernel::bases`: the first r base places hold the run's coordinates at the observed steps, and nothing else has moved. Assumes nothing.
 use Rattle.fit.proofs.Rows.{based-none, based-more}
 use Rattle.fit.specs.Contracts.{Based}
 use native.Mathlib.Omega.{arith}
@@ -23,7 +24,12 @@ slice-write-s : tie.Need-slice-write-s Inv-loop μ-loop
 slice-write-s c = omega (arith, c .before .before .before .loop .inv .1 .only .long)
 
 loop-again : tie.Need-loop-again Inv-loop μ-loop
-loop-again c = (omega arith, based-more _ (c .before .before .before .loop .s) (c .before .before .before .before .before .args .base) (c .before .before .before .loop .r) (omega arith) (omega (arith, c .before .before .before .loop .inv .1 .only .long)) _ (c .before .before .before .loop .inv .1) (c .run-at .ensures))
+loop-again c =
+    let at-loop = c .before .before .before in (
+      omega arith,
+      based-more _ (at-loop .loop .s) (at-loop .before .before .args .base) (at-loop .loop .r) (omega arith) (omega (arith, at-loop .loop .inv .1 .only .long)) _ (at-loop .loop .inv .1)
+          (c .run-at .ensures),
+    )
 
 same-length : tie.Need-same-length Inv-loop μ-loop
 same-length c = c .before .loop .inv .1 .only .long
@@ -34,4 +40,5 @@ returns c = let end : c .before .loop .r ≡ 3 * c .before .before .before .args
 pub bases-spec : {M : Type 1} → statement M
 bases-spec =
     tie.close
-    (tie.spec Inv-loop μ-loop (λ c. search needs) loop-holds run-at-requires (λ c. search needs) (λ c. search needs) (λ c. search needs) slice-write-s (λ c. search needs) (λ c. search needs) loop-again same-length returns)
+    (tie.spec Inv-loop μ-loop (λ c. search needs) loop-holds run-at-requires (λ c. search needs) (λ c. search needs) (λ c. search needs) slice-write-s (λ c. search needs) (λ c. search needs)
+    loop-again same-length returns)

@@ -1,3 +1,4 @@
+-- `fit::kernel::column`: in the first r rows column i is the run less the base; the other columns, and all before the design, are unchanged. Assumes nothing.
 use Rattle.fit.proofs.Rows.{columned-none, columned-more}
 use Rattle.fit.specs.Contracts.{Columned}
 use native.Mathlib.Omega.{arith}
@@ -26,7 +27,12 @@ slice-write-s : tie.Need-slice-write-s Inv-loop μ-loop
 slice-write-s c = omega (arith, c .before .before .before .before .loop .inv .1 .only .long)
 
 loop-again : tie.Need-loop-again Inv-loop μ-loop
-loop-again c = (omega arith, columned-more _ (c .before .before .before .before .loop .s) (c .before .before .before .before .before .before .args .base) (c .before .before .before .before .loop .r) (omega arith) (omega (arith, c .before .before .before .before .loop .inv .1 .only .long)) (c .before .before .before .before .before .before .args .i) (omega arith) _ (c .before .before .before .before .loop .inv .1) (c .before .run-at .ensures))
+loop-again c =
+    let at-loop = c .before .before .before .before in (
+      omega arith,
+      columned-more _ (at-loop .loop .s) (at-loop .before .before .args .base) (at-loop .loop .r) (omega arith) (omega (arith, at-loop .loop .inv .1 .only .long)) (at-loop .before .before .args .i)
+          (omega arith) _ (at-loop .loop .inv .1) (c .before .run-at .ensures),
+    )
 
 same-length : tie.Need-same-length Inv-loop μ-loop
 same-length c = c .before .loop .inv .1 .only .long
@@ -37,4 +43,5 @@ returns c = let end : c .before .loop .r ≡ 3 * c .before .before .before .args
 pub column-spec : {M : Type 1} → statement M
 column-spec =
     tie.close
-    (tie.spec Inv-loop μ-loop (λ c. search needs) loop-holds run-at-requires (λ c. search needs) (λ c. search needs) (λ c. search needs) slice-read-v (λ c. search needs) (λ c. search needs) (λ c. search needs) (λ c. search needs) (λ c. search needs) slice-write-s (λ c. search needs) (λ c. search needs) loop-again same-length returns)
+    (tie.spec Inv-loop μ-loop (λ c. search needs) loop-holds run-at-requires (λ c. search needs) (λ c. search needs) (λ c. search needs) slice-read-v (λ c. search needs) (λ c. search needs)
+    (λ c. search needs) (λ c. search needs) (λ c. search needs) slice-write-s (λ c. search needs) (λ c. search needs) loop-again same-length returns)

@@ -1,7 +1,8 @@
+-- `fit::kernel::finish`: the last full run, its misfits and their rms are the definition's, by `finished` of proofs/WholeFit.antt. Assumes nothing.
 use Rattle.fit.proofs.WholeFit.{finished}
-use Rattle.integrate.specs.Force.{model}
 use native.Mathlib.Omega.{arith}
 use Prim.Native.Nat.{_+_, _*_, _-_}
+use Rattle.inputs.specs.Inputs.{modelOf}
 use borrow.Author.Needs.{needs}
 use Rattle.fit.proofs.kernel.finish.Statement.{statement}
 use Rattle.fit.proofs.kernel.finish.Tie as tie
@@ -42,9 +43,12 @@ same-length c = search needs
 
 returns : tie.Need-returns
 returns c =
-    let a = c .before .before .before .before .before .before .before .before .before .before .before .before .before .before .before .before .before .args in
-    finished (model (a .degree) (a .field .now) (a .times .now) (a .added .now)) (a .a .now) (a .b .now) (a .arc) (a .p) (a .s .now) _ _ (a .base) (a .n) (a .base + misfitPart + 3 * a .n - (a .base + misfitPart)) _ (omega arith) (omega arith) (omega arith) (omega arith)
-    (c .before .before .before .before .before .before .before .before .before .fly .ensures .0) (c .before .before .before .before .before .before .before .before .before .fly .ensures .1) (c .before .before .before .before .before .misfits .ensures) (c .rms .ensures)
+    let at-misfits = c .before .before .before .before .before in
+    let at-fly = at-misfits .before .before .before .before in
+    let a = at-fly .before .before .before .args in
+    finished (modelOf (a .degree) (a .model)) (a .arc) (a .p) (a .s .now) _ _ (a .base) (a .n) (a .base + misfitPart + 3 * a .n - (a .base + misfitPart)) _ (omega arith) (omega arith) (omega arith)
+    (omega arith)
+    (at-fly .fly .ensures .0) (at-fly .fly .ensures .1) (at-misfits .misfits .ensures) (c .rms .ensures)
 
 pub finish-spec : {M : Type 1} → statement M
 finish-spec =

@@ -1,3 +1,4 @@
+-- `fit::kernel::misfits`: the first r misfits are observed less run coordinate, and nothing outside their part has moved. Assumes nothing.
 use Rattle.fit.proofs.Rows.{measured-none, measured-more}
 use Rattle.fit.specs.Contracts.{Measured}
 use native.Mathlib.Omega.{arith}
@@ -26,7 +27,13 @@ slice-write-s : tie.Need-slice-write-s Inv-loop μ-loop
 slice-write-s c = omega (arith, c .before .before .before .before .before .loop .inv .1 .only .long)
 
 loop-again : tie.Need-loop-again Inv-loop μ-loop
-loop-again c = (omega arith, measured-more _ (c .before .before .before .before .before .loop .s) (c .before .before .before .before .before .before .before .args .base) (c .before .before .before .before .before .loop .r) (omega arith) (omega (arith, c .before .before .before .before .before .loop .inv .1 .only .long)) _ _ (c .before .before .before .before .before .loop .inv .1) (c .before .before .place-at .ensures) (c .run-at .ensures))
+loop-again c =
+    let at-place-at = c .before .before in
+    let at-loop = at-place-at .before .before .before in (
+      omega arith,
+      measured-more _ (at-loop .loop .s) (at-loop .before .before .args .base) (at-loop .loop .r) (omega arith) (omega (arith, at-loop .loop .inv .1 .only .long)) _ _ (at-loop .loop .inv .1)
+          (at-place-at .place-at .ensures) (c .run-at .ensures),
+    )
 
 same-length : tie.Need-same-length Inv-loop μ-loop
 same-length c = c .before .loop .inv .1 .only .long
@@ -37,4 +44,5 @@ returns c = let end : c .before .loop .r ≡ 3 * c .before .before .before .args
 pub misfits-spec : {M : Type 1} → statement M
 misfits-spec =
     tie.close
-    (tie.spec Inv-loop μ-loop (λ c. search needs) loop-holds place-at-requires run-at-requires (λ c. search needs) (λ c. search needs) (λ c. search needs) slice-write-s (λ c. search needs) (λ c. search needs) loop-again same-length returns)
+    (tie.spec Inv-loop μ-loop (λ c. search needs) loop-holds place-at-requires run-at-requires (λ c. search needs) (λ c. search needs) (λ c. search needs) slice-write-s (λ c. search needs)
+    (λ c. search needs) loop-again same-length returns)

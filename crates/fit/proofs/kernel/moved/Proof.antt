@@ -9,7 +9,9 @@ use Rattle.fit.proofs.kernel.moved.Tie as tie
 
 returns : tie.Need-returns
 unfolding movedOf
-returns c = ap (λ (v : Float). set (c .before .args .t1) (c .before .args .i) (getD (c .before .args .t1) (c .before .args .i) nan ⊕ v)) (c .parameter-scale .ensures)
+returns c =
+    let start = c .before in
+    ap (λ (v : Float). set (start .args .t1) (start .args .i) (getD (start .args .t1) (start .args .i) nan ⊕ v)) (c .parameter-scale .ensures)
 
 pub moved-spec : {M : Type 1} → statement M
 moved-spec =

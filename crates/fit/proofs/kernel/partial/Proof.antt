@@ -1,9 +1,11 @@
+-- `fit::kernel::partial`: the run with parameter i moved, less the base, gives column i alone, by `differentiated` of proofs/Columns.antt. Assumes nothing.
 use Rattle.fit.proofs.Columns.{differentiated}
 use Rattle.fit.specs.Fit.{movedOf}
-use Rattle.integrate.specs.Force.{model, runOf, attractionOf}
+use Rattle.integrate.specs.Force.{runOf, attractionOf}
 use Rattle.integrate.specs.declared.kernel.Force.the-variants.{J2}
 use native.Mathlib.Omega.{arith}
 use Prim.Native.Nat.{_*_}
+use Rattle.inputs.specs.Inputs.{modelOf}
 use borrow.Author.Needs.{needs}
 use Rattle.fit.proofs.kernel.partial.Statement.{statement}
 use Rattle.fit.proofs.kernel.partial.Tie as tie
@@ -22,9 +24,12 @@ same-length c = search needs
 
 returns : tie.Need-returns
 returns c =
-    let a = c .before .before .before .before .before .before .before .before .before .before .before .before .before .before .before .args in
-    differentiated (runOf (attractionOf J2 (model (a .degree) (a .field .now) (a .times .now) (a .added .now)) (a .a .now) (a .b .now)) (a .arc) (movedOf (a .p) (a .i))) (a .arc .steps) _ _ _ (a .base) (3 * a .n) (a .i) (omega arith)
-    (rw (c .before .before .before .before .before .before .before .before .moved .ensures) at (c .before .before .before .before .before .before .fly .ensures .0)) (c .before .before .before .before .before .before .fly .ensures .1) (c .before .before .column .ensures)
+    let at-column = c .before .before in
+    let at-fly = at-column .before .before .before .before in
+    let at-moved = at-fly .before .before in
+    let a = at-moved .before .before .args in
+    differentiated (runOf (attractionOf J2 (modelOf (a .degree) (a .model))) (a .arc) (movedOf (a .p) (a .i))) (a .arc .steps) _ _ _ (a .base) (3 * a .n) (a .i) (omega arith)
+    (rw (at-moved .moved .ensures) at (at-fly .fly .ensures .0)) (at-fly .fly .ensures .1) (at-column .column .ensures)
 
 pub partial-spec : {M : Type 1} → statement M
 partial-spec = tie.close (tie.spec moved-requires fly-requires column-requires same-length returns)

@@ -9,10 +9,11 @@ use Rattle.fit.proofs.kernel.place.Tie as tie
 
 returns : tie.Need-returns
 returns c =
-    let keys = c .before .before .before .args .keys .now in
-    let second = c .before .before .whole-second .result .0 in
+    let at-whole-second = c .before .before in
+    let keys = at-whole-second .before .args .keys .now in
+    let second = at-whole-second .whole-second .result .0 in
     let same : toZ w64 (ofZ w64 second) ≡ second = toZ-ofZ w64 second (search needs) in
-    λ e. c .find .ensures e ∙ ap (lookup keys) same ∙ ap (lookup keys) (c .before .before .whole-second .ensures)
+    λ e. c .find .ensures e ∙ ap (lookup keys) same ∙ ap (lookup keys) (at-whole-second .whole-second .ensures)
 
 pub place-spec : {M : Type 1} → statement M
 place-spec = tie.close (tie.spec (λ c κs. search needs) (λ c κs. search needs) returns)

@@ -12,7 +12,11 @@ same-length c = c .before .before .put .ensures .only .long ∙ simp length-set
 
 returns : tie.Need-returns
 unfolding number
-returns c = stored (c .before .before .before .before .before .before .args .s .now) _ (c .before .before .before .before .before .before .args .at) (c .before .before .before .before .before .before .args .k) (c .before .before .before .before .before .before .args .v) _ (omega arith) (c .before .before .before .before .nearest-u64-to-f64 .ensures) (c .before .before .put .ensures)
+returns c =
+    let at-put = c .before .before in
+    let at-nearest-u64-to-f64 = at-put .before .before in
+    let start = at-nearest-u64-to-f64 .before .before in
+    stored (start .args .s .now) _ (start .args .at) (start .args .k) (start .args .v) _ (omega arith) (at-nearest-u64-to-f64 .nearest-u64-to-f64 .ensures) (at-put .put .ensures)
 
 pub put-observed-spec : {M : Type 1} → statement M
 put-observed-spec =

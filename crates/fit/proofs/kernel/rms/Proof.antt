@@ -1,3 +1,4 @@
+-- `fit::kernel::rms`: the sum after i numbers is the definition's sum of i squares. Assumes nothing.
 use Rattle.fit.specs.Fit.{rmsOf}
 use lib.ListN.{length, getD}
 use lib.Ieee.{nan}
@@ -22,13 +23,18 @@ unfolding sumTo
 loop-holds c = (omega arith, refl)
 
 loop-again : tie.Need-loop-again Inv-loop μ-loop
-loop-again c = (omega arith, sum-more (λ (r : ℕ). getD (c .before .before .before .before .before .args .y .now) r nan ⊗ getD (c .before .before .before .before .before .args .y .now) r nan) (c .before .before .before .loop .i) _ _ (c .before .before .before .loop .inv .1) refl)
+loop-again c =
+    let at-loop = c .before .before .before in
+    (omega arith, sum-more (λ (r : ℕ). getD (at-loop .before .before .args .y .now) r nan ⊗ getD (at-loop .before .before .args .y .now) r nan) (at-loop .loop .i) _ _ (at-loop .loop .inv .1) refl)
 
 returns : tie.Need-returns Inv-loop μ-loop
 unfolding rmsOf number
-returns c = let end : c .before .before .before .loop .i ≡ length (c .before .before .before .before .before .args .y .now) = omega arith in simp (c .root .ensures, c .before .nearest-u64-to-f64 .ensures, c .before .before .before .loop .inv .1, end)
+returns c =
+    let at-loop = c .before .before .before in
+    let end : at-loop .loop .i ≡ length (at-loop .before .before .args .y .now) = omega arith in simp (c .root .ensures, c .before .nearest-u64-to-f64 .ensures, at-loop .loop .inv .1, end)
 
 pub rms-spec : {M : Type 1} → statement M
 rms-spec =
     tie.close
-    (tie.spec Inv-loop μ-loop loop-holds (λ c. search needs) (λ c. search needs) (λ c. search needs) (λ c. search needs) (λ c. search needs) (λ c. search needs) loop-again (λ c κs. search needs) (λ c κs. search needs) returns)
+    (tie.spec Inv-loop μ-loop loop-holds (λ c. search needs) (λ c. search needs) (λ c. search needs) (λ c. search needs) (λ c. search needs) (λ c. search needs) loop-again (λ c κs. search needs)
+    (λ c κs. search needs) returns)

@@ -1,7 +1,8 @@
+-- `fit::kernel::round`: the fifteen coefficients from the design and the misfits in scratch, added to p, are the definition's; by `rounded` of Rounds. Assumes nothing.
 use Rattle.fit.proofs.Rounds.{rounded}
-use Rattle.integrate.specs.Force.{model}
 use native.Mathlib.Omega.{arith}
 use Prim.Native.Nat.{_+_, _*_, _-_}
+use Rattle.inputs.specs.Inputs.{modelOf}
 use borrow.Author.Needs.{needs}
 use Rattle.fit.proofs.kernel.round.Statement.{statement}
 use Rattle.fit.proofs.kernel.round.Tie as tie
@@ -63,9 +64,13 @@ same-length c = search needs
 
 returns : tie.Need-returns
 returns c =
-    let a = c .before .before .before .before .before .before .before .before .before .before .before .before .before .before .before .before .args in
-    rounded (model (a .degree) (a .field .now) (a .times .now) (a .added .now)) (a .a .now) (a .b .now) (a .arc) (a .p) (a .s .now) _ (a .base) (a .n) (omega arith) (omega (arith, c .before .before .before .before .before .before .before .before .linearise .ensures .apart .long)) (c .before .before .before .before .before .before .before .before .linearise .ensures)
-    (a .base + designPart + 45 * a .n - (a .base + designPart)) (a .base + misfitPart + 3 * a .n - (a .base + misfitPart)) (omega arith) (omega arith) (c .before .before .fifteen .result) (c .before .before .fifteen .ensures) _ (c .updated .ensures)
+    let at-fifteen = c .before .before in
+    let at-linearise = at-fifteen .before .before .before .before .before .before in
+    let a = at-linearise .before .before .before .args in
+    rounded (modelOf (a .degree) (a .model)) (a .arc) (a .p) (a .s .now) _ (a .base) (a .n) (omega arith) (omega (arith, at-linearise .linearise .ensures .apart .long))
+    (at-linearise .linearise .ensures)
+    (a .base + designPart + 45 * a .n - (a .base + designPart)) (a .base + misfitPart + 3 * a .n - (a .base + misfitPart)) (omega arith) (omega arith) (at-fifteen .fifteen .result)
+    (at-fifteen .fifteen .ensures) _ (c .updated .ensures)
 
 pub round-spec : {M : Type 1} → statement M
 round-spec =

@@ -9,7 +9,9 @@ use Rattle.fit.proofs.kernel.run_at.Tie as tie
 
 returns : tie.Need-returns
 unfolding runAt
-returns c = ap (λ (k : ℕ). getD (c .before .before .before .args .s .now) (c .before .before .before .args .base + 6 * k + c .before .before .before .args .r % 3) nan) (c .before .step-at .ensures .0)
+returns c =
+    let start = c .before .before .before in
+    ap (λ (k : ℕ). getD (start .args .s .now) (start .args .base + 6 * k + start .args .r % 3) nan) (c .before .step-at .ensures .0)
 
 pub run-at-spec : {M : Type 1} → statement M
 run-at-spec =

@@ -1,3 +1,4 @@
+-- `fit::kernel::state_for`: a second that is found lies below the end of the keys (proofs/Found.antt), so its state, or none, is the definition's. Assumes nothing.
 use mathlib.Core.Path.{_≡_, sym, ap, _∙_}
 use native.Mathlib.Omega.{arith}
 use Rattle.slices.specs.declared.Found.the-variants.{At}
@@ -13,22 +14,27 @@ use Rattle.fit.proofs.kernel.state_for.Tie as tie
 returns : tie.Need-returns
 unfolding stateFor
 returns c =
-    let a = c .before .before .before .before .before .before .before .args in
-    let p : lookup (a .keys .now) (wholeSecond (a .t)) ≡ At (c .before .before .before .found .given .0 .0) = sym (c .before .before .before .before .before .place .ensures (c .before .before .before .before .before .before .before .pre .0)) ∙ c .before .before .before .found .given .1 in
+    let at-found = c .before .before .before in
+    let at-place = at-found .before .before in
+    let a = at-place .before .before .args in
+    let p : lookup (a .keys .now) (wholeSecond (a .t)) ≡ At (at-found .found .given .0 .0) = sym (at-place .place .ensures (at-place .before .before .pre .0)) ∙ at-found .found .given .1 in
     ap Known (c .state-in .ensures) ∙ sym (ap (heldAt (a .states .now)) p)
 
 returns-2 : tie.Need-returns-2
 unfolding stateFor
 returns-2 c =
-    let a = c .before .before .before .before .before .before .args in
-    let p : lookup (a .keys .now) (wholeSecond (a .t)) ≡ At (c .before .before .found .given .0 .0) = sym (c .before .before .before .before .place .ensures (c .before .before .before .before .before .before .pre .0)) ∙ c .before .before .found .given .1 in
-    absurd (omega (arith, place-below (a .keys .now) (a .t) (c .before .before .found .given .0 .0) p, c .if1 .left))
+    let at-found = c .before .before in
+    let at-place = at-found .before .before in
+    let a = at-place .before .before .args in
+    let p : lookup (a .keys .now) (wholeSecond (a .t)) ≡ At (at-found .found .given .0 .0) = sym (at-place .place .ensures (at-place .before .before .pre .0)) ∙ at-found .found .given .1 in
+    absurd (omega (arith, place-below (a .keys .now) (a .t) (at-found .found .given .0 .0) p, c .if1 .left))
 
 returns-3 : tie.Need-returns-3
 unfolding stateFor
 returns-3 c =
-    let a = c .before .before .before .before .args in
-    sym (ap (heldAt (a .states .now)) (sym (c .before .before .place .ensures (c .before .before .before .before .pre .0)) ∙ c .enum-told .given .1))
+    let at-place = c .before .before in
+    let a = at-place .before .before .args in
+    sym (ap (heldAt (a .states .now)) (sym (at-place .place .ensures (at-place .before .before .pre .0)) ∙ c .enum-told .given .1))
 
 pub state-for-spec : {M : Type 1} → statement M
 state-for-spec =

@@ -1,5 +1,6 @@
+-- `fit::kernel::updated`: the first i of fifteen places hold the first i parameters, each with its scaled coefficient added. Assumes nothing.
 use Rattle.fit.specs.Fit.{updatedOf, scaleOf}
-use Rattle.least_squares.proofs.Laws.{row-more, row-whole}
+use Rattle.least_squares.proofs.MatrixLoops.{row-more, row-whole}
 use lib.ListN.{length, take, getD, length-set}
 use lib.Ieee.{Float, nan}
 use native.Mathlib.Omega.{arith}
@@ -22,13 +23,22 @@ unfolding row
 loop-holds c = (omega arith, refl, refl)
 
 loop-again : tie.Need-loop-again Inv-loop μ-loop
-loop-again c = (omega arith, simp length-set (c .before .before .loop .inv .1), row-more (c .before .before .loop .q) _ (c .before .before .loop .i) _ (c .before .before .loop .inv .2) (omega arith) (ap (λ (v : Float). getD (c .before .before .before .args .t1) (c .before .before .loop .i) nan ⊕ getD (c .before .before .before .args .t2) (c .before .before .loop .i) nan ⊗ v) (c .parameter-scale .ensures)))
+loop-again c =
+    let at-loop = c .before .before in (
+      omega arith,
+      simp length-set (at-loop .loop .inv .1),
+      row-more (at-loop .loop .q) _ (at-loop .loop .i) _ (at-loop .loop .inv .2) (omega arith)
+          (ap (λ (v : Float). getD (at-loop .before .args .t1) (at-loop .loop .i) nan ⊕ getD (at-loop .before .args .t2) (at-loop .loop .i) nan ⊗ v) (c .parameter-scale .ensures)),
+    )
 
 returns : tie.Need-returns Inv-loop μ-loop
 unfolding updatedOf
-returns c = row-whole (c .before .loop .q) _ (c .before .loop .i) 15 (c .before .loop .inv .2) (omega arith) (c .before .loop .inv .1)
+returns c =
+    let at-loop = c .before in
+    row-whole (at-loop .loop .q) _ (at-loop .loop .i) 15 (at-loop .loop .inv .2) (omega arith) (at-loop .loop .inv .1)
 
 pub updated-spec : {M : Type 1} → statement M
 updated-spec =
     tie.close
-    (tie.spec Inv-loop μ-loop loop-holds (λ c. search needs) (λ c. search needs) (λ c. search needs) (λ c. search needs) (λ c κs. search needs) (λ c. search needs) (λ c. search needs) (λ c. search needs) (λ c. search needs) loop-again returns)
+    (tie.spec Inv-loop μ-loop loop-holds (λ c. search needs) (λ c. search needs) (λ c. search needs) (λ c. search needs) (λ c κs. search needs) (λ c. search needs) (λ c. search needs)
+    (λ c. search needs) (λ c. search needs) loop-again returns)

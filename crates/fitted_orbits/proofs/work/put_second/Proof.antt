@@ -10,9 +10,10 @@ use Rattle.fitted_orbits.proofs.work.put_second.Tie as tie
 
 returns : tie.Need-returns
 returns c =
-    let k = c .before .whole-second .result .0 in
+    let at-whole-second = c .before in
+    let k = at-whole-second .whole-second .result .0 in
     let same : toZ w64 (ofZ w64 k) ≡ k = toZ-ofZ w64 k (search needs) in
-    ap (λ (z : ℤ). set (c .before .before .args .outkeys .now) (c .before .before .args .at) z) (same ∙ c .before .whole-second .ensures)
+    ap (λ (z : ℤ). set (at-whole-second .before .args .outkeys .now) (at-whole-second .before .args .at) z) (same ∙ at-whole-second .whole-second .ensures)
 
 pub put-second-spec : {M : Type 1} → statement M
 put-second-spec =

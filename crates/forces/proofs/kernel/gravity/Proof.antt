@@ -7,7 +7,15 @@ use Rattle.forces.proofs.kernel.gravity.Tie as tie
 
 returns : tie.Need-returns
 unfolding gravityWith gradient sineCosine
-returns c = simp (c .from-local .ensures, c .before .before .before .before .before .before .sine-cosine2 .ensures, c .before .before .before .before .before .before .before .sine-cosine .ensures, c .before .before .before .before .before .before .before .before .partials .ensures, c .before .before .before .before .before .before .before .before .before .place-of .ensures)
+returns c =
+    let at-sine-cosine2 = c .before .before .before .before .before .before in
+    simp (
+      c .from-local .ensures,
+      at-sine-cosine2 .sine-cosine2 .ensures,
+      at-sine-cosine2 .before .sine-cosine .ensures,
+      at-sine-cosine2 .before .before .partials .ensures,
+      at-sine-cosine2 .before .before .before .place-of .ensures,
+    )
 
 pub gravity-spec : {M : Type 1} → statement M
 gravity-spec =

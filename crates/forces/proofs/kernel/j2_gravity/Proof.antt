@@ -7,7 +7,9 @@ use Rattle.forces.proofs.kernel.j2_gravity.Tie as tie
 
 returns : tie.Need-returns
 unfolding j2Of ofBits number ofInt round
-returns c = simp (c .before .before .before .before .root .ensures, c .before .before .before .before .before .dot .ensures)
+returns c =
+    let at-root = c .before .before .before .before in
+    simp (at-root .root .ensures, at-root .before .dot .ensures)
 
 pub j2-gravity-spec : {M : Type 1} → statement M
 j2-gravity-spec = tie.close (tie.spec (λ c κs. search needs) (λ c κs. search needs) returns)

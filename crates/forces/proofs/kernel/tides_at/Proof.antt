@@ -8,12 +8,13 @@ use Rattle.forces.proofs.kernel.tides_at.Tie as tie
 returns : tie.Need-returns
 unfolding tidesAt ofBits number ofInt
 returns c =
+    let at-third-body2 = c .before .before in
     simp (
       c .add2 .ensures,
       c .before .add .ensures,
-      c .before .before .third-body2 .ensures,
-      c .before .before .before .third-body .ensures,
-      c .before .before .before .before .gravity .ensures,
+      at-third-body2 .third-body2 .ensures,
+      at-third-body2 .before .third-body .ensures,
+      at-third-body2 .before .before .gravity .ensures,
     )
 
 pub tides-at-spec : {M : Type 1} → statement M

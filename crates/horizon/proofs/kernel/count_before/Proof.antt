@@ -1,10 +1,11 @@
+-- `horizon::kernel::count_before`, from the last time to the first: the count is that of the times seen, and `last` ends their run. Assumes nothing.
 use mathlib.Core.Path.{_≡_}
 use Prim.Native.Nat.{_+_, _-_, _<_, _≤_}
 use native.Mathlib.Omega.{arith}
 use lib.ListN.{length, drop}
 use Rattle.finality.specs.Sheet.{count as countOf}
 use Rattle.horizon.specs.Horizon.{endAt}
-use Rattle.horizon.proofs.Laws.{count-none, count-turn, count-small, count-all}
+use Rattle.horizon.proofs.FromTheBack.{count-none, count-turn, count-small, count-all}
 use borrow.Author.Needs.{needs}
 use Rattle.horizon.proofs.kernel.count_before.Statement.{statement}
 use Rattle.horizon.proofs.kernel.count_before.Tie as tie
@@ -20,17 +21,19 @@ loop-holds c = (search needs, λ h. absurd (omega arith), count-none (c .before 
 
 counted-requires : tie.Need-counted-requires Inv-loop μ-loop
 counted-requires c κs =
-    let l = c .before .before .loop in
-    let h : l .count ≤ length (c .before .before .before .before .args .times .now) - l .i = count-small _ (c .before .before .before .before .args .times .now) (l .i) (l .count) (l .inv .2) in
+    let at-loop = c .before .before in
+    let l = at-loop .loop in
+    let h : l .count ≤ length (at-loop .before .before .args .times .now) - l .i = count-small _ (at-loop .before .before .args .times .now) (l .i) (l .count) (l .inv .2) in
     search (needs, h)
 
 loop-again : tie.Need-loop-again Inv-loop μ-loop
 loop-again c =
-    let l = c .before .before .before .loop in
-    let ts = c .before .before .before .before .before .args .times .now in
+    let at-loop-test = c .before .before in
+    let l = at-loop-test .before .loop in
+    let ts = at-loop-test .before .before .before .args .times .now in
     let k : l .i - 1 + 1 ≡ l .i = omega arith in
     let last = c .before .run-last .ensures (λ h. rw k (l .inv .1 (omega arith))) in
-    (search needs, λ h. last, count-turn _ ts (l .i) (l .count) _ _ (c .before .before .loop-test .taken) (l .inv .0) last (l .inv .2) (c .counted .ensures))
+    (search needs, λ h. last, count-turn _ ts (l .i) (l .count) _ _ (at-loop-test .loop-test .taken) (l .inv .0) last (l .inv .2) (c .counted .ensures))
 
 returns : tie.Need-returns Inv-loop μ-loop
 returns c = search (needs, count-all)

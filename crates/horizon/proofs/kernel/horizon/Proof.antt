@@ -1,10 +1,11 @@
+-- `horizon::kernel::horizon`, from the last node to the first: no node seen so far is reached. Assumes nothing.
 use mathlib.Core.Path.{_≡_}
 use Prim.Native.Nat.{_-_, _≤_}
 use lib.ListN.{length, drop}
 use mathlib.Core.Option.{none}
 use Rattle.finality.specs.Sheet.{largest, reachedBy}
 use Rattle.horizon.specs.Horizon.{endsOf}
-use Rattle.horizon.proofs.Laws.{no-nodes, node-passes, node-fails, none-passes}
+use Rattle.horizon.proofs.FromTheBack.{no-nodes, node-passes, node-fails, none-passes}
 use borrow.Author.Needs.{needs}
 use Rattle.horizon.proofs.kernel.horizon.Statement.{statement}
 use Rattle.horizon.proofs.kernel.horizon.Tie as tie
@@ -16,7 +17,12 @@ abbrev μ-loop : tie.MeasureT-loop
 μ-loop nodes cstates dstates caccs daccs fields observed i₀ i = i
 
 loop-holds : tie.Need-loop-holds Inv-loop μ-loop
-loop-holds c = (search needs, no-nodes (reachedBy (endsOf (c .before .before .before .args .cstates .now) (c .before .before .before .args .dstates .now) (c .before .before .before .args .caccs .now) (c .before .before .before .args .daccs .now) (c .before .before .before .args .fields .now) (c .before .before .before .args .observed .now))) (c .before .before .before .args .nodes .now))
+loop-holds c =
+    let start = c .before .before .before in (
+      search needs,
+      no-nodes (reachedBy (endsOf (start .args .cstates .now) (start .args .dstates .now) (start .args .caccs .now) (start .args .daccs .now) (start .args .fields .now) (start .args .observed .now)))
+          (start .args .nodes .now),
+    )
 
 returns : tie.Need-returns Inv-loop μ-loop
 returns c = search (needs, node-passes)

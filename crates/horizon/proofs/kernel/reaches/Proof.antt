@@ -1,5 +1,5 @@
 use borrow.Author.Needs.{needs}
-use Rattle.horizon.proofs.Laws.{reaches-none, reaches-last}
+use Rattle.horizon.proofs.FromTheBack.{reaches-none, reaches-last}
 use lib.Ieee.{Float, nan}
 use Rattle.horizon.proofs.kernel.reaches.Statement.{statement}
 use Rattle.horizon.proofs.kernel.reaches.Tie as tie

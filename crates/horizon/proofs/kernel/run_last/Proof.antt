@@ -1,4 +1,4 @@
-use Rattle.horizon.proofs.Laws.{run-ends, run-goes-on, list-ends}
+use Rattle.horizon.proofs.FromTheBack.{run-ends, run-goes-on, list-ends}
 use borrow.Author.Needs.{needs}
 use Rattle.horizon.proofs.kernel.run_last.Statement.{statement}
 use Rattle.horizon.proofs.kernel.run_last.Tie as tie
@@ -15,4 +15,5 @@ returns-3 c = λ f. search (needs, list-ends)
 pub run-last-spec : {M : Type 1} → statement M
 run-last-spec =
     tie.close
-    (tie.spec (λ c. search needs) (λ c. search needs) (λ c. search needs) (λ c. search needs) (λ c. search needs) (λ c. search needs) (λ c. search needs) returns returns-2 (λ c. search needs) (λ c. search needs) returns-3)
+    (tie.spec (λ c. search needs) (λ c. search needs) (λ c. search needs) (λ c. search needs) (λ c. search needs) (λ c. search needs) (λ c. search needs) returns returns-2 (λ c. search needs)
+    (λ c. search needs) returns-3)

@@ -1,5 +1,6 @@
+-- `integrate::kernel::acceleration`: attraction, fictitious and empirical accelerations added are the definition's, by `accelerated` of ForceAndStep. Assumes nothing.
 use Rattle.integrate.proofs.ForceAndStep.{accelerated}
-use Rattle.integrate.specs.Force.{model}
+use Rattle.inputs.specs.Inputs.{modelOf}
 use borrow.Author.Needs.{needs}
 use Rattle.integrate.proofs.kernel.acceleration.Statement.{statement}
 use Rattle.integrate.proofs.kernel.acceleration.Tie as tie
@@ -27,9 +28,12 @@ same-length c = search needs
 
 returns : tie.Need-returns
 returns c =
-    let s = c .before .before .before .before .before .before .before .before .before .before .before .before .before .before .before .before .args in
-    accelerated (s .force) (model (s .degree) (s .field .now) (s .times .now) (s .added .now)) (s .a .now) (s .b .now) (s .w .now) _ (s .known) (s .arc) (s .e) (s .t) _ (s .x) (s .v) _ _ _ _ _
-    (c .before .before .before .before .before .before .before .before .attraction .ensures) (c .before .before .before .before .before .fictitious .ensures) (c .before .before .before .before .argument .ensures) (c .before .before .before .empirical .ensures) (c .before .add .ensures) (c .add2 .ensures)
+    let at-empirical = c .before .before .before in
+    let at-argument = at-empirical .before in
+    let at-attraction = at-argument .before .before .before .before in
+    let s = at-attraction .before .before .before .args in
+    accelerated (s .force) (modelOf (s .degree) (s .model)) (s .w .now) _ (s .known) (s .arc) (s .e) (s .t) _ (s .x) (s .v) _ _ _ _ _
+    (at-attraction .attraction .ensures) (at-argument .before .fictitious .ensures) (at-argument .argument .ensures) (at-empirical .empirical .ensures) (c .before .add .ensures) (c .add2 .ensures)
 
 pub acceleration-spec : {M : Type 1} → statement M
 acceleration-spec =

@@ -1,5 +1,7 @@
+-- `integrate::kernel::advance`: the step from time k gives the next state, stored at place k + 1, by `advanced` of proofs/ForceAndStep.antt. Assumes nothing.
 use Rattle.integrate.proofs.ForceAndStep.{advanced}
-use Rattle.integrate.specs.Force.{model, accelerationOf, attractionOf}
+use Rattle.integrate.specs.Force.{accelerationOf, attractionOf}
+use Rattle.inputs.specs.Inputs.{modelOf}
 use borrow.Author.Needs.{needs}
 use Rattle.integrate.proofs.kernel.advance.Statement.{statement}
 use Rattle.integrate.proofs.kernel.advance.Tie as tie
@@ -27,10 +29,14 @@ same-length c = search needs
 
 returns : tie.Need-returns
 returns c =
-    let s = c .before .before .before .before .before .before .before .before .before .before .before .before .before .before .before .before .args in
-    let M = model (s .degree) (s .field .now) (s .times .now) (s .added .now) in
-    advanced (s .force) M (s .w .now) _ _ (s .base) (s .k) (s .known) (accelerationOf (attractionOf (s .force) M (s .a .now) (s .b .now)) (s .arc) (s .e)) (s .arc .t0) _ (s .s) _
-    (c .before .before .before .before .before .before .before .before .before .before .before .before .before .before .before .before .pre .0) (c .before .before .before .before .before .before .before .before .before .before .before .before .before .before .before .before .pre .1) (c .before .before .before .before .before .before .before .before .before .before .before .before .before .before .before .before .pre .3) (c .before .before .before .before .before .before .before .before .before .time .ensures) (c .before .before .before .before .before .before .before .step .ensures) (c .before .before .put-state .ensures)
+    let at-put-state = c .before .before in
+    let at-step = at-put-state .before .before .before .before .before in
+    let at-time = at-step .before .before in
+    let start = at-time .before .before in
+    let s = start .args in
+    let M = modelOf (s .degree) (s .model) in
+    advanced (s .force) M (s .w .now) _ _ (s .base) (s .k) (s .known) (accelerationOf (attractionOf (s .force) M) (s .arc) (s .e)) (s .arc .t0) _ (s .s) _
+    (start .pre .0) (start .pre .1) (start .pre .3) (at-time .time .ensures) (at-step .step .ensures) (at-put-state .put-state .ensures)
 
 pub advance-spec : {M : Type 1} → statement M
 advance-spec =

@@ -1,3 +1,4 @@
+-- `integrate::kernel::attraction`: the full pull or that of J2, as the force says, each by its law of proofs/ForceAndStep.antt. Assumes nothing.
 use Rattle.integrate.proofs.ForceAndStep.{full-chosen, j2-chosen}
 use borrow.Author.Needs.{needs}
 use Rattle.integrate.proofs.kernel.attraction.Statement.{statement}

@@ -1,3 +1,4 @@
+-- `integrate::kernel::base_of`: eight times the triangle of the degree, with no product that wraps, since the degree is at most 180. Assumes nothing.
 use Rattle.laws.specs.Tables.{tri, square-small}
 use mathlib.Core.Path.{refl}
 use native.Mathlib.Omega.{arith}

@@ -1,8 +1,10 @@
+-- `integrate::kernel::fill`: cleared, prepared, and the field at t written over it, from what each call ensures, one after the other. Assumes nothing.
 use mathlib.Core.Path.{ap, _∙_}
 use mathlib.Core.List.{List}
 use lib.Ieee.{Float}
 use Rattle.model.specs.Calls.{atLeft}
 use Rattle.legendre.specs.Prepared.{prepared}
+use Rattle.inputs.specs.Inputs.{modelOf}
 use borrow.Author.Needs.{needs}
 use Rattle.integrate.proofs.kernel.fill.Statement.{statement}
 use Rattle.integrate.proofs.kernel.fill.Tie as tie
@@ -21,8 +23,11 @@ same-length c = search needs
 
 returns : tie.Need-returns
 returns c =
-    let s = c .before .before .before .before .before .before .before .before .before .before .before .before .before .before .before .before .args in
-    c .before .before .at .ensures ∙ ap (λ (l : List Float). atLeft (s .degree) (s .field .now) (s .times .now) (s .added .now) (s .t) l) (c .before .before .before .before .before .before .prepare .ensures ∙ ap (prepared (s .degree)) (c .before .before .before .before .before .before .before .before .before .before .clear .ensures))
+    let at-at = c .before .before in
+    let at-prepare = at-at .before .before .before .before in
+    let at-clear = at-prepare .before .before .before .before in
+    let s = at-clear .before .before .before .args in
+    at-at .at .ensures ∙ ap (λ (l : List Float). atLeft (modelOf (s .degree) (s .model)) (s .t) l) (at-prepare .prepare .ensures ∙ ap (prepared (s .degree)) (at-clear .clear .ensures))
 
 pub fill-spec : {M : Type 1} → statement M
 fill-spec = tie.close (tie.spec clear-requires prepare-requires at-requires same-length returns)

@@ -1,4 +1,6 @@
+-- `integrate::kernel::open`: the front filled at t makes the instant of t ready, and nothing behind it moves; by `opened` of proofs/ForceAndStep.antt. Assumes nothing.
 use Rattle.integrate.proofs.ForceAndStep.{opened}
+use Rattle.inputs.specs.Inputs.{modelOf}
 use borrow.Author.Needs.{needs}
 use Rattle.integrate.proofs.kernel.open.Statement.{statement}
 use Rattle.integrate.proofs.kernel.open.Tie as tie
@@ -22,7 +24,10 @@ same-length : tie.Need-same-length
 same-length c = search needs
 
 returns : tie.Need-returns
-returns c = let s = c .before .before .before .before .before .before .before .before .before .args in opened (s .degree) (s .base) (s .field .now) (s .times .now) (s .added .now) (s .w .now) _ (s .t) _ (c .before .before .before .before .before .before .before .before .before .pre .0) (c .before .before .before .before .before .before .before .before .before .pre .1) (c .before .before .before .fill .ensures) (c .sky-at .ensures)
+returns c =
+    let at-fill = c .before .before .before in
+    let start = at-fill .before .before .before in
+    let s = start .args in opened (modelOf (s .degree) (s .model)) (s .base) (s .w .now) _ (s .t) _ (start .pre .0) (start .pre .1) (at-fill .fill .ensures) (c .sky-at .ensures)
 
 pub open-spec : {M : Type 1} → statement M
 open-spec =

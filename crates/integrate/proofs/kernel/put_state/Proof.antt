@@ -6,8 +6,10 @@ use Rattle.integrate.proofs.kernel.put_state.Tie as tie
 
 returns : tie.Need-returns
 returns c =
-    let a = c .before .before .before .before .before .before .before .before .before .before .args in
-    stored _ _ _ (a .at) (a .s) (c .before .before .before .before .before .before .put .ensures) (c .before .before .put2 .ensures)
+    let at-put2 = c .before .before in
+    let at-put = at-put2 .before .before .before .before in
+    let a = at-put .before .before .before .before .args in
+    stored _ _ _ (a .at) (a .s) (at-put .put .ensures) (at-put2 .put2 .ensures)
 
 returns-2 : tie.Need-returns-2
 returns-2 c = not-stored _ _ _ (omega arith)

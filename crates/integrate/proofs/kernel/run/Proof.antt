@@ -1,5 +1,7 @@
+-- `integrate::kernel::run`: where the run fits it is flown from the parameters, else nothing is done; each by its law of proofs/ForceAndStep.antt. Assumes nothing.
 use Rattle.integrate.proofs.ForceAndStep.{ran, not-ran}
 use native.Mathlib.Omega.{arith}
+use Rattle.inputs.specs.Inputs.{modelOf}
 use borrow.Author.Needs.{needs}
 use Rattle.integrate.proofs.kernel.run.Statement.{statement}
 use Rattle.integrate.proofs.kernel.run.Tie as tie
@@ -20,26 +22,32 @@ state-in-requires : tie.Need-state-in-requires
 state-in-requires c κs = search needs
 
 run-from-requires : tie.Need-run-from-requires
-run-from-requires c κs = (
-  c .before .before .before .before .before .before .run-fits .ensures .few (c .before .before .before .before .before .if1 .taken),
-  c .before .before .before .before .base-of .ensures .0,
-  c .before .before .before .before .base-of .ensures .1,
-  omega (arith, c .before .before .before .before .base-of .ensures .0, c .before .before .before .before .before .before .run-fits .ensures .enough (c .before .before .before .before .before .if1 .taken)),
-)
+run-from-requires c κs =
+    let at-base-of = c .before .before .before .before in
+    let at-if1 = at-base-of .before in (
+      at-if1 .before .run-fits .ensures .few (at-if1 .if1 .taken),
+      at-base-of .base-of .ensures .0,
+      at-base-of .base-of .ensures .1,
+      omega (arith, at-base-of .base-of .ensures .0, at-if1 .before .run-fits .ensures .enough (at-if1 .if1 .taken)),
+    )
 
 same-length : tie.Need-same-length
 same-length c = search needs
 
 returns : tie.Need-returns
 returns c =
-    let s = c .before .before .before .before .before .before .before .before .before .before .before .before .before .before .before .before .args in
-    ran (s .force) (s .degree) (s .field .now) (s .times .now) (s .added .now) (s .a .now) (s .b .now) (s .t9) (s .w .now) _ (s .arc) _ _ (c .before .before .before .before .before .before .before .before .before .run-fits .ensures) _ _ (c .before .before .before .before .before .before .before .before .if1 .taken)
-    (c .before .before .before .before .before .before .before .base-of .ensures .0) (c .before .before .before .before .before .before .strengths .ensures) (c .before .before .before .before .state-in .ensures) (c .before .before .run-from .ensures)
+    let at-run-from = c .before .before in
+    let at-state-in = at-run-from .before .before in
+    let at-strengths = at-state-in .before .before in
+    let at-if1 = at-strengths .before .before in
+    let s = at-if1 .before .before .before .args in
+    ran (s .force) (modelOf (s .degree) (s .model)) (s .t5) (s .w .now) _ (s .arc) _ _ (at-if1 .before .run-fits .ensures) _ _ (at-if1 .if1 .taken)
+    (at-strengths .before .base-of .ensures .0) (at-strengths .strengths .ensures) (at-state-in .state-in .ensures) (at-run-from .run-from .ensures)
 
 returns-2 : tie.Need-returns-2
 returns-2 c =
-    let s = c .before .before .before .before .before .before .before .before .args in
-    not-ran (s .force) (s .degree) (s .field .now) (s .times .now) (s .added .now) (s .a .now) (s .b .now) (s .t9) (s .w .now) (s .w .now) (s .arc) 0 _ (c .before .run-fits .ensures) (c .if1 .left)
+    let s = c .before .before .before .args in
+    not-ran (s .force) (modelOf (s .degree) (s .model)) (s .t5) (s .w .now) (s .w .now) (s .arc) 0 _ (c .before .run-fits .ensures) (c .if1 .left)
 
 pub run-spec : {M : Type 1} → statement M
 run-spec =

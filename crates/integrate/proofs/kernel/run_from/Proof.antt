@@ -1,23 +1,26 @@
+-- `integrate::kernel::run_from`: after k steps the state is the definition's k-th, the first k + 1 stand in place, and the instant is ready for the force. Assumes nothing.
 use Rattle.integrate.proofs.ForceAndStep.{flown-first, flown-more}
 use Rattle.integrate.proofs.Places.{only-same, only-then}
-use Rattle.integrate.specs.Force.{model, accelerationOf, attractionOf}
+use Rattle.integrate.specs.Force.{accelerationOf, attractionOf}
 use Rattle.integrate.specs.Steps.{stateAt}
 use Rattle.integrate.specs.Room.{runSize, Only, Orbit}
 use Rattle.integrate.specs.Work.{ReadyFor}
 use mathlib.Core.Path.{_≡_, refl, _∙_}
 use Prim.Native.Nat.{_+_, _-_, _≤_}
 use native.Mathlib.Omega.{arith}
+use Rattle.inputs.specs.Inputs.{modelOf}
 use borrow.Author.Needs.{needs}
 use Rattle.integrate.proofs.kernel.run_from.Statement.{statement}
 use Rattle.integrate.proofs.kernel.run_from.Tie as tie
 
 abbrev Inv-loop : tie.InvT-loop
-Inv-loop force degree field a b times added arc e base w₀ known₀ state₀ k₀ k-end w known state k =
-    (k ≤ arc .steps) × (state ≡ stateAt (accelerationOf (attractionOf force (model degree field times added) a b) arc e) (arc .t0) state₀ k) × Orbit w base (stateAt (accelerationOf (attractionOf force (model degree field times added) a b) arc e) (arc .t0) state₀) (k + 1)
-    × ReadyFor force (model degree field times added) w known × Only 0 (base + runSize) w₀ w
+Inv-loop force degree model arc e base w₀ known₀ state₀ k₀ k-end w known state k =
+    (k ≤ arc .steps) × (state ≡ stateAt (accelerationOf (attractionOf force (modelOf degree model)) arc e) (arc .t0) state₀ k)
+    × Orbit w base (stateAt (accelerationOf (attractionOf force (modelOf degree model)) arc e) (arc .t0) state₀) (k + 1)
+    × ReadyFor force (modelOf degree model) w known × Only 0 (base + runSize) w₀ w
 
 abbrev μ-loop : tie.MeasureT-loop
-μ-loop force degree field a b times added arc e base w₀ known₀ state₀ k₀ k-end w known state k = arc .steps - k
+μ-loop force degree model arc e base w₀ known₀ state₀ k₀ k-end w known state k = arc .steps - k
 
 begin-requires : tie.Need-begin-requires Inv-loop μ-loop
 begin-requires c κs = search needs
@@ -28,40 +31,70 @@ put-state-requires c κs = search needs
 loop-holds : tie.Need-loop-holds Inv-loop μ-loop
 unfolding stateAt
 loop-holds c =
-    let s = c .before .before .before .before .before .before .before .before .before .before .before .before .before .before .args in
-    let M = model (s .degree) (s .field .now) (s .times .now) (s .added .now) in
-    let h = flown-first (s .force) M (s .w .now) _ _ (s .base) _ (accelerationOf (attractionOf (s .force) M (s .a .now) (s .b .now)) (s .arc) (s .e)) (s .arc .t0) (s .start) (c .before .before .before .before .before .before .before .before .before .before .before .before .before .before .pre .1) (c .before .before .before .before .before .before .before .before .before .before .before .before .before .before .pre .3) (c .before .before .before .before .before .before .begin .ensures) (c .before .before .put-state .ensures) in
+    let at-put-state = c .before .before in
+    let at-begin = at-put-state .before .before .before .before in
+    let start = at-begin .before .before .before in
+    let s = start .args in
+    let M = modelOf (s .degree) (s .model) in
+    let h = flown-first (s .force) M (s .w .now) _ _ (s .base) _ (accelerationOf (attractionOf (s .force) M) (s .arc) (s .e)) (s .arc .t0) (s .start) (start .pre .1) (start .pre .3)
+    (at-begin .begin .ensures) (at-put-state .put-state .ensures) in
     (omega arith, refl, h .0, h .2, only-same 0 (s .base + runSize) _)
 
 advance-requires : tie.Need-advance-requires Inv-loop μ-loop
-advance-requires c κs = (omega arith, c .before .before .before .before .before .before .before .before .before .before .before .before .before .before .before .before .before .pre .1, c .before .before .before .before .before .before .before .before .before .before .before .before .before .before .before .before .before .pre .2, omega (arith, c .before .before .loop .inv .4 .long, c .before .before .before .before .before .put-state .ensures .only .long, c .before .before .before .before .before .before .before .before .before .begin .ensures .only .long, c .before .before .before .before .before .before .before .before .before .before .before .before .before .before .before .before .before .pre .3))
+advance-requires c κs =
+    let at-loop = c .before .before in
+    let at-put-state = at-loop .before .before .before in
+    let at-begin = at-put-state .before .before .before .before in
+    let start = at-begin .before .before .before in
+    (omega arith, start .pre .1, start .pre .2, omega (arith, at-loop .loop .inv .4 .long, at-put-state .put-state .ensures .only .long, at-begin .begin .ensures .only .long, start .pre .3))
 
 add-k : tie.Need-add-k Inv-loop μ-loop
-add-k c = omega (arith, c .before .before .before .before .before .before .loop-test .taken, c .before .before .before .before .before .before .before .before .before .before .before .before .before .before .before .before .before .before .before .before .before .before .pre .0)
+add-k c =
+    let at-loop-test = c .before .before .before .before .before .before in
+    let at-begin = at-loop-test .before .before .before .before .before .before .before .before in
+    let start = at-begin .before .before .before in
+    omega (arith, at-loop-test .loop-test .taken, start .pre .0)
 
 loop-less : tie.Need-loop-less Inv-loop μ-loop
 loop-less c = search needs
 
 loop-again : tie.Need-loop-again Inv-loop μ-loop
 loop-again c =
-    let s = c .before .before .before .before .before .before .before .before .before .before .before .before .before .before .before .before .before .before .before .before .before .before .args in
-    let loop = c .before .before .before .before .before .before .before .loop in
-    let M = model (s .degree) (s .field .now) (s .times .now) (s .added .now) in
-    let g = flown-more (s .force) M (loop .w) _ (s .base) (loop .k) (loop .known) (accelerationOf (attractionOf (s .force) M (s .a .now) (s .b .now)) (s .arc) (s .e)) (s .arc .t0) (s .start) (loop .state) _ (loop .inv .1) (loop .inv .2) (loop .inv .3) (c .before .before .before .before .advance .ensures) in
-    (omega arith, g .0, g .1, g .2, only-then 0 (s .base + runSize) 0 (s .base + runSize) 0 (s .base + runSize) _ _ _ (loop .inv .4) (c .before .before .before .before .advance .ensures .only) (omega arith) (omega arith) (omega arith) (omega arith))
+    let at-advance = c .before .before .before .before in
+    let at-loop = at-advance .before .before .before in
+    let at-begin = at-loop .before .before .before .before .before .before .before in
+    let start = at-begin .before .before .before in
+    let s = start .args in
+    let loop = at-loop .loop in
+    let M = modelOf (s .degree) (s .model) in
+    let g = flown-more (s .force) M (loop .w) _ (s .base) (loop .k) (loop .known) (accelerationOf (attractionOf (s .force) M) (s .arc) (s .e)) (s .arc .t0) (s .start) (loop .state) _ (loop .inv .1)
+    (loop .inv .2) (loop .inv .3) (at-advance .advance .ensures) in (
+      omega arith,
+      g .0,
+      g .1,
+      g .2,
+      only-then 0 (s .base + runSize) 0 (s .base + runSize) 0 (s .base + runSize) _ _ _ (loop .inv .4) (at-advance .advance .ensures .only) (omega arith) (omega arith) (omega arith) (omega arith),
+    )
 
 same-length : tie.Need-same-length Inv-loop μ-loop
-same-length c = c .before .loop .inv .4 .long ∙ c .before .before .before .before .put-state .ensures .only .long ∙ c .before .before .before .before .before .before .before .before .begin .ensures .only .long
+same-length c =
+    let at-put-state = c .before .before .before .before in
+    c .before .loop .inv .4 .long ∙ at-put-state .put-state .ensures .only .long ∙ at-put-state .before .before .before .before .begin .ensures .only .long
 
 returns : tie.Need-returns Inv-loop μ-loop
 returns c =
-    let s = c .before .before .before .before .before .before .before .before .before .before .before .before .before .before .before .before .args in
-    let M = model (s .degree) (s .field .now) (s .times .now) (s .added .now) in
-    let h = flown-first (s .force) M (s .w .now) _ _ (s .base) _ (accelerationOf (attractionOf (s .force) M (s .a .now) (s .b .now)) (s .arc) (s .e)) (s .arc .t0) (s .start) (c .before .before .before .before .before .before .before .before .before .before .before .before .before .before .before .before .pre .1) (c .before .before .before .before .before .before .before .before .before .before .before .before .before .before .before .before .pre .3) (c .before .before .before .before .before .before .before .before .begin .ensures) (c .before .before .before .before .put-state .ensures) in
-    let end : c .before .loop .k ≡ s .arc .steps = omega arith in
+    let at-loop = c .before in
+    let at-put-state = at-loop .before .before .before in
+    let at-begin = at-put-state .before .before .before .before in
+    let start = at-begin .before .before .before in
+    let s = start .args in
+    let M = modelOf (s .degree) (s .model) in
+    let h = flown-first (s .force) M (s .w .now) _ _ (s .base) _ (accelerationOf (attractionOf (s .force) M) (s .arc) (s .e)) (s .arc .t0) (s .start) (start .pre .1) (start .pre .3)
+    (at-begin .begin .ensures) (at-put-state .put-state .ensures) in
+    let end : at-loop .loop .k ≡ s .arc .steps = omega arith in
     record {
-      states = rw end at (c .before .loop .inv .2);
-      only = only-then 0 (s .base + runSize) 0 (s .base + runSize) 0 (s .base + runSize) _ _ _ (h .1) (c .before .loop .inv .4) (omega arith) (omega arith) (omega arith) (omega arith);
+      states = rw end at (at-loop .loop .inv .2);
+      only = only-then 0 (s .base + runSize) 0 (s .base + runSize) 0 (s .base + runSize) _ _ _ (h .1) (at-loop .loop .inv .4) (omega arith) (omega arith) (omega arith) (omega arith);
     }
 
 pub run-from-spec : {M : Type 1} → statement M

@@ -1,3 +1,4 @@
+-- `integrate::kernel::same_bits`: two numbers that are no NaN and have the same bits are equal; where a test fails nothing is claimed. Assumes nothing.
 use mathlib.Core.Path.{sym, subst}
 use mathlib.Core.Bool.{false≢true}
 use lib.Dec.{T}

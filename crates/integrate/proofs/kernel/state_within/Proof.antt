@@ -1,3 +1,4 @@
+-- `integrate::kernel::state_within`: six elements from place i on are the definition's state there, from what each call ensures, by rewriting. Assumes nothing.
 use Rattle.integrate.specs.Room.{stateIn}
 use borrow.Author.Needs.{needs}
 use Rattle.integrate.proofs.kernel.state_within.Statement.{statement}
@@ -38,7 +39,17 @@ element-requires-6 c κs = search needs
 
 returns : tie.Need-returns
 unfolding stateIn
-returns c = simp (c .element6 .ensures, c .before .element5 .ensures, c .before .before .element4 .ensures, c .before .before .before .element3 .ensures, c .before .before .before .before .element2 .ensures, c .before .before .before .before .before .element .ensures)
+returns c =
+    let at-element5 = c .before in
+    let at-element3 = at-element5 .before .before in
+    simp (
+      c .element6 .ensures,
+      at-element5 .element5 .ensures,
+      at-element5 .before .element4 .ensures,
+      at-element3 .element3 .ensures,
+      at-element3 .before .element2 .ensures,
+      at-element3 .before .before .element .ensures,
+    )
 
 pub state-within-spec : {M : Type 1} → statement M
 state-within-spec =

@@ -1,3 +1,4 @@
+-- `integrate::kernel::strengths`: the last nine of fifteen parameters, by computation. Assumes nothing.
 use Rattle.integrate.specs.Force.{strengthsOf}
 use Rattle.laws.specs.Tables.{row}
 use mathlib.Core.Path.{refl}

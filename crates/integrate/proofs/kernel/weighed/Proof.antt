@@ -1,3 +1,4 @@
+-- `integrate::kernel::weighed`: a + 2b + (2c + d), from what each call ensures, by rewriting. Assumes nothing.
 use Rattle.integrate.specs.Steps.{weighedOf}
 use borrow.Author.Needs.{needs}
 use Rattle.integrate.proofs.kernel.weighed.Statement.{statement}
@@ -20,7 +21,9 @@ add-requires-3 c κs = search needs
 
 returns : tie.Need-returns
 unfolding weighedOf
-returns c = simp (c .add3 .ensures, c .before .add2 .ensures, c .before .before .scale2 .ensures, c .before .before .before .add .ensures, c .before .before .before .before .scale .ensures)
+returns c =
+    let at-scale2 = c .before .before in
+    simp (c .add3 .ensures, c .before .add2 .ensures, at-scale2 .scale2 .ensures, at-scale2 .before .add .ensures, at-scale2 .before .before .scale .ensures)
 
 pub weighed-spec : {M : Type 1} → statement M
 weighed-spec =

@@ -1,4 +1,5 @@
-use Rattle.least_squares.proofs.Laws.{row-more, row-whole}
+-- `least_squares::kernel::betas`: the first i of fifteen places hold the first i coefficients. Assumes nothing.
+use Rattle.least_squares.proofs.MatrixLoops.{row-more, row-whole}
 use lib.ListN.{length, take, length-set}
 use native.Mathlib.Omega.{arith}
 use Prim.Native.Nat.{_-_, _≤_}
@@ -22,12 +23,17 @@ loop-holds c = (omega arith, refl, refl)
 
 loop-again : tie.Need-loop-again Inv-loop μ-loop
 unfolding coefficientAt
-loop-again c = (omega arith, simp length-set (c .before .before .before .loop .inv .1), row-more (c .before .before .before .loop .beta) _ (c .before .before .before .loop .i) _ (c .before .before .before .loop .inv .2) (omega arith) refl)
+loop-again c =
+    let at-loop = c .before .before .before in
+    (omega arith, simp length-set (at-loop .loop .inv .1), row-more (at-loop .loop .beta) _ (at-loop .loop .i) _ (at-loop .loop .inv .2) (omega arith) refl)
 
 returns : tie.Need-returns Inv-loop μ-loop
-returns c = row-whole (c .before .loop .beta) _ (c .before .loop .i) 15 (c .before .loop .inv .2) (omega arith) (c .before .loop .inv .1)
+returns c =
+    let at-loop = c .before in
+    row-whole (at-loop .loop .beta) _ (at-loop .loop .i) 15 (at-loop .loop .inv .2) (omega arith) (at-loop .loop .inv .1)
 
 pub betas-spec : {M : Type 1} → statement M
 betas-spec =
     tie.close
-    (tie.spec Inv-loop μ-loop loop-holds (λ c. search needs) (λ c. search needs) (λ c. search needs) (λ c. search needs) (λ c. search needs) (λ c. search needs) (λ c. search needs) (λ c. search needs) (λ c. search needs) (λ c. search needs) (λ c. search needs) (λ c. search needs) loop-again returns)
+    (tie.spec Inv-loop μ-loop loop-holds (λ c. search needs) (λ c. search needs) (λ c. search needs) (λ c. search needs) (λ c. search needs) (λ c. search needs) (λ c. search needs) (λ c. search needs)
+    (λ c. search needs) (λ c. search needs) (λ c. search needs) (λ c. search needs) loop-again returns)

@@ -1,5 +1,5 @@
 use borrow.Author.Needs.{needs}
-use Rattle.least_squares.proofs.Shapes.{shape-rows, shape-few, shape-places, shaped, unshaped, shaped-is, unshaped-is}
+use Rattle.least_squares.proofs.KernelShapes.{shape-rows, shape-few, shape-places, shaped, unshaped, shaped-is, unshaped-is}
 use Rattle.least_squares.proofs.kernel.coefficients.Statement.{statement}
 use Rattle.least_squares.proofs.kernel.coefficients.Tie as tie
 

@@ -1,8 +1,9 @@
+-- `least_squares::kernel::eliminate`: after i rows the array holds the matrix with column c eliminated from these rows. Assumes nothing.
 use mathlib.Core.Path.{_≡_, _∙_}
 use mathlib.Core.Logic.{⊎-elim}
 use Prim.Native.Nat.{_+_, _-_, _≤_}
 use native.Mathlib.Omega.{arith}
-use Rattle.least_squares.proofs.Laws.{Holds, as-it-is, whole, flat-holds, holds-same, eliminated-none, eliminated-skip, eliminated-more}
+use Rattle.least_squares.proofs.MatrixLoops.{Holds, as-it-is, whole, flat-holds, holds-same, eliminated-none, eliminated-skip, eliminated-more}
 use Rattle.least_squares.specs.Flat.{eliminatedTo, reducedTo, view}
 use Rattle.least_squares.proofs.kernel.eliminate.Statement.{statement}
 use Rattle.least_squares.proofs.kernel.eliminate.Tie as tie

@@ -1,3 +1,4 @@
+-- `least_squares::kernel::entry`, an entry of the normal equations: the sum after r rows is the definition's sum of r products. Assumes nothing.
 use mathlib.Core.Path.{_≡_, refl}
 use Prim.Native.Nat.{ℕ, _-_, _≤_}
 use native.Mathlib.Omega.{arith}

@@ -1,5 +1,6 @@
+-- `least_squares::kernel::pivot`: the best row so far is the definition's choice among the rows seen. Assumes nothing.
 use mathlib.Core.Logic.{⊎-elim}
-use Rattle.least_squares.proofs.Laws.{largest-none, largest-more}
+use Rattle.least_squares.proofs.MatrixLoops.{largest-none, largest-more}
 use mathlib.Core.Path.{_≡_, sym, ap, _∙_}
 use Prim.Native.Nat.{ℕ, _+_, _-_, _≤_, _<_}
 use native.Mathlib.Omega.{arith}
@@ -22,11 +23,15 @@ loop-holds c = (omega arith, omega arith, omega arith, largest-none _ _)
 
 loop-again : tie.Need-loop-again Inv-loop μ-loop
 loop-again c =
-    let s = c .before .before .before .before .before .before .before .before .args in
-    let loop = c .before .before .before .before .before .before .before .loop in
+    let at-reaches = c .before in
+    let at-magnitude = at-reaches .before .before .before in
+    let at-loop = at-magnitude .before .before .before in
+    let s = at-loop .before .args in
+    let loop = at-loop .loop in
     let m = view (s .a .now) in
-    let t : c .before .reaches .result ≡ reaches (magnitude (m (loop .i) (s .c))) (magnitude (m (largest m (s .c) (loop .i - (s .c + 1))) (s .c))) =
-    c .before .reaches .ensures ∙ simp (c .before .before .magnitude2 .ensures, c .before .before .before .before .magnitude .ensures) (ap (λ (r : ℕ). reaches (magnitude (m (loop .i) (s .c))) (magnitude (m r (s .c)))) (loop .inv .3)) in
+    let t : at-reaches .reaches .result ≡ reaches (magnitude (m (loop .i) (s .c))) (magnitude (m (largest m (s .c) (loop .i - (s .c + 1))) (s .c))) =
+    at-reaches .reaches .ensures ∙ simp (at-reaches .before .magnitude2 .ensures, at-magnitude .magnitude .ensures)
+    (ap (λ (r : ℕ). reaches (magnitude (m (loop .i) (s .c))) (magnitude (m r (s .c)))) (loop .inv .3)) in
     ⊎-elim
     (λ w. (omega arith, omega arith, omega arith, w .1 ∙ rw (sym t ∙ w .0 .taken) at (largest-more m (s .c) (loop .i) (loop .inv .0))))
     (λ w. (omega arith, omega arith, omega arith, w .1 ∙ loop .inv .3 ∙ rw (sym t ∙ w .0 .left) at (largest-more m (s .c) (loop .i) (loop .inv .0))))
@@ -40,4 +45,5 @@ returns c =
 pub pivot-spec : {M : Type 1} → statement M
 pivot-spec =
     tie.close
-    (tie.spec Inv-loop μ-loop (λ c. omega arith) loop-holds (λ c. omega arith) (λ c. omega arith) (λ c. omega arith) (λ c. omega arith) (λ c κs. search needs) (λ c. omega arith) (λ c. omega arith) (λ c. omega arith) (λ c. omega arith) (λ c κs. search needs) (λ c κs. search needs) (λ c. omega arith) (λ c. omega arith) loop-again returns)
+    (tie.spec Inv-loop μ-loop (λ c. omega arith) loop-holds (λ c. omega arith) (λ c. omega arith) (λ c. omega arith) (λ c. omega arith) (λ c κs. search needs) (λ c. omega arith) (λ c. omega arith)
+    (λ c. omega arith) (λ c. omega arith) (λ c κs. search needs) (λ c κs. search needs) (λ c. omega arith) (λ c. omega arith) loop-again returns)

@@ -1,8 +1,9 @@
-use Rattle.least_squares.proofs.Laws.{holds-same, reduced-none, reduced-more, reduced-at, reduced-col}
+-- `least_squares::kernel::reduce_row`: after k columns the array holds the matrix with row i reduced in these columns. Assumes nothing.
+use Rattle.least_squares.proofs.MatrixLoops.{holds-same, reduced-none, reduced-more, reduced-at, reduced-col}
 use mathlib.Core.Path.{_≡_, refl, _∙_}
 use Prim.Native.Nat.{_+_, _-_, _≤_}
 use native.Mathlib.Omega.{arith}
-use Rattle.least_squares.proofs.Laws.{Holds, as-it-is, store, whole}
+use Rattle.least_squares.proofs.MatrixLoops.{Holds, as-it-is, store, whole}
 use Rattle.least_squares.specs.Flat.{reducedTo, view}
 use Rattle.least_squares.proofs.kernel.reduce_row.Statement.{statement}
 use Rattle.least_squares.proofs.kernel.reduce_row.Tie as tie
@@ -21,8 +22,9 @@ loop-holds c =
 
 loop-again : tie.Need-loop-again Inv-loop μ-loop
 loop-again c =
-    let s = c .before .before .before .before .before .before .args in
-    let loop = c .before .before .before .loop in
+    let at-loop = c .before .before .before in
+    let s = at-loop .before .before .before .args in
+    let loop = at-loop .loop in
     let m = view (s .a .now) in
     let h = loop .inv .2 in (
       omega arith,
@@ -44,4 +46,6 @@ returns c =
 pub reduce-row-spec : {M : Type 1} → statement M
 reduce-row-spec =
     tie.close
-    (tie.spec Inv-loop μ-loop (λ c. omega arith) (λ c. omega arith) (λ c. omega arith) (λ c. omega arith) (λ c. omega arith) (λ c. omega arith) (λ c. omega arith) (λ c. omega arith) (λ c. omega arith) loop-holds (λ c. omega arith) (λ c. omega arith) (λ c. omega arith) (λ c. omega arith) (λ c. omega arith) (λ c. omega arith) (λ c. omega arith) (λ c. omega arith) (λ c. omega arith) (λ c. omega arith) (λ c. omega arith) (λ c. omega arith) (λ c. omega arith) (λ c. omega arith) loop-again returns)
+    (tie.spec Inv-loop μ-loop (λ c. omega arith) (λ c. omega arith) (λ c. omega arith) (λ c. omega arith) (λ c. omega arith) (λ c. omega arith) (λ c. omega arith) (λ c. omega arith) (λ c. omega arith)
+    loop-holds (λ c. omega arith) (λ c. omega arith) (λ c. omega arith) (λ c. omega arith) (λ c. omega arith) (λ c. omega arith) (λ c. omega arith) (λ c. omega arith) (λ c. omega arith)
+    (λ c. omega arith) (λ c. omega arith) (λ c. omega arith) (λ c. omega arith) (λ c. omega arith) loop-again returns)

@@ -1,3 +1,4 @@
+-- `least_squares::kernel::shape`: the tests in their order say whether rows, y and coefficients have the shape of the definition. Assumes nothing.
 use native.Mathlib.Omega.{arith}
 use native.Mathlib.Nat.{mul-le-mul, le-refl}
 use lib.ListN.{length}

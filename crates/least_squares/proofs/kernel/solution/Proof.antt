@@ -1,9 +1,10 @@
+-- `least_squares::kernel::solution`: the first i places hold the first i coefficients. Assumes nothing.
 use mathlib.Core.Path.{_≡_, refl}
 use Prim.Native.Nat.{_-_, _≤_}
 use native.Mathlib.Omega.{arith}
 use lib.ListN.{length, take, length-set}
 use borrow.Author.Needs.{needs}
-use Rattle.least_squares.proofs.Laws.{row-more, row-whole}
+use Rattle.least_squares.proofs.MatrixLoops.{row-more, row-whole}
 use Rattle.laws.specs.Tables.{row}
 use Rattle.least_squares.specs.Flat.{view}
 use Rattle.least_squares.specs.LeastSquares.{coefficientAt}
@@ -35,4 +36,5 @@ returns c =
 pub solution-spec : {M : Type 1} → statement M
 solution-spec =
     tie.close
-    (tie.spec Inv-loop μ-loop loop-holds (λ c. omega arith) (λ c. omega arith) (λ c. omega arith) (λ c. omega arith) (λ c. omega arith) (λ c. omega arith) (λ c. omega arith) (λ c. omega arith) (λ c. omega arith) (λ c. omega arith) (λ c. omega arith) (λ c. omega arith) loop-again (λ c. search needs) returns)
+    (tie.spec Inv-loop μ-loop loop-holds (λ c. omega arith) (λ c. omega arith) (λ c. omega arith) (λ c. omega arith) (λ c. omega arith) (λ c. omega arith) (λ c. omega arith) (λ c. omega arith)
+    (λ c. omega arith) (λ c. omega arith) (λ c. omega arith) (λ c. omega arith) loop-again (λ c. search needs) returns)

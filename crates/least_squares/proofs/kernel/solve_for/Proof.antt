@@ -2,8 +2,8 @@ use mathlib.Core.Path.{ap, _∙_}
 use native.Mathlib.Omega.{arith}
 use lib.ListN.{length}
 use borrow.Author.Needs.{needs}
-use Rattle.least_squares.proofs.Laws.{length-equations}
-use Rattle.least_squares.proofs.Shapes.{found, none, found-is, none-is}
+use Rattle.least_squares.proofs.MatrixLoops.{length-equations}
+use Rattle.least_squares.proofs.KernelShapes.{found, none, found-is, none-is}
 use Rattle.least_squares.proofs.kernel.solve_for.Statement.{statement}
 use Rattle.least_squares.proofs.kernel.solve_for.Tie as tie
 

@@ -1,8 +1,9 @@
-use Rattle.least_squares.proofs.Laws.{holds-same, store-put, swapped-none, swapped-col, swapped-more}
+-- `least_squares::kernel::swap_rows`: after k columns the array holds the matrix with the two rows swapped in these columns. Assumes nothing.
+use Rattle.least_squares.proofs.MatrixLoops.{holds-same, store-put, swapped-none, swapped-col, swapped-more}
 use mathlib.Core.Path.{_≡_, refl, _∙_}
 use Prim.Native.Nat.{_+_, _-_, _≤_}
 use native.Mathlib.Omega.{arith}
-use Rattle.least_squares.proofs.Laws.{Holds, as-it-is, whole}
+use Rattle.least_squares.proofs.MatrixLoops.{Holds, as-it-is, whole}
 use Rattle.least_squares.specs.Flat.{swappedTo, view}
 use Rattle.least_squares.proofs.kernel.swap_rows.Statement.{statement}
 use Rattle.least_squares.proofs.kernel.swap_rows.Tie as tie
@@ -21,8 +22,9 @@ loop-holds c =
 
 loop-again : tie.Need-loop-again Inv-loop μ-loop
 loop-again c =
-    let s = c .before .before .before .before .args in
-    let loop = c .before .before .before .loop in
+    let at-loop = c .before .before .before in
+    let s = at-loop .before .args in
+    let loop = at-loop .loop in
     let m = view (s .a .now) in
     let h = loop .inv .2 in
     let u = h .at (s .c) (loop .k) (omega arith) (omega arith) ∙ swapped-col (s .c) (s .q) (loop .k) m (s .c) in
@@ -43,4 +45,6 @@ returns c =
 pub swap-rows-spec : {M : Type 1} → statement M
 swap-rows-spec =
     tie.close
-    (tie.spec Inv-loop μ-loop (λ c. omega arith) loop-holds (λ c. omega arith) (λ c. omega arith) (λ c. omega arith) (λ c. omega arith) (λ c. omega arith) (λ c. omega arith) (λ c. omega arith) (λ c. omega arith) (λ c. omega arith) (λ c. omega arith) (λ c. omega arith) (λ c. omega arith) (λ c. omega arith) (λ c. omega arith) (λ c. omega arith) (λ c. omega arith) (λ c. omega arith) (λ c. omega arith) loop-again returns)
+    (tie.spec Inv-loop μ-loop (λ c. omega arith) loop-holds (λ c. omega arith) (λ c. omega arith) (λ c. omega arith) (λ c. omega arith) (λ c. omega arith) (λ c. omega arith) (λ c. omega arith)
+    (λ c. omega arith) (λ c. omega arith) (λ c. omega arith) (λ c. omega arith) (λ c. omega arith) (λ c. omega arith) (λ c. omega arith) (λ c. omega arith) (λ c. omega arith) (λ c. omega arith)
+    (λ c. omega arith) loop-again returns)

@@ -1,23 +1,32 @@
+-- `least_squares::kernel::value`: the place of row r and column j lies within the table, so the number read is the definition's. Assumes nothing.
 use native.Mathlib.Omega.{arith}
 use borrow.Author.Tests.{lt-ltb, le-ltb}
 use lib.ListN.{length}
-use Rattle.least_squares.proofs.Laws.{row-in}
+use Rattle.least_squares.proofs.MatrixLoops.{row-in}
 use borrow.Author.Needs.{needs}
 use Rattle.least_squares.specs.LeastSquares.{valueAt}
 use Rattle.least_squares.proofs.kernel.value.Statement.{statement}
 use Rattle.least_squares.proofs.kernel.value.Tie as tie
 
 mul-result : tie.Need-mul-result
-mul-result c = omega (arith, row-in (c .before .args .r) (length (c .before .args .y .now)) (c .before .args .p) (c .before .args .j) (c .before .pre .0) (c .if1 .taken))
+mul-result c =
+    let start = c .before in
+    omega (arith, row-in (start .args .r) (length (start .args .y .now)) (start .args .p) (start .args .j) (start .pre .0) (c .if1 .taken))
 
 add-result : tie.Need-add-result
-add-result c = omega (arith, row-in (c .before .args .r) (length (c .before .args .y .now)) (c .before .args .p) (c .before .args .j) (c .before .pre .0) (c .if1 .taken))
+add-result c =
+    let start = c .before in
+    omega (arith, row-in (start .args .r) (length (start .args .y .now)) (start .args .p) (start .args .j) (start .pre .0) (c .if1 .taken))
 
 mul-result-2 : tie.Need-mul-result-2
-mul-result-2 c = omega (arith, row-in (c .before .args .r) (length (c .before .args .y .now)) (c .before .args .p) (c .before .args .j) (c .before .pre .0) (c .if1 .taken))
+mul-result-2 c =
+    let start = c .before in
+    omega (arith, row-in (start .args .r) (length (start .args .y .now)) (start .args .p) (start .args .j) (start .pre .0) (c .if1 .taken))
 
 shared-slice-read-result : tie.Need-shared-slice-read-result
-shared-slice-read-result c = omega (arith, row-in (c .before .before .args .r) (length (c .before .before .args .y .now)) (c .before .before .args .p) (c .before .before .args .j) (c .before .before .pre .0) (c .before .if1 .taken))
+shared-slice-read-result c =
+    let start = c .before .before in
+    omega (arith, row-in (start .args .r) (length (start .args .y .now)) (start .args .p) (start .args .j) (start .pre .0) (c .before .if1 .taken))
 
 returns : tie.Need-returns
 unfolding valueAt

@@ -8,7 +8,7 @@ field-at-requires : tie.Need-field-at-requires
 field-at-requires c κs =
     let g = c .before .before .at-fits .ensures in
     let t = c .before .if1 .taken in
-    (g .degree t, g .static t, g .count t, g .fields t, g .room t)
+    record { degree = g .degree t; static = g .static t; count = g .count t; fields = g .fields t; room = g .room t }
 
 returns : tie.Need-returns
 returns c = search (needs, at-done)
@@ -17,4 +17,4 @@ returns-2 : tie.Need-returns-2
 returns-2 c = search (needs, at-not)
 
 pub at-spec : {M : Type 1} → statement M
-at-spec = tie.close (tie.spec (λ c κs. search needs) field-at-requires (λ c. search needs) returns returns-2)
+at-spec = tie.close (tie.spec (λ c. search needs) (λ c. search needs) (λ c. search needs) (λ c κs. search needs) field-at-requires (λ c. search needs) returns returns-2)

@@ -6,8 +6,10 @@ use Rattle.residuals.proofs.filling.add.Tie as tie
 
 returns : tie.Need-returns
 returns c =
-    let s = c .before .before .before .before .before .before .before .before .before .args in
-    added-kept (s .made) (s .filled) (lists (s .outtimes .now) (s .outresiduals .now) (s .outterms .now) (s .outmids .now) (s .outvels .now)) _ _ (c .before .before .before .before .before .before .if1 .taken) (c .before .epoch-finite .ensures) (c .both .ensures)
+    let at-if1 = c .before .before .before .before .before .before in
+    let s = at-if1 .before .before .before .args in
+    added-kept (s .made) (s .filled) (lists (s .outtimes .now) (s .outresiduals .now) (s .outterms .now) (s .outmids .now) (s .outvels .now)) _ _ (at-if1 .if1 .taken)
+    (c .before .epoch-finite .ensures) (c .both .ensures)
 
 returns-2 : tie.Need-returns-2
 returns-2 c =
@@ -17,4 +19,6 @@ returns-2 c =
 pub add-spec : {M : Type 1} → statement M
 add-spec =
     tie.close
-    (tie.spec (λ c. search needs) (λ c. search needs) (λ c. search needs) (λ c. search needs) (λ c. search needs) (λ c. search needs) (λ c. search needs) (λ c. search needs) (λ c. search needs) (λ c. search needs) (λ c κs. search needs) (λ c κs. search needs) (λ c. search needs) (λ c. search needs) (λ c. search needs) (λ c. search needs) (λ c. search needs) (λ c. search needs) returns returns-2)
+    (tie.spec (λ c. search needs) (λ c. search needs) (λ c. search needs) (λ c. search needs) (λ c. search needs) (λ c. search needs) (λ c. search needs) (λ c. search needs) (λ c. search needs)
+    (λ c. search needs) (λ c κs. search needs) (λ c κs. search needs) (λ c. search needs) (λ c. search needs) (λ c. search needs) (λ c. search needs) (λ c. search needs) (λ c. search needs)
+    returns returns-2)

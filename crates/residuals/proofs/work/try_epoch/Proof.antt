@@ -1,6 +1,5 @@
-use Rattle.integrate.specs.Force.{model}
-use Rattle.epoch.specs.Kept.{keyed}
-use Rattle.residuals.specs.Inputs.{inputs}
+-- `residuals::work::try_epoch`: the record of an observation, if it is kept, from what the look-ups found. Assumes nothing.
+use Rattle.inputs.specs.Inputs.{modelOf, pairOf, inputs}
 use Rattle.residuals.proofs.Making.{tried}
 use borrow.Author.Needs.{needs}
 use Rattle.residuals.proofs.work.try_epoch.Statement.{statement}
@@ -17,8 +16,12 @@ same-length c = search needs
 
 returns : tie.Need-returns
 returns c =
-    let s = c .before .before .before .before .before .before .before .before .before .before .before .before .before .before .before .args in
-    tried (inputs (model (s .degree) (s .field .now) (s .times .now) (s .added .now)) (s .a .now) (s .b .now) (keyed (s .ckeys .now) (s .cstates .now)) (keyed (s .dkeys .now) (s .dstates .now)) (keyed (s .cacckeys .now) (s .caccs .now)) (keyed (s .dacckeys .now) (s .daccs .now))) (s .t) (s .observed) (s .good) (s .base) (s .w .now) _ _ _ (c .before .before .before .before .look .ensures) (c .before .before .before .before .before .before .before .before .before .before .before .before .before .before .before .pre .4) (c .before .before .before .before .before .before .before .before .before .before .before .before .before .before .before .pre .5) (c .before .before .try-seen .ensures)
+    let at-try-seen = c .before .before in
+    let at-look = at-try-seen .before .before in
+    let start = at-look .before .before in
+    let s = start .args in
+    tried (inputs (modelOf (s .degree) (s .model)) (pairOf (s .keys) (s .states)) (pairOf (s .acckeys) (s .accs))) (s .t) (s .observed) (s .good) (s .base) (s .w .now) _ _ _ (at-look .look .ensures)
+    (start .pre .4) (start .pre .5) (at-try-seen .try-seen .ensures)
 
 pub try-epoch-spec : {M : Type 1} → statement M
 try-epoch-spec = tie.close (tie.spec look-requires try-seen-requires same-length returns)

@@ -6,9 +6,11 @@ use Rattle.solid_tide.proofs.degree3.add_degree.Tie as tie
 returns : tie.Need-returns
 unfolding addDegree
 returns c =
+    let at-struct-known2 = c .before .before .before .before .before .before .before .before in
+    let at-float-of = at-struct-known2 .before .before in
     simp (
-      c .before .before .before .before .before .before .before .before .before .before .float-of .ensures,
-      c .before .before .before .before .before .before .before .before .before .before .before .order-sums .ensures,
+      at-float-of .float-of .ensures,
+      at-float-of .before .order-sums .ensures,
     )
 
 pub add-degree-spec : {M : Type 1} → statement M

@@ -1,3 +1,4 @@
+-- `solid_tide::degree3::order_sums`: the sums before order m are the definition's. Assumes nothing.
 use mathlib.Core.Path.{_≡_, refl, ap, _∙_}
 use Prim.Native.Nat.{_+_, _-_, _≤_}
 use native.Mathlib.Omega.{arith}

@@ -5,7 +5,9 @@ use Rattle.solid_tide.proofs.degree3.tables_of.Tie as tie
 
 returns : tie.Need-returns
 unfolding tablesOf
-returns c = simp (c .before .before .orders-of .ensures, c .before .before .before .derived .ensures, c .before .before .before .before .legendre .ensures)
+returns c =
+    let at-orders-of = c .before .before in
+    simp (at-orders-of .orders-of .ensures, at-orders-of .before .derived .ensures, at-orders-of .before .before .legendre .ensures)
 
 pub tables-of-spec : {M : Type 1} → statement M
 tables-of-spec = tie.close (tie.spec (λ c κs. search needs) (λ c κs. search needs) (λ c κs. search needs) returns)

@@ -8,11 +8,12 @@ use Rattle.solid_tide.proofs.kernel.solid_tide.Tie as tie
 returns : tie.Need-returns
 unfolding solidTide ofBits number ofInt
 returns c =
+    let at-raised-by2 = c .before .before .before .before .before .before .before .before in
     simp (
       c .both2 .ensures,
       c .before .both .ensures,
-      c .before .before .before .before .before .before .before .before .raised-by2 .ensures,
-      c .before .before .before .before .before .before .before .before .before .raised-by .ensures,
+      at-raised-by2 .raised-by2 .ensures,
+      at-raised-by2 .before .raised-by .ensures,
     )
 
 pub solid-tide-spec : {M : Type 1} → statement M

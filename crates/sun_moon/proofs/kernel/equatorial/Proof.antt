@@ -9,10 +9,12 @@ use Rattle.sun_moon.proofs.kernel.equatorial.Tie as tie
 returns : tie.Need-returns
 unfolding equatorial sineCosine ofBits number ofInt round
 returns c =
+    let at-struct-known = c .before .before .before .before .before .before .before .before in
+    let at-sine-cosine3 = at-struct-known .before in
     simp (
-      c .before .before .before .before .before .before .before .before .before .sine-cosine3 .ensures,
-      c .before .before .before .before .before .before .before .before .before .before .sine-cosine2 .ensures,
-      c .before .before .before .before .before .before .before .before .before .before .before .sine-cosine .ensures,
+      at-sine-cosine3 .sine-cosine3 .ensures,
+      at-sine-cosine3 .before .sine-cosine2 .ensures,
+      at-sine-cosine3 .before .before .sine-cosine .ensures,
     )
 
 pub equatorial-spec : {M : Type 1} → statement M

@@ -8,11 +8,13 @@ use Rattle.sun_moon.proofs.kernel.latitude.Tie as tie
 returns : tie.Need-returns
 unfolding latitude latitudeTerms ofBits number ofInt neg
 returns c =
+    let at-sine3 = c .before .before in
+    let at-sine2 = at-sine3 .before .before .before in
     simp (
       c .sine-terms .ensures,
-      c .before .before .sine3 .ensures,
-      c .before .before .before .before .before .sine2 .ensures,
-      c .before .before .before .before .before .before .sine .ensures,
+      at-sine3 .sine3 .ensures,
+      at-sine2 .sine2 .ensures,
+      at-sine2 .before .sine .ensures,
     )
 
 pub latitude-spec : {M : Type 1} → statement M

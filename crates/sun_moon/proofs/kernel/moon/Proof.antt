@@ -6,12 +6,13 @@ use Rattle.sun_moon.proofs.kernel.moon.Tie as tie
 returns : tie.Need-returns
 unfolding moon
 returns c =
+    let at-latitude = c .before .before in
     simp (
       c .equatorial .ensures,
       c .before .distance .ensures,
-      c .before .before .latitude .ensures,
-      c .before .before .before .longitude .ensures,
-      c .before .before .before .before .arguments-at .ensures,
+      at-latitude .latitude .ensures,
+      at-latitude .before .longitude .ensures,
+      at-latitude .before .before .arguments-at .ensures,
     )
 
 pub moon-spec : {M : Type 1} → statement M

@@ -1,3 +1,4 @@
+-- `sun_moon::kernel::sine_terms`: the sum so far, with the terms left added to it, is the sum over all terms. Assumes nothing.
 use mathlib.Core.Path.{_≡_, refl}
 use Prim.Native.Nat.{_<_, _≤_, _-_}
 use lib.ListN.{length, drop}
@@ -19,8 +20,9 @@ loop-holds c = (search needs, refl)
 
 loop-again : tie.Need-loop-again Inv-loop μ-loop
 loop-again c =
-    let h : c .before .before .before .before .loop .i < length (c .before .before .before .before .before .args .terms .now) = search needs in
-    (search needs, sine-step _ _ _ _ _ _ _ (c .before .angle .ensures) (c .sine .ensures) h (c .before .before .before .before .loop .inv .1))
+    let at-loop = c .before .before .before .before in
+    let h : at-loop .loop .i < length (at-loop .before .args .terms .now) = search needs in
+    (search needs, sine-step _ _ _ _ _ _ _ (c .before .angle .ensures) (c .sine .ensures) h (at-loop .loop .inv .1))
 
 returns : tie.Need-returns Inv-loop μ-loop
 returns c =
@@ -30,4 +32,5 @@ returns c =
 pub sine-terms-spec : {M : Type 1} → statement M
 sine-terms-spec =
     tie.close
-    (tie.spec Inv-loop μ-loop loop-holds (λ c. search needs) (λ c. search needs) (λ c. search needs) (λ c κs. search needs) (λ c κs. search needs) (λ c. search needs) (λ c. search needs) loop-again returns)
+    (tie.spec Inv-loop μ-loop loop-holds (λ c. search needs) (λ c. search needs) (λ c. search needs) (λ c κs. search needs) (λ c κs. search needs) (λ c. search needs) (λ c. search needs) loop-again
+    returns)

@@ -9,10 +9,11 @@ use Rattle.sun_moon.proofs.kernel.sun.Tie as tie
 returns : tie.Need-returns
 unfolding sun sunAnomaly sineCosine ofBits number ofInt round
 returns c =
+    let at-sine-cosine2 = c .before .before .before .before .before in
     simp (
       c .equatorial .ensures,
-      c .before .before .before .before .before .sine-cosine2 .ensures,
-      c .before .before .before .before .before .before .sine-cosine .ensures,
+      at-sine-cosine2 .sine-cosine2 .ensures,
+      at-sine-cosine2 .before .sine-cosine .ensures,
     )
 
 pub sun-spec : {M : Type 1} → statement M

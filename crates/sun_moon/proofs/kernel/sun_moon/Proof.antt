@@ -6,14 +6,16 @@ use Rattle.sun_moon.proofs.kernel.sun_moon.Tie as tie
 returns : tie.Need-returns
 unfolding sunMoon
 returns c =
+    let at-turned = c .before .before in
+    let at-sine-cosine = at-turned .before .before in
     simp (
       c .turned2 .ensures,
       c .before .moon .ensures,
-      c .before .before .turned .ensures,
-      c .before .before .before .sun .ensures,
-      c .before .before .before .before .sine-cosine .ensures,
-      c .before .before .before .before .before .sidereal .ensures,
-      c .before .before .before .before .before .before .centuries .ensures,
+      at-turned .turned .ensures,
+      at-turned .before .sun .ensures,
+      at-sine-cosine .sine-cosine .ensures,
+      at-sine-cosine .before .sidereal .ensures,
+      at-sine-cosine .before .before .centuries .ensures,
     )
 
 pub sun-moon-spec : {M : Type 1} → statement M

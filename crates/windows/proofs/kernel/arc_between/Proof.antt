@@ -1,3 +1,4 @@
+-- `windows::kernel::arc_between`: the start and the steps of a window shorter than 7,000 s, else an arc of no steps. Assumes nothing.
 use mathlib.Core.Path.{sym, _∙_}
 use Rattle.laws.specs.Order.{lt→le}
 use Rattle.windows.proofs.Arcs.{fine-says, arc-fine, arc-none}
@@ -15,7 +16,11 @@ steps-requires c κs =
     (f .ends .from, f .ends .to, lt→le (a .from) (a .to) (f .ends .order), f .short)
 
 returns : tie.Need-returns
-returns c = arc-fine (c .before .before .before .before .args .from) (c .before .before .before .before .args .to) _ _ _ (c .before .before .before .window-fine .ensures) (c .before .before .if1 .taken) (c .before .start .ensures) (c .steps .ensures .0)
+returns c =
+    let at-start = c .before in
+    let at-window-fine = at-start .before .before in
+    arc-fine (at-window-fine .before .args .from) (at-window-fine .before .args .to) _ _ _ (at-window-fine .window-fine .ensures) (at-start .before .if1 .taken) (at-start .start .ensures)
+    (c .steps .ensures .0)
 
 returns-2 : tie.Need-returns-2
 returns-2 c = arc-none (c .before .before .args .from) (c .before .before .args .to) _ (c .before .window-fine .ensures) (c .if1 .left)

@@ -1,3 +1,4 @@
+-- `windows::kernel::enter`: the second and the six numbers of a state at a place, and nothing else changed. Assumes nothing.
 use Rattle.windows.proofs.SlotStates.{entered}
 use Rattle.numbers.specs.Seconds.{wholeSecond}
 use Rattle.integrate.specs.Work.{Stored}
@@ -15,9 +16,11 @@ same-length c = c .before .before .put-state .ensures .only .long ∙ simp lengt
 
 returns : tie.Need-returns
 returns c =
-    let a = c .before .before .before .before .before .before .args in
+    let at-put-state = c .before .before in
+    let a = at-put-state .before .before .before .before .args in
     entered (a .s .now) _ (a .at) (wholeSecond (a .t)) (a .state) (omega arith)
-    (subst (λ (x : Float). Stored (set (a .s .now) (a .at) x) (c .before .before .put-state .last .0) (a .at + 1) (a .state)) (c .before .before .before .before .second-of .ensures) (c .before .before .put-state .ensures))
+    (subst (λ (x : Float). Stored (set (a .s .now) (a .at) x) (at-put-state .put-state .last .0) (a .at + 1) (a .state)) (at-put-state .before .before .second-of .ensures)
+    (at-put-state .put-state .ensures))
 
 pub enter-spec : {M : Type 1} → statement M
 enter-spec =

@@ -1,3 +1,4 @@
+-- `windows::kernel::floor`: zero, below zero by the ceiling of -x, above zero by the cut, each by its law of proofs/CutNumbers.antt. Assumes nothing.
 use mathlib.Core.Path.{_≡_, sym, ap, _∙_, subst}
 use mathlib.Core.Bool.{Bool, not}
 use Prim.Native.Nat.{ℕ}
@@ -14,15 +15,18 @@ returns : tie.Need-returns
 returns c = floor-zero (c .before .args .x) (subst T (sym (c .if1 .taken)) tt)
 
 ceil-requires : tie.Need-ceil-requires
-ceil-requires c κs = (over-zero (c .before .before .args .x) (subst T (sym (c .if2 .taken)) tt), under-highest (c .before .before .args .x) (c .before .before .pre .0))
+ceil-requires c κs =
+    let start = c .before .before in
+    (over-zero (start .args .x) (subst T (sym (c .if2 .taken)) tt), under-highest (start .args .x) (start .pre .0))
 
 returns-2 : tie.Need-returns-2
 unfolding number
 returns-2 c =
-    let start = c .before .before .before .before in
+    let at-ceil = c .before in
+    let start = at-ceil .before .before .before in
     let x = start .args .x in
-    let f : c .nearest-u64-to-f64 .result ≡ number (ceil (neg x)) = c .nearest-u64-to-f64 .ensures ∙ ap (λ (n : ℕ). ofInt binary64 (pos n)) (c .before .ceil .ensures) in
-    ap neg f ∙ floor-below x (start .pre .0) (subst T (sym (c .before .before .if2 .taken)) tt)
+    let f : c .nearest-u64-to-f64 .result ≡ number (ceil (neg x)) = c .nearest-u64-to-f64 .ensures ∙ ap (λ (n : ℕ). ofInt binary64 (pos n)) (at-ceil .ceil .ensures) in
+    ap neg f ∙ floor-below x (start .pre .0) (subst T (sym (at-ceil .before .if2 .taken)) tt)
 
 truncating-f64-to-u64-requires : tie.Need-truncating-f64-to-u64-requires
 truncating-f64-to-u64-requires c κs =
@@ -33,10 +37,11 @@ truncating-f64-to-u64-requires c κs =
 returns-3 : tie.Need-returns-3
 unfolding number
 returns-3 c =
-    let start = c .before .before .before .before in
+    let at-if2 = c .before .before in
+    let start = at-if2 .before .before in
     let x = start .args .x in
     c .nearest-u64-to-f642 .ensures ∙ ap (λ (n : ℕ). ofInt binary64 (pos n)) (c .before .truncating-f64-to-u64 .ensures)
-    ∙ floor-above x (start .pre .0) (start .pre .1) (subst (λ (b : Bool). T (not b)) (sym (c .before .before .before .if1 .left)) tt) (subst (λ (b : Bool). T (not b)) (sym (c .before .before .if2 .left)) tt)
+    ∙ floor-above x (start .pre .0) (start .pre .1) (subst (λ (b : Bool). T (not b)) (sym (at-if2 .before .if1 .left)) tt) (subst (λ (b : Bool). T (not b)) (sym (at-if2 .if2 .left)) tt)
 
 pub floor-spec : {M : Type 1} → statement M
 floor-spec = tie.close (tie.spec returns ceil-requires (λ c κs. search needs) returns-2 truncating-f64-to-u64-requires (λ c κs. search needs) returns-3)

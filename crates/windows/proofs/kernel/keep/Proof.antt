@@ -1,3 +1,4 @@
+-- `windows::kernel::keep`: after k steps the states among them that lie in the window stand in the slot, and n counts them. Assumes nothing.
 use Prim.Native.Nat.{_+_, _-_, _≤_}
 use native.Mathlib.Omega.{arith}
 use Rattle.windows.proofs.SlotStates.{Shelf, shelf-none, shelf-more, kept-all, few}
@@ -16,29 +17,33 @@ loop-holds c = (omega arith, shelf-none _ _ _ _ _ _)
 
 keep-step-requires : tie.Need-keep-step-requires Inv-loop μ-loop
 keep-step-requires c κs =
-    let start = c .before .before .before .before in
-    let a = start .args in
-    let pre = start .pre in
-    let most = few (a .t0) (a .from) (a .to) (c .before .before .loop .k) (a .steps + 1) (pre .0) (pre .1) (pre .3) (omega arith) in
-    (omega arith, pre .4, omega (arith, c .before .before .loop .inv .1 .counted, most), omega (arith, c .before .before .loop .inv .1 .only .long))
+    let at-loop = c .before .before in
+    let a = at-loop .before .before .args in
+    let pre = at-loop .before .before .pre in
+    let most = few (a .t0) (a .from) (a .to) (at-loop .loop .k) (a .steps + 1) (pre .0) (pre .1) (pre .3) (omega arith) in
+    (omega arith, pre .4, omega (arith, at-loop .loop .inv .1 .counted, most), omega (arith, at-loop .loop .inv .1 .only .long))
 
 loop-again : tie.Need-loop-again Inv-loop μ-loop
 loop-again c =
-    let start = c .before .before .before .before .before .before .before in
-    let a = start .args in
-    let pre = start .pre in
-    let loop = c .before .before .before .before .before .loop in
-    let most = few (a .t0) (a .from) (a .to) (loop .k) (a .steps + 1) (pre .0) (pre .1) (pre .3) (omega arith) in
-    (omega arith, shelf-more (a .t0) (a .from) (a .to) _ _ _ (a .base) (a .at) (loop .k) _ _ (pre .4) (omega arith) (omega (arith, loop .inv .1 .counted, most)) (loop .inv .1) (c .before .before .keep-step .ensures))
+    let at-keep-step = c .before .before in
+    let at-loop = at-keep-step .before .before .before in
+    let a = at-loop .before .before .args in
+    let pre = at-loop .before .before .pre in
+    let loop = at-loop .loop in
+    let most = few (a .t0) (a .from) (a .to) (loop .k) (a .steps + 1) (pre .0) (pre .1) (pre .3) (omega arith) in (
+      omega arith,
+      shelf-more (a .t0) (a .from) (a .to) _ _ _ (a .base) (a .at) (loop .k) _ _ (pre .4) (omega arith) (omega (arith, loop .inv .1 .counted, most)) (loop .inv .1) (at-keep-step .keep-step .ensures),
+    )
 
 same-length : tie.Need-same-length Inv-loop μ-loop
 same-length c = c .before .loop .inv .1 .only .long
 
 returns : tie.Need-returns Inv-loop μ-loop
 returns c =
-    let start = c .before .before .before in
+    let at-loop = c .before in
+    let start = at-loop .before .before in
     let a = start .args in
-    kept-all (a .t0) (a .from) (a .to) (a .steps) _ _ (a .base) (a .at) (c .before .loop .k) _ (start .pre .0) (start .pre .1) (omega arith) (c .before .loop .inv .1)
+    kept-all (a .t0) (a .from) (a .to) (a .steps) _ _ (a .base) (a .at) (at-loop .loop .k) _ (start .pre .0) (start .pre .1) (omega arith) (at-loop .loop .inv .1)
 
 pub keep-spec : {M : Type 1} → statement M
 keep-spec =

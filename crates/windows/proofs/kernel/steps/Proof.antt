@@ -1,3 +1,4 @@
+-- `windows::kernel::steps`: the number of steps is the definition's and at most 5302, by the bounds of proofs/Times.antt and crate `finality`. Assumes nothing.
 use mathlib.Core.Path.{_≡_, sym, ap, _∙_, subst}
 use native.Mathlib.Omega.{arith}
 use lib.Dec.{T}
@@ -6,7 +7,7 @@ use Rattle.laws.specs.Floats.{zero64, _⊕_, _⊖_, _⊘_}
 use Rattle.laws.specs.WholeNumbers.{ceil}
 use Rattle.laws.specs.Times.{step}
 use Rattle.finality.specs.Arcs.{halfHour, start, steps}
-use Rattle.finality.proofs.Windows.{steps-short}
+use Rattle.finality.proofs.WindowTimes.{steps-short}
 use Rattle.windows.specs.Slots.{highest}
 use Rattle.windows.proofs.Times.{steps-low, steps-high}
 use Rattle.windows.proofs.kernel.steps.Statement.{statement}

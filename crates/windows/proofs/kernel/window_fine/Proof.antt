@@ -6,7 +6,8 @@ use Rattle.windows.proofs.kernel.window_fine.Tie as tie
 returns : tie.Need-returns
 unfolding windowFine
 returns c =
-    simp (c .both3 .ensures, c .before .both2 .ensures, c .before .before .both .ensures, c .before .before .before .is-time2 .ensures, c .before .before .before .before .is-time .ensures)
+    let at-both = c .before .before in
+    simp (c .both3 .ensures, c .before .both2 .ensures, at-both .both .ensures, at-both .before .is-time2 .ensures, at-both .before .before .is-time .ensures)
 
 pub window-fine-spec : {M : Type 1} → statement M
 window-fine-spec =
