@@ -13,6 +13,7 @@ use Rattle.numbers.specs.Numbers.{sine, cosine}
 use Rattle.legendre.specs.Arrays.{from}
 use Rattle.legendre.specs.Legendre.{legendre, derived}
 use Rattle.legendre.specs.Rows.{Tables, legendreBy, derivedBy}
+use Rattle.legendre.specs.declared.Point.{Point}
 
 -- one degree, by order m: the coefficients, cos mλ, sin mλ, and the Legendre row with its derivative
 pub record Degree : Type 0 where
@@ -93,6 +94,10 @@ pub record Evaluation : Type 0 where
 
 abbrev pub evaluation : Tables → Float → Float → Float → List Float → List Float → Evaluation
 evaluation T t u lon c s = record { tables = T; t = t; u = u; lon = lon; c = c; s = s }
+
+-- at a point that the code carries as one
+abbrev pub evaluationAt : Point → Tables → List Float → List Float → Evaluation
+evaluationAt point T c s = evaluation T (point .sine) (point .cosine) (point .lon) c s
 
 abbrev pub degrees : Evaluation → ℕ → Degree
 degrees f n =

@@ -11,7 +11,7 @@ ghost use Rattle.laws.specs.Tables.{tri, row, rows};
 ghost use Rattle.legendre.specs.Legendre.{aOf, bOf, lowerOf, upperOf, ratio, diagonal, unscale, derivedRow};
 ghost use Rattle.legendre.specs.Arrays.{at, from, Begins, Has};
 ghost use Rattle.legendre.specs.Rows.{nextRow, tablesOf, legendreBy, derivedBy, Holds, Room};
-ghost use Rattle.legendre.specs.Sums.{RowSums, degreeOf, cosines, sines, evaluation, degrees, FieldRoom, AllSums};
+ghost use Rattle.legendre.specs.Sums.{RowSums, degreeOf, cosines, sines, evaluationAt, degrees, FieldRoom, AllSums};
 ghost use Rattle.legendre.specs.Field.{totals as totalsOf, size, Fits, fitsIn, finished, evaluationIn, partialsWith};
 ghost use Rattle.legendre.specs.Prepared.{factorOf, tabulated, prepared};
 ghost use Rattle.legendre.specs.Tables.{derivedFrom, derivedWith, legendreWith, derivativeWith};
@@ -329,13 +329,18 @@ pub struct Running {
     pub qn: f64,
 }
 
-// One degree: row n in the place of row n - 2, and its sums added. (u and lon are named by the contract alone.)
+// Where the series is summed: the ratio of the field's radius to the distance, sine and cosine of the latitude, the longitude.
+pub struct Point {
+    pub ratio: f64,
+    pub sine: f64,
+    pub cosine: f64,
+    pub lon: f64,
+}
+
+// One degree: row n in the place of row n - 2, and its sums added.
 fn one_row(
     n: usize,
-    q: f64,
-    t: f64,
-    u: f64,
-    lon: f64,
+    point: Point,
     a: &[f64],
     b: &[f64],
     lower: &[f64],
@@ -353,19 +358,20 @@ fn one_row(
     sum: Running,
 ) -> Running
     requires { ⌜ (n ≤ 180) × Room n (tablesOf (now a) (now b) (now lower) (now upper) (now heads))
-        × FieldRoom n (evaluation (tablesOf (now a) (now b) (now lower) (now upper) (now heads)) t u lon (now c) (now s)) × Has (n + 1) (unscale u) (now r)
-        × Holds (tablesOf (now a) (now b) (now lower) (now upper) (now heads)) t (suc n) (now q1)
-        × Holds (tablesOf (now a) (now b) (now lower) (now upper) (now heads)) t n (now q2) × (length (now p) ≡ 184) × (length (now d) ≡ 184)
-        × AllSums (evaluation (tablesOf (now a) (now b) (now lower) (now upper) (now heads)) t u lon (now c) (now s)) q n (sum .v) (sum .r) (sum .lat)
-        (sum .lon) (sum .qn) × Has (n + 1) (cosines lon) (now x) × Has (n + 1) (sines lon) (now y) ⌝ }
-    ensures { λ z. ⌜ Holds (tablesOf (now (a .entry)) (now (b .entry)) (now (lower .entry)) (now (upper .entry)) (now (heads .entry))) t (suc (suc n))
-        (now (q2 .exit)) × (length (now (p .exit)) ≡ 184) × (length (now (d .exit)) ≡ 184)
-        × AllSums (evaluation (tablesOf (now (a .entry)) (now (b .entry)) (now (lower .entry)) (now (upper .entry)) (now (heads .entry))) t u lon
-        (now (c .entry)) (now (s .entry))) q (n + 1) (z .v) (z .r) (z .lat) (z .lon) (z .qn) ⌝ }
+        × FieldRoom n (evaluationAt point (tablesOf (now a) (now b) (now lower) (now upper) (now heads)) (now c) (now s))
+        × Has (n + 1) (unscale (point .cosine)) (now r)
+        × Holds (tablesOf (now a) (now b) (now lower) (now upper) (now heads)) (point .sine) (suc n) (now q1)
+        × Holds (tablesOf (now a) (now b) (now lower) (now upper) (now heads)) (point .sine) n (now q2) × (length (now p) ≡ 184) × (length (now d) ≡ 184)
+        × AllSums (evaluationAt point (tablesOf (now a) (now b) (now lower) (now upper) (now heads)) (now c) (now s)) (point .ratio) n
+        (sum .v) (sum .r) (sum .lat) (sum .lon) (sum .qn) × Has (n + 1) (cosines (point .lon)) (now x) × Has (n + 1) (sines (point .lon)) (now y) ⌝ }
+    ensures { λ z. ⌜ Holds (tablesOf (now (a .entry)) (now (b .entry)) (now (lower .entry)) (now (upper .entry)) (now (heads .entry))) (point .sine)
+        (suc (suc n)) (now (q2 .exit)) × (length (now (p .exit)) ≡ 184) × (length (now (d .exit)) ≡ 184)
+        × AllSums (evaluationAt point (tablesOf (now (a .entry)) (now (b .entry)) (now (lower .entry)) (now (upper .entry)) (now (heads .entry)))
+        (now (c .entry)) (now (s .entry))) (point .ratio) (n + 1) (z .v) (z .r) (z .lat) (z .lon) (z .qn) ⌝ }
 {
     let w = float_of(n + 1);
     let k = tri_of(n);
-    legendre_row(n, k, t, heads[n], a, b, r, q1, q2, p);
+    legendre_row(n, k, point.sine, heads[n], a, b, r, q1, q2, p);
     derived_row(n, k, lower, upper, p, d);
     let z = row_sums(n, k, c, s, x, y, p, d);
     Running {
@@ -373,17 +379,14 @@ fn one_row(
         r: sum.r - w * sum.qn * z.v,
         lat: sum.lat + sum.qn * z.lat,
         lon: sum.lon + sum.qn * z.lon,
-        qn: sum.qn * q,
+        qn: sum.qn * point.ratio,
     }
 }
 
 // All degrees, two a turn: qa holds the rows of even degree, qb those of odd.
 fn all_rows(
     degree: usize,
-    q: f64,
-    t: f64,
-    u: f64,
-    lon: f64,
+    point: Point,
     a: &[f64],
     b: &[f64],
     lower: &[f64],
@@ -400,12 +403,12 @@ fn all_rows(
     d: &mut [f64; 184],
 ) -> Running
     requires { ⌜ (degree ≤ 180) × Room degree (tablesOf (now a) (now b) (now lower) (now upper) (now heads))
-        × FieldRoom degree (evaluation (tablesOf (now a) (now b) (now lower) (now upper) (now heads)) t u lon (now c) (now s))
-        × Has (degree + 1) (unscale u) (now r) × Holds (tablesOf (now a) (now b) (now lower) (now upper) (now heads)) t 0 (now qa)
-        × Holds (tablesOf (now a) (now b) (now lower) (now upper) (now heads)) t 1 (now qb) × (length (now p) ≡ 184) × (length (now d) ≡ 184)
-        × Has (degree + 1) (cosines lon) (now x) × Has (degree + 1) (sines lon) (now y) ⌝ }
-    ensures { λ z. ⌜ AllSums (evaluation (tablesOf (now (a .entry)) (now (b .entry)) (now (lower .entry)) (now (upper .entry)) (now (heads .entry))) t u lon
-        (now (c .entry)) (now (s .entry))) q (degree + 1) (z .v) (z .r) (z .lat) (z .lon) (z .qn) ⌝ }
+        × FieldRoom degree (evaluationAt point (tablesOf (now a) (now b) (now lower) (now upper) (now heads)) (now c) (now s))
+        × Has (degree + 1) (unscale (point .cosine)) (now r) × Holds (tablesOf (now a) (now b) (now lower) (now upper) (now heads)) (point .sine) 0 (now qa)
+        × Holds (tablesOf (now a) (now b) (now lower) (now upper) (now heads)) (point .sine) 1 (now qb) × (length (now p) ≡ 184) × (length (now d) ≡ 184)
+        × Has (degree + 1) (cosines (point .lon)) (now x) × Has (degree + 1) (sines (point .lon)) (now y) ⌝ }
+    ensures { λ z. ⌜ AllSums (evaluationAt point (tablesOf (now (a .entry)) (now (b .entry)) (now (lower .entry)) (now (upper .entry)) (now (heads .entry)))
+        (now (c .entry)) (now (s .entry))) (point .ratio) (degree + 1) (z .v) (z .r) (z .lat) (z .lon) (z .qn) ⌝ }
 {
     let mut sum = Running {
         v: 0.0,
@@ -418,10 +421,7 @@ fn all_rows(
     while n <= degree {
         sum = one_row(
             n,
-            q,
-            t,
-            u,
-            lon,
+            point,
             a,
             b,
             lower,
@@ -443,10 +443,7 @@ fn all_rows(
         }
         sum = one_row(
             n + 1,
-            q,
-            t,
-            u,
-            lon,
+            point,
             a,
             b,
             lower,
@@ -478,10 +475,7 @@ pub struct Totals {
 
 fn streamed(
     degree: usize,
-    q: f64,
-    t: f64,
-    u: f64,
-    lon: f64,
+    point: Point,
     a: &[f64],
     b: &[f64],
     lower: &[f64],
@@ -491,10 +485,10 @@ fn streamed(
     s: &[f64],
 ) -> Totals
     requires { ⌜ (degree ≤ 180) × Room degree (tablesOf (now a) (now b) (now lower) (now upper) (now heads))
-        × FieldRoom degree (evaluation (tablesOf (now a) (now b) (now lower) (now upper) (now heads)) t u lon (now c) (now s)) ⌝ }
-    ensures { λ z. ⌜ z ≡ totalsOf (degrees (evaluation
-        (tablesOf (now (a .entry)) (now (b .entry)) (now (lower .entry)) (now (upper .entry)) (now (heads .entry))) t u lon (now (c .entry))
-        (now (s .entry)))) q (degree + 1) ⌝ }
+        × FieldRoom degree (evaluationAt point (tablesOf (now a) (now b) (now lower) (now upper) (now heads)) (now c) (now s)) ⌝ }
+    ensures { λ z. ⌜ z ≡ totalsOf (degrees (evaluationAt point
+        (tablesOf (now (a .entry)) (now (b .entry)) (now (lower .entry)) (now (upper .entry)) (now (heads .entry))) (now (c .entry)) (now (s .entry))))
+        (point .ratio) (degree + 1) ⌝ }
 {
     let mut r = [0.0; 184];
     let mut x = [0.0; 184];
@@ -503,14 +497,11 @@ fn streamed(
     let mut qb = [0.0; 184];
     let mut p = [0.0; 184];
     let mut d = [0.0; 184];
-    unscale_row(degree, u, &mut r);
-    order_rows(degree, lon, &mut x, &mut y);
+    unscale_row(degree, point.cosine, &mut r);
+    order_rows(degree, point.lon, &mut x, &mut y);
     let z = all_rows(
         degree,
-        q,
-        t,
-        u,
-        lon,
+        point,
         a,
         b,
         lower,
@@ -573,12 +564,15 @@ fn partials_in(
     let l4 = 4 * l;
     let end = l4 + (degree + 1);
     let w = numbers::sine_cosine(lat);
+    let point = Point {
+        ratio: radius / r,
+        sine: w.sine,
+        cosine: w.cosine,
+        lon: lon,
+    };
     let z = streamed(
         degree,
-        radius / r,
-        w.sine,
-        w.cosine,
-        lon,
+        point,
         a,
         b,
         &work[l2..l3],

@@ -1,7 +1,7 @@
 -- `legendre::all_rows`: before degree n the two arrays hold the rows n and n + 1 start from, and the sums are those of the degrees below n. Assumes nothing.
 use Rattle.laws.specs.Sums.{sumTo}
 use Rattle.legendre.specs.Rows.{tablesOf, Holds}
-use Rattle.legendre.specs.Sums.{evaluation, AllSums, allV, allR, allLat, allLon, power}
+use Rattle.legendre.specs.Sums.{evaluationAt, AllSums, allV, allR, allLat, allLon, power}
 use Rattle.legendre.proofs.Recur.{holds-at, room-less, field-less, has-less}
 use Rattle.legendre.proofs.Added.{sums-at}
 use Prim.Native.Nat.{suc, _+_, _-_, _≤_}
@@ -12,12 +12,12 @@ use Rattle.legendre.proofs.all_rows.Statement.{statement}
 use Rattle.legendre.proofs.all_rows.Tie as tie
 
 abbrev Inv-loop : tie.InvT-loop
-Inv-loop degree q t u lon a b lower upper heads c s x y r qa₀ qb₀ p₀ d₀ sum₀ n₀ qa qb p d sum n =
-    (n ≤ degree + 1) × Holds (tablesOf a b lower upper heads) t n qa × Holds (tablesOf a b lower upper heads) t (suc n) qb × (length p ≡ 184) × (length d ≡ 184)
-    × AllSums (evaluation (tablesOf a b lower upper heads) t u lon c s) q n (sum .v) (sum .r) (sum .lat) (sum .lon) (sum .qn)
+Inv-loop degree point a b lower upper heads c s x y r qa₀ qb₀ p₀ d₀ sum₀ n₀ qa qb p d sum n =
+    (n ≤ degree + 1) × Holds (tablesOf a b lower upper heads) (point .sine) n qa × Holds (tablesOf a b lower upper heads) (point .sine) (suc n) qb × (length p ≡ 184) × (length d ≡ 184)
+    × AllSums (evaluationAt point (tablesOf a b lower upper heads) c s) (point .ratio) n (sum .v) (sum .r) (sum .lat) (sum .lon) (sum .qn)
 
 abbrev μ-loop : tie.MeasureT-loop
-μ-loop degree q t u lon a b lower upper heads c s x y r qa₀ qb₀ p₀ d₀ sum₀ n₀ qa qb p d sum n = degree + 1 - n
+μ-loop degree point a b lower upper heads c s x y r qa₀ qb₀ p₀ d₀ sum₀ n₀ qa qb p d sum n = degree + 1 - n
 
 loop-holds : tie.Need-loop-holds Inv-loop μ-loop
 unfolding allV allR allLat allLon power sumTo

@@ -1,6 +1,6 @@
 -- `legendre::one_row`: a row of Legendre functions, of derivatives and its sums, from what each call ensures, add one degree. Assumes nothing.
 use Rattle.legendre.specs.Rows.{tablesOf, Tables}
-use Rattle.legendre.specs.Sums.{evaluation, Evaluation}
+use Rattle.legendre.specs.Sums.{evaluationAt, Evaluation}
 use Rattle.legendre.specs.Arrays.{at}
 use Rattle.legendre.proofs.Recur.{p-is, d-is, row-sums-are, holds-next}
 use Rattle.legendre.proofs.Added.{all-more}
@@ -28,8 +28,8 @@ row-sums-requires c κs =
 
 returns : tie.Need-returns
 returns c =
-    let at-struct-known5 = c .before .before .before .before .before .before .before .before in
-    let at-row-sums = at-struct-known5 .before .before .before .before .before in
+    let at-struct-known6 = c .before .before .before .before .before .before .before .before in
+    let at-row-sums = at-struct-known6 .before .before .before .before .before .before in
     let at-derived-row = at-row-sums .before .before .before in
     let at-legendre-row = at-derived-row .before .before .before in
     let at-tri-of = at-legendre-row .before .before .before .before in
@@ -38,11 +38,12 @@ returns c =
     let a = start .args in
     let e = at-tri-of .tri-of .ensures .0 in
     let T : Tables = tablesOf (a .a .now) (a .b .now) (a .lower .now) (a .upper .now) (a .heads .now) in
-    let F : Evaluation = evaluation T (a .t) (a .u) (a .lon) (a .c .now) (a .s .now) in
-    let hp = p-is T (a .t) (a .n) (a .q1 .now) (a .q2 .now) (start .pre .4) (start .pre .5) (start .pre .0) (a .u) (start .pre .3) (rw e at (at-legendre-row .legendre-row .ensures .1)) in
-    let hd = d-is T (a .t) (a .u) (a .n) hp (rw e at (at-derived-row .derived-row .ensures)) in
+    let F : Evaluation = evaluationAt (a .point) T (a .c .now) (a .s .now) in
+    let hp = p-is T (a .point .sine) (a .n) (a .q1 .now) (a .q2 .now) (start .pre .4) (start .pre .5) (start .pre .0) (a .point .cosine) (start .pre .3)
+    (rw e at (at-legendre-row .legendre-row .ensures .1)) in
+    let hd = d-is T (a .point .sine) (a .point .cosine) (a .n) hp (rw e at (at-derived-row .derived-row .ensures)) in
     let hs = row-sums-are F (a .n) (start .pre .9) (start .pre .10) hp hd (rw e at (at-row-sums .row-sums .ensures)) in (
-      holds-next T (a .t) (a .n) (a .q1 .now) (a .q2 .now) (start .pre .4) (start .pre .5) (start .pre .0) (rw e at (at-legendre-row .legendre-row .ensures .0)),
+      holds-next T (a .point .sine) (a .n) (a .q1 .now) (a .q2 .now) (start .pre .4) (start .pre .5) (start .pre .0) (rw e at (at-legendre-row .legendre-row .ensures .0)),
       hp .len,
       hd .len,
       all-more (start .pre .8) hs (at-float-of .float-of .ensures),

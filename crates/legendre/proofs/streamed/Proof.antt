@@ -4,7 +4,7 @@ use Prim.Native.Nat.{_+_}
 use mathlib.Core.Path.{refl}
 use native.Mathlib.Omega.{arith}
 use Rattle.legendre.specs.Rows.{Tables, tablesOf}
-use Rattle.legendre.specs.Sums.{evaluation}
+use Rattle.legendre.specs.Sums.{evaluationAt}
 use Rattle.legendre.proofs.Recur.{zero-row}
 use Rattle.legendre.proofs.Added.{total-of}
 use Rattle.legendre.proofs.streamed.Statement.{statement}
@@ -19,7 +19,7 @@ all-rows-requires c κs =
     let a = start .args in
     let T : Tables = tablesOf (a .a .now) (a .b .now) (a .lower .now) (a .upper .now) (a .heads .now) in
     let g = at-order-rows .order-rows .ensures in
-    (start .pre .0, start .pre .1, start .pre .2, at-unscale-row .unscale-row .ensures, zero-row T (a .t) 0 (omega arith), zero-row T (a .t) 1 (omega arith), refl, refl, g .0, g .1)
+    (start .pre .0, start .pre .1, start .pre .2, at-unscale-row .unscale-row .ensures, zero-row T (a .point .sine) 0 (omega arith), zero-row T (a .point .sine) 1 (omega arith), refl, refl, g .0, g .1)
 
 returns : tie.Need-returns
 returns c =
@@ -28,7 +28,7 @@ returns c =
     let start = at-r .before .before .before .before .before .before .before .before in
     let a = start .args in
     let T : Tables = tablesOf (a .a .now) (a .b .now) (a .lower .now) (a .upper .now) (a .heads .now) in
-    total-of (evaluation T (a .t) (a .u) (a .lon) (a .c .now) (a .s .now)) (a .q) (a .degree + 1) (c .all-rows .ensures)
+    total-of (evaluationAt (a .point) T (a .c .now) (a .s .now)) (a .point .ratio) (a .degree + 1) (c .all-rows .ensures)
 
 pub streamed-spec : {M : Type 1} → statement M
 streamed-spec =
