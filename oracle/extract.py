@@ -1,6 +1,6 @@
 #!/usr/bin/env python3
-"""Extracts the needed items of the Rust source by name, puts document 01's elementary numbers in the place of std's,
-makes every item and field pub, and writes one file for src/source.rs to include.
+"""Extracts the needed items of the Rust source by name, puts document 01's elementary numbers and sums from +0.0 in the place of
+std's, makes every item and field pub, and writes one file for src/source.rs to include.
 
 Usage: extract.py SOURCE OUT [--std-sum]
 SOURCE is the folder with lab/src and crates/geopotential/src; --std-sum keeps Iterator::sum, which starts at -0.0.

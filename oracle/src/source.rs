@@ -1,4 +1,4 @@
-// The extracted Rust source, every item pub, over document 01's elementary numbers.
+// The extracted Rust source, every item pub, over document 01's elementary numbers and sums from +0.0.
 use crate::elementary::Elementary01;
 use std::f64::consts::PI;
 use std::sync::atomic::{AtomicUsize, Ordering};

@@ -1,6 +1,5 @@
 -- The gravity of the published series at a position, and the solid tide's, which is of degree 3 (synthesis.rs, `partials` and `acceleration_neu`; t1.rs,
--- `gravity`;
--- the coefficients are those of IERS Conventions 2010, eq. 6.6). Assumes nothing: definitions only.
+-- `gravity`; the coefficients are those of IERS Conventions 2010, eq. 6.6, with the source's Love numbers). Assumes nothing: definitions only.
 use Prim.Native.Nat.{ℕ, _+_}
 use mathlib.Core.List.{List}
 use lib.Ieee.{Float, neg}

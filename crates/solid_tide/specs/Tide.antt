@@ -33,7 +33,8 @@ ordersOf lon = record {
   sin = sine (number 0 ⊗ lon) ∷ sine (number 1 ⊗ lon) ∷ sine (number 2 ⊗ lon) ∷ sine (number 3 ⊗ lon) ∷ [];
 }
 
--- the nominal elastic Love numbers k₂₀, k₂₁, k₂₂ and k₃₀ to k₃₃, after three places of degrees 0 and 1
+-- the nominal elastic Love numbers k₂₀, k₂₁, k₂₂ and k₃₀ to k₃₃, after three places of degrees 0 and 1, as the source has them: table 6.3 of the
+-- Conventions has 0.094 for k₃₃
 unfoldable pub loveNumbers : List Float
 loveNumbers =
     zero64 ∷ zero64 ∷ zero64

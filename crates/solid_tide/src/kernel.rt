@@ -1,4 +1,4 @@
-// The coefficients of the solid-Earth tide (IERS Conventions 2010, eq. 6.6, nominal elastic Love numbers).
+// The coefficients of the solid-Earth tide (IERS Conventions 2010, eq. 6.6, with the source's Love numbers).
 // Tables by degree and order stand in ten numbers, (n, m) at n (n + 1) / 2 + m.
 ghost use mathlib.Core.Path.{_≡_};
 ghost use Prim.Native.Nat.{_+_, _≤_, _<_};
@@ -79,6 +79,7 @@ const UPPER: [f64; 10] = [
     0.0,
 ];
 
+// k₂₀, k₂₁, k₂₂ and k₃₀ to k₃₃, the last 0.094 in the Conventions' table 6.3.
 const LOVE: [f64; 10] = [
     0.0,
     0.0,
