@@ -6,9 +6,11 @@
 --   Meaning     the states of the fitted windows are those that crate `windows` keeps in its slots
 --   Answers     what `fitted_orbits` answers and leaves, in the cases of its code
 --   Published   with the tables of `Legendre::new` the call is that over the published series
+--   Numbers     the number of each answer, and when it has a value
 pub mod Guards
 pub mod Keeping
 pub mod Windows
 pub mod Meaning
 pub mod Answers
 pub mod Published
+pub mod Numbers

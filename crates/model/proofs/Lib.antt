@@ -7,6 +7,7 @@
 --   Checks      the tests that come before the work, and what the calls answer
 --   Stages      what crate `finality` takes of the model
 --   Instances   document 01's starred instances
+--   Numbers     the number of each answer, and when it has a value
 pub mod Times
 pub mod Within
 pub mod Append
@@ -14,3 +15,4 @@ pub mod Blend
 pub mod Checks
 pub mod Stages
 pub mod Instances
+pub mod Numbers
