@@ -8,6 +8,11 @@ use slices;
 
 const PI: f64 = 3.141592653589793;
 
+// Where each side's two sections begin.
+const HIGH_PASS: usize = 0;
+
+const LOW_PASS: usize = 10;
+
 // |b0 + b1/z + b2/z²|² at z = e^iw.
 fn trinomial(b0: f64, b1: f64, b2: f64, w: f64) -> f64 {
     let one = numbers::sine_cosine(w);
@@ -34,13 +39,11 @@ fn butterworth(x: f64) -> f64 {
     1.0 / (1.0 + numbers::power(x, 8))
 }
 
-// The high-pass sections come first, two for each side.
-fn high_pass(s: [f64; 20], w: f64) -> f64 {
-    section_power(s, 0, w) * section_power(s, 5, w)
-}
-
-fn low_pass(s: [f64; 20], w: f64) -> f64 {
-    section_power(s, 10, w) * section_power(s, 15, w)
+// The power that the two sections from k on pass.
+fn side_power(s: [f64; 20], k: usize, w: f64) -> f64
+    requires { ⌜ k ≤ 10 ⌝ }
+{
+    section_power(s, k, w) * section_power(s, k + 5, w)
 }
 
 // A section's sums cancel to (2 pi f dt)^2, at least 3.9e-5 here, so that some roundings of 2.2e-16 leave 1e-10.
@@ -58,21 +61,21 @@ fn design(t: Tally, low: f64, high: f64, dt: f64) -> Tally {
     let fall = 2.0 * PI * high * dt;
     let below = butterworth(half_tangent(rise) / half_tangent(rise / 2.0));
     let above = butterworth(half_tangent(2.0 * fall) / half_tangent(fall));
-    let a = power_row(t, b"low corner", 0.5, o, high_pass(s, rise));
+    let a = power_row(t, b"low corner", 0.5, o, side_power(s, HIGH_PASS, rise));
     let b = power_row(
         a,
         b"half the low corner",
         below,
         o,
-        high_pass(s, rise / 2.0),
+        side_power(s, HIGH_PASS, rise / 2.0),
     );
-    let c = power_row(b, b"high corner", 0.5, o, low_pass(s, fall));
+    let c = power_row(b, b"high corner", 0.5, o, side_power(s, LOW_PASS, fall));
     power_row(
         c,
         b"twice the high corner",
         above,
         o,
-        low_pass(s, 2.0 * fall),
+        side_power(s, LOW_PASS, 2.0 * fall),
     )
 }
 

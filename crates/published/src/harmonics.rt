@@ -1,5 +1,6 @@
 // The fully normalised Legendre functions of `compute_with_derivative`: closed forms to degree 3 (W. A. Heiskanen and H. Moritz, Physical Geodesy, 1967,
 // §1-14), and two sums of squares to degree 180 that follow from the addition theorem (§1-15).
+ghost use Prim.Native.Nat.{_≤_};
 use crate::table::Tally;
 use fields;
 use numbers;
@@ -44,33 +45,29 @@ fn to_degree_3(lat: f64) -> Functions {
     Functions { outcome, p }
 }
 
-// Rounding to 2.2e-16 a few times leaves 1e-14.
-fn form(t: Tally, what: &[u8], published: f64, outcome: slices::Outcome, ours: f64) -> Tally {
-    crate::table::row(
-        t,
-        what,
-        12,
-        published,
-        crate::table::given(outcome, ours),
-        1e-14,
-    )
+// The function at k. Rounding to 2.2e-16 a few times leaves 1e-14.
+fn form(t: Tally, what: &[u8], k: usize, published: [f64; 10], ours: Functions) -> Tally
+    requires { ⌜ k ≤ 9 ⌝ }
+{
+    let outcome = ours.outcome;
+    let p = ours.p;
+    let given = crate::table::given(outcome, p[k]);
+    crate::table::row(t, what, 12, published[k], given, 1e-14)
 }
 
 fn forms_at(t: Tally, lat: f64) -> Tally {
     let sc = numbers::sine_cosine(lat);
     let q = closed(sc.sine, sc.cosine);
     let ours = to_degree_3(lat);
-    let o = ours.outcome;
-    let p = ours.p;
-    let a = form(t, b"P(1,0)", q[1], o, p[1]);
-    let b = form(a, b"P(1,1)", q[2], o, p[2]);
-    let c = form(b, b"P(2,0)", q[3], o, p[3]);
-    let d = form(c, b"P(2,1)", q[4], o, p[4]);
-    let e = form(d, b"P(2,2)", q[5], o, p[5]);
-    let f = form(e, b"P(3,0)", q[6], o, p[6]);
-    let g = form(f, b"P(3,1)", q[7], o, p[7]);
-    let h = form(g, b"P(3,2)", q[8], o, p[8]);
-    form(h, b"P(3,3)", q[9], o, p[9])
+    let a = form(t, b"P(1,0)", 1, q, ours);
+    let b = form(a, b"P(1,1)", 2, q, ours);
+    let c = form(b, b"P(2,0)", 3, q, ours);
+    let d = form(c, b"P(2,1)", 4, q, ours);
+    let e = form(d, b"P(2,2)", 5, q, ours);
+    let f = form(e, b"P(3,0)", 6, q, ours);
+    let g = form(f, b"P(3,1)", 7, q, ours);
+    let h = form(g, b"P(3,2)", 8, q, ours);
+    form(h, b"P(3,3)", 9, q, ours)
 }
 
 pub fn closed_forms(t: Tally) -> Tally {

@@ -12,7 +12,10 @@ mod text;
 
 // Every group, one after another.
 fn groups() -> Tally {
-    let begun = table::none();
+    let begun = Tally {
+        shown: 0,
+        within: 0,
+    };
     let gravity = ellipsoid::group(begun);
     let eclipses = sky::eclipses(gravity);
     let distances = sky::distances(eclipses);

@@ -19,13 +19,6 @@ pub struct Tally {
     pub within: u32,
 }
 
-pub fn none() -> Tally {
-    Tally {
-        shown: 0,
-        within: 0,
-    }
-}
-
 // A number of an answer that has an outcome of its own.
 pub fn given(outcome: slices::Outcome, x: f64) -> Ours
     ensures { λ r. ⌜ r ≡ givenBy outcome x ⌝ }
