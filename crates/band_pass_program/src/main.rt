@@ -10,8 +10,8 @@ ghost use Rattle.band_pass_program.specs.Text.{isLine, textRefusal, colu
 ghost use Rattle.band_pass_program.specs.Text.{answer as answerOf};
 use filter;
 use hex;
-use io;
 use slices;
+use streams;
 
 fn is_word(text: &[u8], at: usize) -> bool
     ensures { λ r. ⌜ r ≡ isWord (wordAt (now (text .entry)) at) ⌝ }
@@ -221,21 +221,30 @@ fn answer(
     )
 }
 
-fn main() {
-    let mut text = [0u8; 135169];
+// Works out the answer to a text and writes it.
+fn say_answer(text: &[u8]) {
     let mut times = [0.0; 4096];
     let mut values = [0.0; 4096];
     let mut passed = [0.0; 4096];
     let mut scratch = [0.0; 32768];
     let mut out = [0u8; 135300];
-    let n = io::read_full(0, &mut text);
     let k = answer(
-        &text[..n],
+        text,
         &mut times,
         &mut values,
         &mut passed,
         &mut scratch,
         &mut out,
     );
-    io::write_all(1, &out[..k]);
+    streams::write(&out[..k]);
+}
+
+// An input that cannot be read has no answer, and one that ends has.
+fn main() {
+    let mut text = [0u8; 135169];
+    let got = streams::read(&mut text);
+    match got {
+        streams::Got::Bytes(n) => say_answer(&text[..n]),
+        streams::Got::Failed => streams::say_unread(),
+    }
 }

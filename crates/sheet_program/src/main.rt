@@ -7,16 +7,17 @@ ghost use lib.ListN.{length, take};
 ghost use lib.IntN.{pos};
 ghost use lib.Ieee.{nan};
 ghost use Rattle.io.specs.Counts.{Counts};
+ghost use Rattle.streams.specs.Got.{Within};
 ghost use Rattle.hex.specs.Digits.{decimalOf};
 ghost use Rattle.submission_text.specs.Text.{coefficients};
 ghost use Rattle.hex.specs.Printing.{refusedText, Printed};
 ghost use Rattle.sheet_program.specs.Text.{numberAt, wholeAt, countAt, nextAt, keyAt, byteAt, floatsFrom, keysFrom, bytesFrom, placesOf, Near, headText};
 ghost use Rattle.sheet_program.specs.Text.{termText, rowText, rowsText};
 use hex;
-use io;
 use legendre;
 use sheet;
 use slices;
+use streams;
 use submission_text;
 
 // ---- what the numbers of a text say
@@ -211,34 +212,65 @@ fn put_rows(
     68 * k
 }
 
+// What a refusal means, for people, on standard error.
+fn say_reason(n: u8) {
+    match n {
+        1 => streams::warn(b"pozsmeteg: no sheet: the degree is not from 2 to 180\n"),
+        2 => streams::warn(
+            b"pozsmeteg: no sheet: beyond the program's bounds: degree 12, 2 to 8 fields, 4 nodes, 12000 lines in every other list\n",
+        ),
+        4 => streams::warn(
+            b"pozsmeteg: no sheet: a number is not finite, or a time is not from 0 to 2147483648\n",
+        ),
+        5 => streams::warn(b"pozsmeteg: no sheet: the times of a list do not rise\n"),
+        10 => streams::warn(b"pozsmeteg: no sheet: a number worked out is not finite\n"),
+        11 => streams::warn(
+            b"pozsmeteg: no sheet: the text is not in the format of a submission\n",
+        ),
+        _ => streams::warn(b"pozsmeteg: no sheet\n"),
+    }
+}
+
 fn say_refusal(n: u8) {
     let mut out = [0u8; 64];
     let end = put_refusal(n, &mut out);
-    io::write_all(1, &out[..end]);
+    if streams::write(&out[..end]) {
+        say_reason(n);
+    }
 }
 
-fn say_head(kept: usize, entries: usize) {
+// Whether the head could be written.
+fn say_head(kept: usize, entries: usize) -> bool {
     let mut out = [0u8; 64];
     let end = put_head(kept, entries, &mut out);
-    io::write_all(1, &out[0..end]);
+    streams::write(&out[0..end])
 }
 
-// Writes so many entries from the i-th on.
-fn say_rows(i: usize, n: usize, times: &[f64], raws: &[f64], detrended: &[f64], passed: &[f64])
+// Writes so many entries from the i-th on, and whether it could.
+fn say_rows(
+    i: usize,
+    n: usize,
+    times: &[f64],
+    raws: &[f64],
+    detrended: &[f64],
+    passed: &[f64],
+) -> bool
     requires { ⌜ (i ≤ 100000) × (n ≤ 500) ⌝ }
 {
     let mut out = [0u8; 34000];
     let end = put_rows(i, n, times, raws, detrended, passed, &mut out);
-    io::write_all(1, &out[..end]);
+    streams::write(&out[..end])
 }
 
-// Writes the first entries, at most one for each time, in pieces.
+// Writes the first entries, at most one for each time, in pieces, and none behind one that could not be written.
 fn say_entries(kept: usize, times: &[f64], raws: &[f64], detrended: &[f64], passed: &[f64]) {
     let last = least(least(kept, times.len()), 12000);
     let mut i = 0;
     while i < last {
         let n = least(last - i, 500);
-        say_rows(i, n, times, raws, detrended, passed);
+        if !say_rows(i, n, times, raws, detrended, passed) {
+            return;
+        }
         if n == 0 {
             return;
         }
@@ -345,8 +377,9 @@ fn floats_in<'a>(
 fn say(answer: sheet::SheetAnswer, times: &[f64], raws: &[f64], detrended: &[f64], passed: &[f64]) {
     match answer {
         sheet::SheetAnswer::Accepted(kept, entries) => {
-            say_head(kept, entries);
-            say_entries(kept, times, raws, detrended, passed);
+            if say_head(kept, entries) {
+                say_entries(kept, times, raws, detrended, passed);
+            }
         }
         sheet::SheetAnswer::Refused(n) => say_refusal(n),
     }
@@ -511,60 +544,87 @@ fn answer(at: submission_text::Reading, scratch: &mut [f64]) {
 
 // ---- the program
 
-// Reads a line that ends with a line feed, or as much of it as there is room for.
-fn read_header(line: &mut [u8]) -> usize
-    ensures { λ r. ⌜ Counts r (now (line .exit)) ⌝ }
+// Whether a header ends with a byte: a line feed, or in the last place any but a digit.
+fn ends(b: u8, full: bool) -> bool {
+    if full { 10 <= hex::digit(b) } else { b == 10 }
+}
+
+// Reads a header, to its line feed. The last place takes each digit of a count for which there is no more room: one of so many digits is above every bound,
+// whichever they are. The turns are more than any input has bytes.
+fn read_header(line: &mut [u8]) -> streams::Got
+    requires { ⌜ 0 < length (now line) ⌝ }
+    ensures { λ r. ⌜ Within (now (line .exit)) r ⌝ }
 {
+    let last = line.len() - 1;
+    let mut turns: u64 = 1000000000000000000;
     let mut n = 0;
-    while n < line.len() {
+    while 0 < turns {
         let mut byte = [0u8; 1];
-        let got = io::read_full(0, &mut byte);
-        if got == 0 {
-            return n;
+        let got = streams::read(&mut byte);
+        let streams::Got::Bytes(k) = got else {
+            return streams::Got::Failed;
+        };
+        if k == 0 {
+            return streams::Got::Bytes(n);
         }
         line[n] = byte[0];
-        n += 1;
-        if byte[0] == 10 {
-            return n;
+        if ends(byte[0], n == last) {
+            return streams::Got::Bytes(n + 1);
         }
+        n = least(n + 1, last);
+        turns -= 1;
     }
-    n
+    streams::Got::Bytes(n)
 }
 
 // The next line of the input, 0 bytes at its end.
-fn read_line(length: usize, line: &mut [u8]) -> usize
-    ensures { λ r. ⌜ Counts r (now (line .exit)) ⌝ }
+fn read_line(length: usize, line: &mut [u8]) -> streams::Got
+    requires { ⌜ 0 < length (now line) ⌝ }
+    ensures { λ r. ⌜ Within (now (line .exit)) r ⌝ }
 {
     if length == 0 {
         return read_header(line);
     }
     if line.len() < length {
-        return 0;
+        return streams::Got::Bytes(0);
     }
-    io::read_full(0, &mut line[0..length])
+    streams::read(&mut line[0..length])
 }
 
-// Reads the input to its end, or to its first fault. The turns are more than a submission has lines.
-fn read_all(numbers: &mut [f64]) -> submission_text::Reading {
+// What the input was: a text, read to its end or to its first fault; or a read failed.
+enum Input {
+    Text(submission_text::Reading),
+    Failed,
+}
+
+// Reads the input. The turns are more than a submission has lines.
+fn read_all(numbers: &mut [f64]) -> Input {
     let mut line = [0u8; 3145];
     let mut turns: usize = 100000;
     let mut at = submission_text::start();
     while 0 < turns {
-        let n = read_line(submission_text::line_length(at), &mut line);
+        let got = read_line(submission_text::line_length(at), &mut line);
+        let streams::Got::Bytes(n) = got else {
+            return Input::Failed;
+        };
         at = submission_text::feed(&line[..n], at, numbers);
         if at.fault != 0 {
-            return at;
+            return Input::Text(at);
         }
         if at.section == 10 {
-            return at;
+            return Input::Text(at);
         }
         turns -= 1;
     }
-    at
+    Input::Text(at)
 }
 
+// An input that cannot be read has no answer, and one that ends has.
 fn main() {
     let mut scratch = [0.0; 419784];
-    let at = read_all(&mut scratch);
-    answer(at, &mut scratch);
+    let input = read_all(&mut scratch);
+    match input {
+        Input::Text(at) => answer(at, &mut scratch),
+        Input::Failed => streams::say_unread(),
+    }
 }
