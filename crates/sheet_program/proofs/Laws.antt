@@ -16,6 +16,9 @@ use Rattle.hex.proofs.Printing.{then, written-prints, refused-prints, printed-c
 use Rattle.hex.proofs.Laws.{digits-length}
 use Rattle.hex.specs.Printing.{lineFeed, refusedText, Printed}
 use Rattle.io.specs.Counts.{Counts}
+use Rattle.streams.specs.Got.{Within}
+use Rattle.streams.specs.declared.Got.{Got}
+use Rattle.streams.specs.declared.Got.the-variants.{Bytes, Failed}
 use Rattle.sheet_program.specs.Text.{numberAt, wholeAt, countAt, nextAt, keyAt, byteAt, floatsFrom, keysFrom, bytesFrom, placesOf as placesOf·program, headText, termText, rowText, rowsText}
 
 -- ---- numbers
@@ -217,11 +220,15 @@ rows-done ts xs ys zs i n k o out h g inv =
 pub counts : (n : ℕ) (xs : List ℕ) → n ≤ length xs → Counts n xs
 counts n xs h = (h, sym (length-take-le n xs h))
 
-pub set-fits : (line : List ℕ) (n b : ℕ) → n < length line → n + 1 ≤ length (set line n b)
-set-fits line n b h = rw (lib.ListN.length-set line n b) (omega arith)
+pub set-counts : (line : List ℕ) (n b last : ℕ) → n ≤ last → last < length line → Counts (n + 1) (set line n b)
+set-counts line n b last h g = counts (n + 1) (set line n b) (rw (lib.ListN.length-set line n b) (omega arith))
 
 pub counts-mid : (r k : ℕ) (xs ys : List ℕ) → Counts r ys → Counts r (putMid 0 k xs ys)
 counts-mid r k xs ys h = counts r (putMid 0 k xs ys) (omega (arith, h .0, length-append ys (postOf 0 k xs)))
+
+pub within-mid : (g : Got) (k : ℕ) (xs ys : List ℕ) → Within ys g → Within (putMid 0 k xs ys) g
+within-mid (Bytes r) k xs ys h = counts-mid r k xs ys h
+within-mid Failed k xs ys h = tt
 
 -- where its pieces end
 pub head-few : (o o1 o2 o3 o4 o5 : List ℕ) (a b c d r : ℕ) → Printed (107 ∷ 101 ∷ 112 ∷ 116 ∷ 32 ∷ []) o 0 o1 a → b ≤ a + 20 → Printed (32 ∷ 102 ∷ 105 ∷ 110 ∷ 97 ∷ 108 ∷ 32 ∷ []) o2 b o3 c →

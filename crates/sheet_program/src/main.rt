@@ -578,17 +578,17 @@ fn read_header(line: &mut [u8]) -> streams::Got
 }
 
 // The next line of the input, 0 bytes at its end.
-fn read_line(length: usize, line: &mut [u8]) -> streams::Got
+fn read_line(bytes: usize, line: &mut [u8]) -> streams::Got
     requires { ⌜ 0 < length (now line) ⌝ }
     ensures { λ r. ⌜ Within (now (line .exit)) r ⌝ }
 {
-    if length == 0 {
+    if bytes == 0 {
         return read_header(line);
     }
-    if line.len() < length {
+    if line.len() < bytes {
         return streams::Got::Bytes(0);
     }
-    streams::read(&mut line[0..length])
+    streams::read(&mut line[0..bytes])
 }
 
 // What the input was: a text, read to its end or to its first fault; or a read failed.

@@ -1,10 +1,10 @@
-use Rattle.sheet_program.proofs.Laws.{counts-mid}
+use Rattle.sheet_program.proofs.Laws.{within-mid}
 use borrow.Author.Needs.{needs}
 use Rattle.sheet_program.proofs.read_line.Statement.{statement}
 use Rattle.sheet_program.proofs.read_line.Tie as tie
 
 returns-3 : tie.Need-returns-3
-returns-3 c = search (needs, counts-mid)
+returns-3 c = search (needs, within-mid)
 
 pub read-line-spec : {M : Type 1} → statement M
 read-line-spec =

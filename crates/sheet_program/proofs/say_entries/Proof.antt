@@ -20,4 +20,4 @@ pub say-entries-spec : {M : Type 1} → statement M
 say-entries-spec =
     tie.close
     (tie.spec Inv-loop μ-loop (λ c κs. search needs) (λ c κs. search needs) loop-holds (λ c. search needs) (λ c κs. search needs) (λ c κs. search needs) (λ c. search needs) (λ c. search needs)
-    (λ c. search needs) loop-again (λ c. search needs))
+    (λ c. search needs) (λ c. search needs) loop-again (λ c. search needs))
