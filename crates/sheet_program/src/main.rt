@@ -549,8 +549,8 @@ fn ends(b: u8, full: bool) -> bool {
     if full { 10 <= hex::digit(b) } else { b == 10 }
 }
 
-// Reads a header, to its line feed. The last place takes each digit of a count for which there is no more room: one of so many digits is above every bound,
-// whichever they are. The turns are more than any input has bytes.
+// Reads a header, to its line feed. The last place takes each digit of a count for which there is no more room: of a count that long any digits may be left
+// out (`submission_text`, proofs/LongCounts.antt). The turns are more than any input has bytes.
 fn read_header(line: &mut [u8]) -> streams::Got
     requires { ⌜ 0 < length (now line) ⌝ }
     ensures { λ r. ⌜ Within (now (line .exit)) r ⌝ }

@@ -1,3 +1,4 @@
--- The proofs' own laws.
--- what a read brought, taken out of its answer
+-- What the functions' proofs cite.
+--
+--   Laws   what a read brought, taken out of its answer
 pub mod Laws

@@ -22,7 +22,7 @@ column text at (suc k) = floatAt text at ∷ column text (at + 17) k
 
 -- ---- headers
 
--- a count of more than 18 digits is above every bound
+-- a count of more than 18 digits, however many, is above every bound: 10^18 stands for it
 abbrev pub longCount : Bool → Parsed
 longCount true = Value 1000000000000000000
 longCount false = Malformed
@@ -54,7 +54,7 @@ names =
 unfoldable pub headerOf : ℕ → List ℕ → Parsed
 headerOf section line = cond (ltb section 9) (headerWith (getD names section []) line) Malformed
 
--- degree and static have one line, which is part of the format; the other counts have bounds
+-- degree and static have one line, which is part of the format: any other count is 11; a count beyond the bounds of another section, however long, is 2
 unfoldable pub outside : ℕ → ℕ
 outside section = cond (ltb section 2) 11 2
 
