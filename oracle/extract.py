@@ -81,6 +81,9 @@ out.append(item(T1, "struct Model")); out.append(item(T1, "impl Model"))
 for f in ["tides", "empirical", "j2_gravity", "integrate"]: out.append(fn(T1, f))
 out.append(item(T1, "struct Arc")); out.append(fn(T1, "fit_orbit"))
 out.append(item(T1, "type States")); out.append(fn(T1, "fitted_orbits"))
+# the arc of a window, two lines within fitted_orbits, as a function
+laid = [next(l for l in T1 if re.match(rf"\s+let {name} = .*1800\.0.*;$", l)).strip() for name in ("t0", "steps")]
+out.append("\n".join(["fn arc_of(a: f64, b: f64) -> Arc {", *laid, "Arc { t0, steps, node: a, period: b - a }", "}"]))
 out.append(item(T1, "struct Epoch")); out.append(item(T1, "struct Inputs"))
 for f in ["epoch", "residuals", "revolutions", "detrend", "remove_per_revolution", "ascending_nodes"]: out.append(fn(T1, f))
 out.append(item(T1, "type Biquad"))

@@ -6,13 +6,17 @@ pub struct Whole {
     pub lists: [Vec<f64>; 4], // time, raw, detrended, passed, kept entries only
     pub f: usize,
 }
+/// The last node that every list's last time reaches 1,804 s beyond.
+pub fn last_reached(nodes: &[f64], lasts: [Option<f64>; 6]) -> Option<f64> {
+    nodes.iter().rev().copied().find(|z| lasts.iter().all(|last| last.is_some_and(|last| z + 1804.0 <= last)))
+}
 pub fn horizon(s: &Submission) -> Option<f64> {
     let lasts = [
         s.states[0].last().map(|r| r.0 as f64), s.states[1].last().map(|r| r.0 as f64),
         s.acc[0].last().map(|r| r.0 as f64), s.acc[1].last().map(|r| r.0 as f64),
         s.fields.last().map(|r| r.0), s.obs.last().map(|r| r.0),
     ];
-    s.nodes.iter().rev().copied().find(|z| lasts.iter().all(|last| last.is_some_and(|last| z + 1804.0 <= last)))
+    last_reached(&s.nodes, lasts)
 }
 pub fn final_count(times: &[f64], z: Option<f64>) -> usize {
     let Some(z) = z else { return 0 };
