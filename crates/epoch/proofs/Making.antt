@@ -5,7 +5,7 @@ use mathlib.Core.Option.{Option, none, some}
 use mathlib.Core.List.{List, _++_}
 use Prim.Native.Nat.{ℕ, _+_, _-_, _≤_}
 use native.Mathlib.Omega.{arith}
-use lib.Dec.{ltb, leb}
+use lib.Dec.{leb}
 use lib.Ieee.{Float, nan}
 use lib.ListN.{length, take, drop, getD, replicate, length-append, length-drop, length-replicate}
 use lib.Seq.{length-take-le, getD-append-add, getD-drop}
@@ -27,7 +27,7 @@ use Rattle.integrate.specs.declared.kernel.State.{State}
 use Rattle.epoch.specs.declared.Sighting.{Sighting}
 use Rattle.epoch.specs.declared.Made.{Made}
 use Rattle.epoch.specs.Epoch.{epochWith}
-use Rattle.epoch.specs.Kept.{recordAt, seenBy, observation}
+use Rattle.epoch.specs.Kept.{recordAt, seenBy, isGood, observation}
 use Rattle.epoch.specs.Work.{sightingFrom, sightingOf, madeOf, Usable, Recorded, Tried, Opened}
 use Rattle.integrate.proofs.Places.{only-same}
 use Rattle.integrate.proofs.Front.{at-length, at-again, prepared-length, front-length, front-gravity, put-front}
@@ -133,7 +133,7 @@ pub first-true : (a b r : Bool) → r ≡ (a && b) → r ≡ true → a ≡ true
 first-true a b r e h = both-true a b (sym e ∙ h) .0
 
 module _ (M : Model) (t v : Float) (good base : ℕ) (w : List Float) (s : Sighting) (k r : Bool)
-    (ek : k ≡ ((ltb 0 good && covers (M .fields .fieldTimes) t) && s .all)) (er : r ≡ (leb base (length w) && k)) where
+    (ek : k ≡ ((isGood good && covers (M .fields .fieldTimes) t) && s .all)) (er : r ≡ (leb base (length w) && k)) where
   -- there is room where a record is made
   pub has-room : r ≡ true → base ≤ length w
   has-room h = leb-true base (length w) (first-true (leb base (length w)) k r er h)
@@ -143,7 +143,7 @@ module _ (M : Model) (t v : Float) (good base : ℕ) (w : List Float) (s : Sight
   unfolding seenBy
   tried-kept w' e h m = record {
     is = λ l u x y p q f. ap (λ (e : Epoch). record { kept = true; epoch = e }) (m .is u)
-        ∙ kept-made (recordAt M t v) (ltb 0 good && covers (M .fields .fieldTimes) t) x y p q s f (sym ek ∙ both-true (leb base (length w)) k (sym er ∙ h) .1);
+        ∙ kept-made (recordAt M t v) (isGood good && covers (M .fields .fieldTimes) t) x y p q s f (sym ek ∙ both-true (leb base (length w)) k (sym er ∙ h) .1);
     usable = λ l u. m .usable u;
     only = m .only;
   }
@@ -152,7 +152,7 @@ module _ (M : Model) (t v : Float) (good base : ℕ) (w : List Float) (s : Sight
   unfolding seenBy
   tried-not m h em = record {
     is = λ l u x y p q f. em
-        ∙ none-made (recordAt M t v) (ltb 0 good && covers (M .fields .fieldTimes) t) x y p q s f (sym ek ∙ sym (ap (λ (z : Bool). z && k) (le-leb base (length w) l)) ∙ sym er ∙ h);
+        ∙ none-made (recordAt M t v) (isGood good && covers (M .fields .fieldTimes) t) x y p q s f (sym ek ∙ sym (ap (λ (z : Bool). z && k) (le-leb base (length w) l)) ∙ sym er ∙ h);
     usable = λ l u. u;
     only = only-same 0 base w;
   }

@@ -1,10 +1,9 @@
--- Rows by whole second, one epoch over them, and the epochs that are kept (document 01, module 5). Assumes nothing.
-use Prim.Native.Nat.{ℕ, suc, _*_}
+-- One epoch over rows by whole second, and the epochs that are kept (document 01, module 5). Assumes nothing.
+use Prim.Native.Nat.{ℕ}
 use mathlib.Core.Bool.{Bool, cond, _&&_}
 use mathlib.Core.Option.{Option, none}
-use mathlib.Core.List.{List, [], _∷_}
+use mathlib.Core.List.{List}
 use lib.Dec.{ltb}
-use lib.IntN.{ℤ}
 use lib.Ieee.{Float, nan}
 use lib.ListN.{getD}
 use Rattle.numbers.specs.Seconds.{wholeSecond}
@@ -13,24 +12,11 @@ use Rattle.finality.specs.Tables.{Table, find}
 use Rattle.finality.specs.Sheet.{Observation, whereFound}
 use Rattle.vectors.specs.declared.Vector.{Vector}
 use Rattle.epoch_record.specs.declared.Epoch.{Epoch}
-use Rattle.inputs.specs.Inputs.{Model, Keyed}
+use Rattle.inputs.specs.Inputs.{Model, Observed}
 use Rattle.integrate.specs.Force.{gravityAt}
-use Rattle.integrate.specs.Room.{stateIn}
+use Rattle.integrate.specs.RowsBySecond.{mapFrom}
 use Rattle.integrate.specs.declared.kernel.State.{State}
 use Rattle.epoch.specs.Epoch.{epochWith}
-
--- ---- rows by whole second
-
--- the keys from place i on, each with its row
-unfoldable pub rowsFrom : {X : Type 0} → (ℕ → X) → ℕ → List ℤ → Table X
-rowsFrom row i [] = []
-rowsFrom row i (k ∷ ks) = (k, row i) ∷ rowsFrom row (suc i) ks
-
-unfoldable pub states : Keyed → Table State
-states l = rowsFrom (λ (i : ℕ). stateIn (l .values) (6 * i)) 0 (l .keys)
-
-unfoldable pub numbers : Keyed → Table Float
-numbers l = rowsFrom (λ (i : ℕ). getD (l .values) i nan) 0 (l .keys)
 
 -- ---- one epoch
 
@@ -71,11 +57,6 @@ isGood byte = ltb 0 byte
 abbrev pub observation : Float → Float → ℕ → Observation
 observation t observed byte = record { at = t; observed = observed; good = isGood byte }
 
--- from three lists, as far as all go
-unfoldable pub observations : List Float → List Float → List ℕ → List Observation
-observations [] vs bs = []
-observations (t ∷ ts) [] bs = []
-observations (t ∷ ts) (v ∷ vs) [] = []
-observations (t ∷ ts) (v ∷ vs) (b ∷ bs) = observation t v b ∷ observations ts vs bs
-
--- the records of those that are kept, in order
+-- one for each time, with the value and the byte at its place
+unfoldable pub observationsIn : Observed → List Observation
+observationsIn o = mapFrom (λ t i. observation t (getD (o .values) i nan) (getD (o .good) i 0)) 0 (o .obsTimes)

@@ -5,7 +5,6 @@ ghost use mathlib.Core.Path.{_≡_};
 ghost use mathlib.Core.Bool.{true, _&&_};
 ghost use mathlib.Core.Option.{none};
 ghost use Prim.Native.Nat.{_≤_};
-ghost use lib.Dec.{ltb};
 ghost use lib.ListN.{length};
 ghost use Rattle.laws.specs.Checks.{risingSeconds};
 ghost use Rattle.laws.specs.Loops.{cleared};
@@ -13,7 +12,8 @@ ghost use Rattle.legendre.specs.Prepared.{prepared};
 ghost use Rattle.finality.specs.Brackets.{covers as coversOf};
 ghost use Rattle.finality.specs.Tables.{find as findIn};
 ghost use Rattle.inputs.specs.Inputs.{modelOf, keyed};
-ghost use Rattle.epoch.specs.Kept.{numbers as numbersOf, observation, recordAt};
+ghost use Rattle.integrate.specs.RowsBySecond.{valuesIn};
+ghost use Rattle.epoch.specs.Kept.{isGood, observation, recordAt};
 ghost use Rattle.epoch.specs.Work.{givenState, givenNumber, sightingFrom, madeOf, Recorded, Tried, Opened};
 
 // What stands at a key, and +0.0 where nothing does.
@@ -63,7 +63,7 @@ pub fn no_state() -> StateFound
 // The number at a second, in a list whose keys rise.
 pub fn number_at(keys: &[i64], values: &[f64], second: numbers::GpsSecond) -> NumberFound
     ensures { λ r. ⌜ (risingSeconds (now (keys .entry)) ≡ true
-        → r ≡ givenNumber (findIn (second .0) (numbersOf (keyed (now (keys .entry)) (now (values .entry)))))) ⌝ }
+        → r ≡ givenNumber (findIn (second .0) (valuesIn (keyed (now (keys .entry)) (now (values .entry)))))) ⌝ }
 {
     let key = second.0;
     let place = slices::find(keys, key);
@@ -100,7 +100,7 @@ pub fn sighted(c: StateFound, d: StateFound, axc: NumberFound, axd: NumberFound)
 
 // Good, covered, and all found.
 fn is_kept(good: u8, times: &[f64], t: f64, all: bool) -> bool
-    ensures { λ r. ⌜ r ≡ (ltb 0 good && coversOf (now (times .entry)) t) && all ⌝ }
+    ensures { λ r. ⌜ r ≡ (isGood good && coversOf (now (times .entry)) t) && all ⌝ }
 {
     slices::both(slices::both(0 < good, model::kernel::covers(times, t)), all)
 }
@@ -120,13 +120,13 @@ fn make<'a>(
         (recordAt (modelOf degree (model .entry)) t observed (found .c) (found .d) (found .axc) (found .axd)) r ⌝ }
 {
     model::kernel::at(degree, model, t, &mut w[0..base]);
-    let field = model[inputs::STATIC];
+    let static_field = model[inputs::STATIC];
     let c = found.c;
     let d = found.d;
     crate::kernel::epoch_at(
         degree,
-        integrate::kernel::element(field, 0),
-        integrate::kernel::element(field, 1),
+        integrate::kernel::element(static_field, 0),
+        integrate::kernel::element(static_field, 1),
         model[inputs::TABLE_A],
         model[inputs::TABLE_B],
         &w[0..base],

@@ -20,7 +20,7 @@ use Rattle.fields.specs.Calls.{refusalOf, partialsNumber}
 use Rattle.fields.specs.declared.PartialsAnswer.{PartialsAnswer}
 use Rattle.fields.specs.declared.PartialsAnswer.the-variants as partials
 use Rattle.detrend.specs.Calls.{LeftLists, listed}
-use Rattle.residuals.specs.Calls.{Lists, ListsLeft, listsLeft}
+use Rattle.residuals.specs.Calls.{EpochColumns, ColumnsLeft, columnsLeft}
 use Rattle.sheet.specs.Calls.{sheetNumber}
 use Rattle.sheet.specs.declared.SheetAnswer.{SheetAnswer}
 use Rattle.sheet.specs.declared.SheetAnswer.the-variants as sheet
@@ -29,7 +29,7 @@ use Rattle.horizon.specs.Horizon.{horizonAnswer, horizonAt}
 use Rattle.horizon.specs.declared.kernel.HorizonNode.{HorizonNode}
 use Rattle.horizon.specs.declared.kernel.HorizonNode.the-variants as node
 use Rattle.exports.specs.PartialsList.{partialsList, listedIn}
-use Rattle.exports.specs.Answers.{outcomeLeft, countIn, revolutionsTold, revolutionsLeft, listsTold, residualsLeft, countsIn, sheetTold, sheetLeft, partialsIn, partialsLeft}
+use Rattle.exports.specs.Answers.{outcomeLeft, countIn, revolutionsTold, revolutionsLeft, residualsTold, residualsLeft, countsIn, sheetTold, sheetLeft, partialsIn, partialsLeft}
 use Rattle.exports.specs.Answers.{partialsTold, horizonTold, horizonNumber}
 use Rattle.exports.proofs.PartialsStored.{partials-set}
 use Rattle.laws.specs.WholeNumbers.{number}
@@ -76,9 +76,9 @@ pub revolutions-left : (l : LeftLists) (answer : Counted) (n : ℕ) (cs₀ cs fs
     (n ≡ countedNumber answer) × (cs ≡ countIn answer cs₀) → listed answer fs es ss ps ≡ l → revolutionsTold n cs fs es ss ps ≡ revolutionsLeft l cs₀
 revolutions-left l answer n cs₀ cs fs es ss ps h e = (λ i. revolutionsTold (h .0 i) (h .1 i) fs es ss ps) ∙ ap (λ x. revolutionsLeft x cs₀) e
 
-pub residuals-left : (l : ListsLeft) (answer : Counted) (n : ℕ) (cs₀ cs : List ℕ) (outputs : Lists) (scratch : List Float) →
-    (n ≡ countedNumber answer) × (cs ≡ countIn answer cs₀) → listsLeft answer outputs scratch ≡ l → listsTold n cs outputs scratch ≡ residualsLeft l cs₀
-residuals-left l answer n cs₀ cs outputs scratch h e = (λ i. listsTold (h .0 i) (h .1 i) outputs scratch) ∙ ap (λ x. residualsLeft x cs₀) e
+pub residuals-left : (l : ColumnsLeft) (answer : Counted) (n : ℕ) (cs₀ cs : List ℕ) (outputs : EpochColumns) (scratch : List Float) →
+    (n ≡ countedNumber answer) × (cs ≡ countIn answer cs₀) → columnsLeft answer outputs scratch ≡ l → residualsTold n cs outputs scratch ≡ residualsLeft l cs₀
+residuals-left l answer n cs₀ cs outputs scratch h e = (λ i. residualsTold (h .0 i) (h .1 i) outputs scratch) ∙ ap (λ x. residualsLeft x cs₀) e
 
 -- ---- the whole path
 

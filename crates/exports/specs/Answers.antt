@@ -17,7 +17,7 @@ use Rattle.fields.specs.Calls.{refusalOf, partialsNumber}
 use Rattle.fields.specs.declared.PartialsAnswer.{PartialsAnswer}
 use Rattle.fields.specs.declared.PartialsAnswer.the-variants as partials
 use Rattle.detrend.specs.Calls.{LeftLists}
-use Rattle.residuals.specs.Calls.{Lists, ListsLeft}
+use Rattle.residuals.specs.Calls.{EpochColumns, ColumnsLeft}
 use Rattle.sheet.specs.Calls.{sheetNumber}
 use Rattle.sheet.specs.declared.SheetAnswer.{SheetAnswer}
 use Rattle.sheet.specs.declared.SheetAnswer.the-variants as sheet
@@ -52,17 +52,17 @@ abbrev pub revolutionsLeft : LeftLists → List ℕ → RevolutionsTold
 revolutionsLeft l cs = revolutionsTold (countedNumber (l .answer)) (countIn (l .answer) cs) (l .firsts) (l .ends) (l .starts) (l .periods)
 
 -- `residuals`
-pub record ListsTold : Type 0 where
+pub record ResidualsTold : Type 0 where
   pub number : ℕ
   pub counts : List ℕ
-  pub outputs : Lists
+  pub outputs : EpochColumns
   pub scratch : List Float
 
-abbrev pub listsTold : ℕ → List ℕ → Lists → List Float → ListsTold
-listsTold n cs outputs scratch = record { number = n; counts = cs; outputs = outputs; scratch = scratch }
+abbrev pub residualsTold : ℕ → List ℕ → EpochColumns → List Float → ResidualsTold
+residualsTold n cs outputs scratch = record { number = n; counts = cs; outputs = outputs; scratch = scratch }
 
-abbrev pub residualsLeft : ListsLeft → List ℕ → ListsTold
-residualsLeft l cs = listsTold (countedNumber (l .answer)) (countIn (l .answer) cs) (l .outputs) (l .scratch)
+abbrev pub residualsLeft : ColumnsLeft → List ℕ → ResidualsTold
+residualsLeft l cs = residualsTold (countedNumber (l .answer)) (countIn (l .answer) cs) (l .outputs) (l .scratch)
 
 -- ---- the whole path: the kept and the final epochs, in the first two places
 

@@ -14,13 +14,13 @@ ghost use Rattle.fields.specs.Calls.{newCall, partialsCall};
 ghost use Rattle.filter.specs.Calls.{bandPassCall};
 ghost use Rattle.detrend.specs.Calls.{detrendCall, revolutionsCall};
 ghost use Rattle.inputs.specs.Inputs.{modelWith, pairWith, observedOf, inputs, lists as sheetLists};
-ghost use Rattle.residuals.specs.Calls.{lists, residualsCall};
+ghost use Rattle.residuals.specs.Calls.{epochColumns, residualsCall};
 ghost use Rattle.sheet.specs.Calls.{sheetCall};
 ghost use Rattle.finality.specs.Sheet.{horizonOf, countTo};
 ghost use Rattle.horizon.specs.Horizon.{endsOf, finalEntries};
 ghost use Rattle.fit.specs.Calls.{fitCall};
 ghost use Rattle.exports.specs.Told.{toldLeft};
-ghost use Rattle.exports.specs.Answers.{outcomeLeft, partialsTold, horizonTold, revolutionsTold, revolutionsLeft, listsTold, residualsLeft};
+ghost use Rattle.exports.specs.Answers.{outcomeLeft, partialsTold, horizonTold, revolutionsTold, revolutionsLeft, residualsTold, residualsLeft};
 ghost use Rattle.exports.specs.Answers.{sheetTold, sheetLeft};
 ghost use Rattle.root.specs.Root.{sqrt};
 ghost use Rattle.numbers.specs.Numbers.{sine as Numbers·sine, cosine as Numbers·cosine, arctangent as Numbers·arctangent, arcsine as Numbers·arcsine};
@@ -249,13 +249,13 @@ pub extern "C" fn pozsmeteg_residuals<'a>(
     counts: &mut [usize],
     scratch: &mut [f64],
 ) -> u8
-    ensures { λ r. ⌜ listsTold r (now (counts .exit))
-        (lists (now (outtimes .exit)) (now (outresiduals .exit)) (now (outterms .exit)) (now (outmids .exit)) (now (outvels .exit))) (now (scratch .exit)) ≡
-        residualsLeft (residualsCall (inputs (modelWith degree (now (field .entry)) (now (a .entry)) (now (b .entry)) (now (times .entry))
-        (now (added .entry))) (pairWith (now (ckeys .entry)) (now (cstates .entry)) (now (dkeys .entry)) (now (dstates .entry)))
+    ensures { λ r. ⌜ residualsTold r (now (counts .exit))
+        (epochColumns (now (outtimes .exit)) (now (outresiduals .exit)) (now (outterms .exit)) (now (outmids .exit)) (now (outvels .exit)))
+        (now (scratch .exit)) ≡ residualsLeft (residualsCall (inputs (modelWith degree (now (field .entry)) (now (a .entry)) (now (b .entry))
+        (now (times .entry)) (now (added .entry))) (pairWith (now (ckeys .entry)) (now (cstates .entry)) (now (dkeys .entry)) (now (dstates .entry)))
         (pairWith (now (cacckeys .entry)) (now (caccs .entry)) (now (dacckeys .entry)) (now (daccs .entry))))
         (observedOf (now (obstimes .entry)) (now (obsvalues .entry)) (now (good .entry)))
-        (lists (now (outtimes .entry)) (now (outresiduals .entry)) (now (outterms .entry)) (now (outmids .entry)) (now (outvels .entry)))
+        (epochColumns (now (outtimes .entry)) (now (outresiduals .entry)) (now (outterms .entry)) (now (outmids .entry)) (now (outvels .entry)))
         (now (scratch .entry))) (now (counts .entry)) ⌝ }
 {
     let answer = residuals::residuals(

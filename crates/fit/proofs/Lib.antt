@@ -1,7 +1,6 @@
 -- Laws of the fit of an orbit to observed positions.
 --
 --   Flights     a run by the kernel, in the form that a fit uses, and the guard of a fit
---   Found       a place that was found lies in the list
 --   Rows        what a row reads stays while its result is stored, and one row more
 --   Notes       the observations in scratch
 --   Columns     the design: what a row reads of a run, one column, the columns so far, and misfits beside them
@@ -12,7 +11,6 @@
 --   Calls       the public call in each of its cases
 --   Published   with the tables of `Legendre::new` the call is that over the published series
 pub mod Flights
-pub mod Found
 pub mod Rows
 pub mod Notes
 pub mod Columns

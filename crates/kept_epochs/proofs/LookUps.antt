@@ -15,13 +15,13 @@ use Rattle.laws.specs.Bools.{by, holds, left-true, right-true}
 use Rattle.numbers.specs.Seconds.{isHeld, wholeSecond}
 use Rattle.finality.specs.Tables.{Table, find}
 use Rattle.integrate.specs.Room.{Only}
+use Rattle.integrate.specs.RowsBySecond.{valuesIn}
 use Rattle.integrate.specs.declared.kernel.State.{State}
 use Rattle.fit.specs.declared.kernel.Held.{Held}
 use Rattle.windows.specs.Stage.{heldOf}
 use Rattle.windows.specs.Windows.{slotAt}
 use Rattle.windows.proofs.Filling.{slot-same}
-use Rattle.slots.specs.LookUp.{joined, Shelved, Looked}
-use Rattle.epoch.specs.Kept.{numbers}
+use Rattle.slots.specs.LookUp.{joined, SlotsHold, Looked}
 use Rattle.epoch.specs.Work.{givenState, givenNumber, sightingFrom}
 use Rattle.epoch.specs.declared.StateFound.{StateFound}
 use Rattle.epoch.specs.declared.NumberFound.{NumberFound}
@@ -57,22 +57,22 @@ held-found none = refl
 held-found (some x) = refl
 
 module _ (first windows : ℕ) (accs : Pair) (s : List Float) (t : Float) (k : ℤ) (ek : k ≡ wholeSecond t) where
-  state-found : (at : ℕ) (h : Held) (x : StateFound) → Looked s at windows k h → x ≡ foundOf h → isTime t ≡ true → (c : ℕ → Table State) → Shelved s at c windows
+  state-found : (at : ℕ) (h : Held) (x : StateFound) → Looked s at windows k h → x ≡ foundOf h → isTime t ≡ true → (c : ℕ → Table State) → SlotsHold s at c windows
       → x ≡ givenState (find (wholeSecond t) (joined c windows))
   state-found at h x l e tm c st =
       e ∙ ap foundOf (l .is c (ap isKey ek ∙ key-second t tm) st) ∙ held-found (find k (joined c windows)) ∙ ap (λ (k : ℤ). givenState (find k (joined c windows))) ek
 
   pub found : (h₁ h₂ : Held) (x y : StateFound) (p q : NumberFound) (r : Sighting) → Looked s first windows k h₁ → x ≡ foundOf h₁ → Looked s (first + slotRoom) windows k h₂ → y ≡ foundOf h₂ →
-      p ≡ givenNumber (find k (numbers (accs .c))) → q ≡ givenNumber (find k (numbers (accs .d))) → r ≡ sightingFrom x y p q → Found first windows accs s t r
+      p ≡ givenNumber (find k (valuesIn (accs .c))) → q ≡ givenNumber (find k (valuesIn (accs .d))) → r ≡ sightingFrom x y p q → Found first windows accs s t r
   found h₁ h₂ x y p q r l₁ e₁ l₂ e₂ ep eq er = record {
     is = λ tm c d sc sd. er ∙ (λ i. sightingFrom (state-found first h₁ x l₁ e₁ tm c sc i) (state-found (first + slotRoom) h₂ y l₂ e₂ tm d sd i)
-        ((ep ∙ ap (λ (k : ℤ). givenNumber (find k (numbers (accs .c)))) ek) i) ((eq ∙ ap (λ (k : ℤ). givenNumber (find k (numbers (accs .d)))) ek) i));
+        ((ep ∙ ap (λ (k : ℤ). givenNumber (find k (valuesIn (accs .c)))) ek) i) ((eq ∙ ap (λ (k : ℤ). givenNumber (find k (valuesIn (accs .d)))) ek) i));
   }
 
 -- ---- slots behind a change stay
 
-shelved-stays : (base first : ℕ) (s s' : List Float) (c : ℕ → Table State) (windows : ℕ) → base ≤ first → Only 0 base s s' → Shelved s first c windows → Shelved s' first c windows
-shelved-stays base first s s' c windows h o st = record {
+slots-stay : (base first : ℕ) (s s' : List Float) (c : ℕ → Table State) (windows : ℕ) → base ≤ first → Only 0 base s s' → SlotsHold s first c windows → SlotsHold s' first c windows
+slots-stay base first s s' c windows h o st = record {
   room = omega (arith, st .room, o .long);
   slots = λ w l. slot-same (first + windowRoom * w) s s' (c w) (st .orderly w l .few) (λ k p q. o .same k (λ a b. omega arith)) (st .slots w l);
   orderly = st .orderly;
@@ -80,16 +80,16 @@ shelved-stays base first s s' c windows h o st = record {
 
 pub stand-stays : (g : Given) (base : ℕ) (s s' : List Float) (c d : ℕ → Table State) → Only 0 base s s' → Stand g base s c d → Stand g base s' c d
 stand-stays g base s s' c d o st = record {
-  ofC = shelved-stays base (slotAt base 0 0) s s' c (g .windows) (omega arith) o (st .ofC);
-  ofD = shelved-stays base (slotAt base 1 0) s s' d (g .windows) (omega arith) o (st .ofD);
+  ofC = slots-stay base (slotAt base 0 0) s s' c (g .windows) (omega arith) o (st .ofC);
+  ofD = slots-stay base (slotAt base 1 0) s s' d (g .windows) (omega arith) o (st .ofD);
 }
 
 -- the first slots, as the code has them
 pub stand-found : (g : Given) (base : ℕ) (s : List Float) (t : Float) (r : Sighting) (c d : ℕ → Table State) → Found (base + fitRoom) (g .windows) (g .accs) s t r → isTime t ≡ true
     → Stand g base s c d →
-    r ≡ sightingFrom (givenState (find (wholeSecond t) (joined c (g .windows)))) (givenState (find (wholeSecond t) (joined d (g .windows)))) (givenNumber (find (wholeSecond t) (numbers (g .accs .c))))
-    (givenNumber (find (wholeSecond t) (numbers (g .accs .d))))
+    r ≡ sightingFrom (givenState (find (wholeSecond t) (joined c (g .windows)))) (givenState (find (wholeSecond t) (joined d (g .windows))))
+    (givenNumber (find (wholeSecond t) (valuesIn (g .accs .c)))) (givenNumber (find (wholeSecond t) (valuesIn (g .accs .d))))
 stand-found g base s t r c d f tm st =
     let ec : slotAt base 0 0 ≡ base + fitRoom = omega arith in
     let ed : slotAt base 1 0 ≡ base + fitRoom + slotRoom = omega arith in
-    f .is tm c d (subst (λ (at : ℕ). Shelved s at c (g .windows)) ec (st .ofC)) (subst (λ (at : ℕ). Shelved s at d (g .windows)) ed (st .ofD))
+    f .is tm c d (subst (λ (at : ℕ). SlotsHold s at c (g .windows)) ec (st .ofC)) (subst (λ (at : ℕ). SlotsHold s at d (g .windows)) ed (st .ofD))

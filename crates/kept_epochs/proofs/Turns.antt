@@ -21,7 +21,7 @@ use Rattle.epoch.specs.Kept.{epochBy, observation}
 use Rattle.epoch.specs.Work.{madeOf, Tried}
 use Rattle.epoch.specs.declared.Sighting.{Sighting}
 use Rattle.epoch.specs.declared.Made.{Made}
-use Rattle.epoch.proofs.Kept.{seen, keptUpTo, kept-more, kept-few, kept-all, kept-none, set-more}
+use Rattle.epoch.proofs.Kept.{observationAt, keptUpTo, kept-more, kept-few, kept-all, kept-none, set-more}
 use Rattle.kept_epochs.specs.KeptEpochs.{Given, epochIn, Stand, Listed, Found, Added, Able, SoFar, Done}
 use Rattle.kept_epochs.proofs.LookUps.{time-at, stand-stays, stand-found}
 use Rattle.inputs.specs.Inputs.{fitRoom}
@@ -73,7 +73,7 @@ module _ (g : Given) (base i count : ℕ) (ts rs s : List Float) (hi : i < lengt
     (r : Sighting) (f : Found (base + fitRoom) (g .windows) (g .accs) s t r) (made : Made) (s' : List Float)
     (tried : Tried (g .model) (observation t v byte) base r s s' made) (room : base ≤ length s) where
   abbrev observed : Observation
-  observed = seen (g .observed .obsTimes) (g .observed .values) (g .observed .good) i
+  observed = observationAt (g .observed) i
 
   -- what was made is the epoch that is kept, or none
   made-is : Able g base ts rs s → (c d : ℕ → Table State) → Stand g base s c d → made ≡ madeOf (epochIn g c d observed)
@@ -102,10 +102,10 @@ module _ (g : Given) (base i count : ℕ) (ts rs s : List Float) (hi : i < lengt
         few = omega (arith, added-few made count n ts rs ts' rs' ad, so .few);
         only = record { long = tried .only .long ∙ so .only .long; same = λ k h. tried .only .same k h ∙ so .only .same k h };
         is = λ c d st.
-            let es : List Epoch = keptUpTo (epochIn g c d) (g .observed .obsTimes) (g .observed .values) (g .observed .good) i in
-            let few : length es ≤ i = kept-few (epochIn g c d) (g .observed .obsTimes) (g .observed .values) (g .observed .good) (a .values) (a .good) i (omega arith) in
+            let es : List Epoch = keptUpTo (epochIn g c d) (g .observed) i in
+            let few : length es ≤ i = kept-few (epochIn g c d) (g .observed) i (omega arith) in
             advance made count n ts rs ts' rs' ad (length (g .observed .obsTimes)) es _ (omega arith) (so .is c d st) (epochIn g c d observed)
-            (kept-more (epochIn g c d) (g .observed .obsTimes) (g .observed .values) (g .observed .good) (a .values) (a .good) i hi)
+            (kept-more (epochIn g c d) (g .observed) i hi)
             (made-is a c d (stand-stays g base s₀ s c d (so .only) st));
       }
 
@@ -117,7 +117,7 @@ begins g base ts rs s n m a en em et er = record {
   able = a;
   few = omega arith;
   only = only-same 0 base s;
-  is = λ c d st. subst (λ (es : List Epoch). Listed (length (g .observed .obsTimes)) es ts rs 0) (sym (kept-none (epochIn g c d) (g .observed .obsTimes) (g .observed .values) (g .observed .good)))
+  is = λ c d st. subst (λ (es : List Epoch). Listed (length (g .observed .obsTimes)) es ts rs 0) (sym (kept-none (epochIn g c d) (g .observed)))
       (record {
         count = refl;
         times = et ∙ filled-none zero64 n (length (g .observed .obsTimes)) en;
@@ -132,6 +132,6 @@ ends g base i s₀ ts rs s count h k so =
     record {
       long = so .only .long;
       is = λ c d st. subst (λ (es : List Epoch). Listed (length (g .observed .obsTimes)) es ts rs count)
-          (ap (keptUpTo (epochIn g c d) (g .observed .obsTimes) (g .observed .values) (g .observed .good)) e
-          ∙ kept-all (epochIn g c d) (g .observed .obsTimes) (g .observed .values) (g .observed .good) (so .able .values) (so .able .good)) (so .is c d st);
+          (ap (keptUpTo (epochIn g c d) (g .observed)) e
+          ∙ kept-all (epochIn g c d) (g .observed)) (so .is c d st);
     }

@@ -18,12 +18,13 @@ use Rattle.finality.specs.Sheet.{Observation, published, keptOf}
 use Rattle.epoch_record.specs.EpochRecord.{time, residual}
 use Rattle.epoch_record.specs.declared.Epoch.{Epoch}
 use Rattle.integrate.specs.Room.{Only}
+use Rattle.integrate.specs.RowsBySecond.{valuesIn}
 use Rattle.integrate.specs.declared.kernel.State.{State}
 use Rattle.fit.specs.declared.kernel.Held.{Held}
 use Rattle.fit.specs.declared.kernel.Held.the-variants.{Known, Missing}
 use Rattle.windows.specs.Windows.{slotAt}
-use Rattle.slots.specs.LookUp.{joined, Shelved}
-use Rattle.epoch.specs.Kept.{numbers, epochBy, observations}
+use Rattle.slots.specs.LookUp.{joined, SlotsHold}
+use Rattle.epoch.specs.Kept.{epochBy, observationsIn}
 use Rattle.epoch.specs.Work.{givenState, sightingOf, Usable}
 use Rattle.epoch.specs.declared.StateFound.{StateFound}
 use Rattle.epoch.specs.declared.Sighting.{Sighting}
@@ -41,11 +42,11 @@ given M accs windows obs = record { model = M; accs = accs; windows = windows; o
 
 -- an epoch with the states of all windows
 abbrev pub epochIn : Given → (ℕ → Table State) → (ℕ → Table State) → Observation → Option Epoch
-epochIn g c d = epochBy (g .model) (joined c (g .windows)) (joined d (g .windows)) (numbers (g .accs .c)) (numbers (g .accs .d))
+epochIn g c d = epochBy (g .model) (joined c (g .windows)) (joined d (g .windows)) (valuesIn (g .accs .c)) (valuesIn (g .accs .d))
 
 -- the epochs that are kept
 abbrev pub keptIn : Given → (ℕ → Table State) → (ℕ → Table State) → List Epoch
-keptIn g c d = keptOf (epochIn g c d) (observations (g .observed .obsTimes) (g .observed .values) (g .observed .good))
+keptIn g c d = keptOf (epochIn g c d) (observationsIn (g .observed))
 
 -- whether the slices serve: room for the field at a time, accelerometer keys that rise, times that are times, one number for each observation and a place
 -- in each output
@@ -56,8 +57,8 @@ gatherServes N accKeysC accKeysD times values good outtimes outraws room =
 
 -- the slots of both satellites hold these states
 pub record Stand (g : Given) (base : ℕ) (s : List Float) (c d : ℕ → Table State) : Type 0 where
-  pub ofC : Shelved s (slotAt base 0 0) c (g .windows)
-  pub ofD : Shelved s (slotAt base 1 0) d (g .windows)
+  pub ofC : SlotsHold s (slotAt base 0 0) c (g .windows)
+  pub ofD : SlotsHold s (slotAt base 1 0) d (g .windows)
 
 -- times and residuals of some epochs in m places, and how many there are
 pub record Listed (m : ℕ) (es : List Epoch) (ts rs : List Float) (n : ℕ) : Type 0 where
@@ -68,8 +69,8 @@ pub record Listed (m : ℕ) (es : List Epoch) (ts rs : List Float) (n : ℕ) : T
 -- `gather`: the kept epochs are listed, whatever states the slots hold; nothing is done where the slices do not serve
 pub record Gathered (g : Given) (serves : Bool) (outtimes outraws s outtimes' outraws' s' : List Float) (r : ℕ) : Type 0 where
   pub long : length s' ≡ length s
-  pub is : serves ≡ true → (c d : ℕ → Table State) → Shelved s (slotAt (frontSize (g .model .fixed .degree)) 0 0) c (g .windows)
-      → Shelved s (slotAt (frontSize (g .model .fixed .degree)) 1 0) d (g .windows) →
+  pub is : serves ≡ true → (c d : ℕ → Table State) → SlotsHold s (slotAt (frontSize (g .model .fixed .degree)) 0 0) c (g .windows)
+      → SlotsHold s (slotAt (frontSize (g .model .fixed .degree)) 1 0) d (g .windows) →
       Listed (length (g .observed .obsTimes)) (keptIn g c d) outtimes' outraws' r
   pub unfit : serves ≡ false → (r ≡ 0) × (outtimes' ≡ outtimes) × (outraws' ≡ outraws) × (s' ≡ s)
 
@@ -81,9 +82,9 @@ foundOf Missing = givenState none
 
 -- both satellites' states and accelerometer values at the whole part of a time; C's first slot stands at a place, D's behind it
 pub record Found (first windows : ℕ) (accs : Pair) (s : List Float) (t : Float) (r : Sighting) : Type 0 where
-  pub is : isTime t ≡ true → (c d : ℕ → Table State) → Shelved s first c windows → Shelved s (first + slotRoom) d windows →
-      r ≡ sightingOf (find (wholeSecond t) (joined c windows)) (find (wholeSecond t) (joined d windows)) (find (wholeSecond t) (numbers (accs .c)))
-      (find (wholeSecond t) (numbers (accs .d)))
+  pub is : isTime t ≡ true → (c d : ℕ → Table State) → SlotsHold s first c windows → SlotsHold s (first + slotRoom) d windows →
+      r ≡ sightingOf (find (wholeSecond t) (joined c windows)) (find (wholeSecond t) (joined d windows)) (find (wholeSecond t) (valuesIn (accs .c)))
+      (find (wholeSecond t) (valuesIn (accs .d)))
 
 -- what was made is stored and counted, where it is kept
 pub record Added (m : Made) (count r : ℕ) (times raws times' raws' : List Float) : Type 0 where
@@ -112,7 +113,7 @@ pub record SoFar (g : Given) (base i : ℕ) (s₀ outtimes outraws s : List Floa
   pub only : Only 0 base s₀ s
   pub is : (c d : ℕ → Table State) → Stand g base s₀ c d
       → Listed (length (g .observed .obsTimes))
-      (keptOf (epochIn g c d) (take i (observations (g .observed .obsTimes) (g .observed .values) (g .observed .good)))) outtimes outraws count
+      (keptOf (epochIn g c d) (take i (observationsIn (g .observed)))) outtimes outraws count
 
 -- all of them
 pub record Done (g : Given) (base : ℕ) (s s' outtimes outraws : List Float) (r : ℕ) : Type 0 where

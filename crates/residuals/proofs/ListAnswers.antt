@@ -16,17 +16,17 @@ use Rattle.inputs.proofs.Passed.{AllPass, all-pass}
 use Rattle.slices.specs.declared.Counted.the-variants.{Counted as Filled, Refused as NotFilled}
 use Rattle.residuals.specs.declared.filling.Filled.{Filled as Count}
 use Rattle.residuals.specs.Work.{Ready}
-use Rattle.residuals.specs.Calls.{Lists, samplesFit, outputsFit, residualsRefusal, listsLeft, handedOut, settledLists, keptIn, residualsCall, epochFinite}
+use Rattle.residuals.specs.Calls.{EpochColumns, samplesFit, outputsFit, residualsRefusal, columnsLeft, handedOut, settledColumns, keptIn, residualsCall, epochFinite}
 use Rattle.residuals.specs.Filling.{blank, Long, Done}
 use Rattle.residuals.proofs.Answers.{ready}
 use Rattle.residuals.proofs.Turns.{blank-is, done-long}
 
-record Samples (obs : Observed) (l : Lists) : Type 0 where
+record Samples (obs : Observed) (l : EpochColumns) : Type 0 where
   pub values : length (obs .values) ≡ length (obs .obsTimes)
   pub good : length (obs .good) ≡ length (obs .obsTimes)
   pub long : Long (length (obs .obsTimes)) l
 
-samples-pass : (obs : Observed) (l : Lists) → outputsFit obs l ≡ true → Samples obs l
+samples-pass : (obs : Observed) (l : EpochColumns) → outputsFit obs l ≡ true → Samples obs l
 unfolding samplesFit
 samples-pass obs l h =
     let m : ℕ = length (obs .obsTimes) in
@@ -48,7 +48,7 @@ samples-pass obs l h =
       };
     }
 
-module _ (inp : Inputs) (obs : Observed) (l : Lists) (samples : Bool) (n scratch : ℕ) (b : samples ≡ outputsFit obs l) (e : n ≡ residualsRefusal inp obs samples scratch) (z : n ≡ 0) where
+module _ (inp : Inputs) (obs : Observed) (l : EpochColumns) (samples : Bool) (n scratch : ℕ) (b : samples ≡ outputsFit obs l) (e : n ≡ residualsRefusal inp obs samples scratch) (z : n ≡ 0) where
   passed : AllPass (degreeFine (inp .model .fixed .degree)) (inputsCounted inp && leb (length (obs .obsTimes)) 100000)
       ((inputsFit inp && scratchFits (inp .model .fixed .degree) (length (inp .model .fields .fieldTimes)) (length (obs .obsTimes)) scratch) && samples)
       (inputsFine inp && (all isTime (obs .obsTimes) && all finite (obs .values))) (inputsRise inp && rising (obs .obsTimes)) 0
@@ -78,29 +78,28 @@ module _ (inp : Inputs) (obs : Observed) (l : Lists) (samples : Bool) (n scratch
     fits .long,
   )
 
-module _ (inp : Inputs) (obs : Observed) (l : Lists) (s : List Float) (samples : Bool) (n : ℕ) (b : samples ≡ outputsFit obs l) (e : n ≡ residualsRefusal inp obs samples (length s)) where
-  settles : settledLists n (length (obs .obsTimes)) (keptIn inp obs) l s ≡ residualsCall inp obs l s
-  settles = ap (λ (k : ℕ). settledLists k (length (obs .obsTimes)) (keptIn inp obs) l s) (e ∙ ap (λ (x : Bool). residualsRefusal inp obs x (length s)) b)
+module _ (inp : Inputs) (obs : Observed) (l : EpochColumns) (s : List Float) (samples : Bool) (n : ℕ) (b : samples ≡ outputsFit obs l) (e : n ≡ residualsRefusal inp obs samples (length s)) where
+  settles : settledColumns n (length (obs .obsTimes)) (keptIn inp obs) l s ≡ residualsCall inp obs l s
+  settles = ap (λ (k : ℕ). settledColumns k (length (obs .obsTimes)) (keptIn inp obs) l s) (e ∙ ap (λ (x : Bool). residualsRefusal inp obs x (length s)) b)
 
-  pub residuals-refused : (n ≡ 0 → ⊥) → listsLeft (NotFilled n) l s ≡ residualsCall inp obs l s
+  pub residuals-refused : (n ≡ 0 → ⊥) → columnsLeft (NotFilled n) l s ≡ residualsCall inp obs l s
   residuals-refused z = nonzero n z ∙ settles
     where
-      nonzero : (n : ℕ) → (n ≡ 0 → ⊥) → listsLeft (NotFilled n) l s ≡ settledLists n (length (obs .obsTimes)) (keptIn inp obs) l s
+      nonzero : (n : ℕ) → (n ≡ 0 → ⊥) → columnsLeft (NotFilled n) l s ≡ settledColumns n (length (obs .obsTimes)) (keptIn inp obs) l s
       nonzero zero h = absurd (h refl)
       nonzero (suc n) h = refl
 
   handed : (x : Bool) → n ≡ 0 → x ≡ all epochFinite (keptIn inp obs) → handedOut x (length (obs .obsTimes)) (keptIn inp obs) s ≡ residualsCall inp obs l s
   handed x z f = ap (λ (y : Bool). handedOut y (length (obs .obsTimes)) (keptIn inp obs) s) f
-      ∙ ap (λ (k : ℕ). settledLists k (length (obs .obsTimes)) (keptIn inp obs) l s) (sym z) ∙ settles
+      ∙ ap (λ (k : ℕ). settledColumns k (length (obs .obsTimes)) (keptIn inp obs) l s) (sym z) ∙ settles
 
-  pub residuals-handed : (r : Count) (l' : Lists) (s' : List Float) (k : ℕ) → n ≡ 0 → Done inp obs r l' → k ≡ length s → s' ≡ replicate k zero64 → r .fine ≡ true →
-      listsLeft (Filled (r .count)) l' s' ≡ residualsCall inp obs l s
+  pub residuals-handed : (r : Count) (l' : EpochColumns) (s' : List Float) (k : ℕ) → n ≡ 0 → Done inp obs r l' → k ≡ length s → s' ≡ replicate k zero64 → r .fine ≡ true →
+      columnsLeft (Filled (r .count)) l' s' ≡ residualsCall inp obs l s
   residuals-handed r l' s' k z d h g f =
-      (λ i. listsLeft (Filled (d .count i)) (d .outputs i) ((g ∙ ap (λ (k : ℕ). replicate k zero64) h) i)) ∙ handed true z (sym f ∙ d .fine)
+      (λ i. columnsLeft (Filled (d .count i)) (d .outputs i) ((g ∙ ap (λ (k : ℕ). replicate k zero64) h) i)) ∙ handed true z (sym f ∙ d .fine)
 
-  pub residuals-unfit : (r : Count) (l' l'' : Lists) (s' : List Float) (k : ℕ) → n ≡ 0 → Done inp obs r l' → k ≡ length s → s' ≡ replicate k zero64 → r .fine ≡ false → l'' ≡ blank l' →
-      listsLeft (NotFilled 10) l'' s' ≡ residualsCall inp obs l s
+  pub residuals-unfit : (r : Count) (l' l'' : EpochColumns) (s' : List Float) (k : ℕ) → n ≡ 0 → Done inp obs r l' → k ≡ length s → s' ≡ replicate k zero64 → r .fine ≡ false → l'' ≡ blank l' →
+      columnsLeft (NotFilled 10) l'' s' ≡ residualsCall inp obs l s
   residuals-unfit r l' l'' s' k z d h g f w =
-      let p : Samples obs l = fits inp obs l samples n (length s) b e z in
-      (λ i. listsLeft (NotFilled 10) ((w ∙ blank-is (length (obs .obsTimes)) l' (done-long inp obs r l' (p .values) (p .good) d)) i) ((g ∙ ap (λ (k : ℕ). replicate k zero64) h) i))
+      (λ i. columnsLeft (NotFilled 10) ((w ∙ blank-is (length (obs .obsTimes)) l' (done-long inp obs r l' d)) i) ((g ∙ ap (λ (k : ℕ). replicate k zero64) h) i))
       ∙ handed false z (sym f ∙ d .fine)

@@ -22,7 +22,7 @@ use Rattle.integrate.proofs.Published.{Sized, Published, publishedAt, gravity-p
 use Rattle.epoch.specs.Kept.{recordAt, seenBy, epochBy}
 use Rattle.residuals.specs.Inputs.{epochUnder, epochOf}
 use Rattle.residuals.specs.Calls.{epochRefusal, epochLeft, epochFrom, epochCall}
-use Rattle.residuals.specs.Calls.{Lists, outputsFit, residualsRefusal, keptFrom, keptIn, settledLists, residualsFrom, residualsCall}
+use Rattle.residuals.specs.Calls.{EpochColumns, outputsFit, residualsRefusal, keptFrom, keptIn, settledColumns, residualsFrom, residualsCall}
 
 -- ---- acceptance gives the lengths
 
@@ -69,10 +69,10 @@ module _ (inp : Inputs) (tables : Published (inp .model)) where
       (epochOf inp o) (epochUnder (publishedAt (inp .model)) inp o) (λ k. refl)
       (λ h. ap (λ (epoch : Observation → Option Epoch). epoch o) (kept-published (epoch-sized inp (o .at) (o .observed) (length scratch) h)))
 
-  pub residuals-published : (obs : Observed) (outs : Lists) (scratch : List Float) →
+  pub residuals-published : (obs : Observed) (outs : EpochColumns) (scratch : List Float) →
       residualsCall inp obs outs scratch ≡ residualsFrom (keptFrom (epochUnder (publishedAt (inp .model)) inp) obs) inp obs outs scratch
   unfolding keptIn
   residuals-published obs outs scratch =
-      by-acceptance (λ (n : ℕ) (es : List Epoch). settledLists n (length (obs .obsTimes)) es outs scratch) (residualsRefusal inp obs (outputsFit obs outs) (length scratch))
+      by-acceptance (λ (n : ℕ) (es : List Epoch). settledColumns n (length (obs .obsTimes)) es outs scratch) (residualsRefusal inp obs (outputsFit obs outs) (length scratch))
       (keptFrom (epochOf inp) obs) (keptFrom (epochUnder (publishedAt (inp .model)) inp) obs) (λ k. refl)
       (λ h. ap (λ (epoch : Observation → Option Epoch). keptFrom epoch obs) (kept-published (residuals-sized inp obs (outputsFit obs outs) (length scratch) h)))

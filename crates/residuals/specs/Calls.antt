@@ -22,7 +22,7 @@ use Rattle.residuals.specs.declared.Verdict.the-variants.{Kept, NotKept,
 use Rattle.residuals.specs.declared.EpochAnswer.{EpochAnswer}
 use Rattle.residuals.specs.Inputs.{epochOf}
 use Rattle.epoch.specs.declared.Made.{Made}
-use Rattle.epoch.specs.Kept.{observations}
+use Rattle.epoch.specs.Kept.{observationsIn}
 use Rattle.epoch.specs.Work.{noEpoch}
 
 -- ---- a verdict: document 01's number, 0 where nothing is refused, and whether the epoch is kept; its record stands beside it
@@ -86,17 +86,17 @@ samplesFit m values good times residuals terms mids vels =
     (eqb values m && eqb good m) && ((eqb times m && eqb residuals m) && (eqb terms m && (eqb mids m && eqb vels m)))
 
 -- the five outputs: times, residuals, terms, midpoints, velocities
-pub record Lists : Type 0 where
+pub record EpochColumns : Type 0 where
   pub times : List Float
   pub residuals : List Float
   pub terms : List (List Float)
   pub mids : List (List Float)
   pub vels : List (List Float)
 
-abbrev pub lists : List Float → List Float → List (List Float) → List (List Float) → List (List Float) → Lists
-lists times residuals terms mids vels = record { times = times; residuals = residuals; terms = terms; mids = mids; vels = vels }
+abbrev pub epochColumns : List Float → List Float → List (List Float) → List (List Float) → List (List Float) → EpochColumns
+epochColumns times residuals terms mids vels = record { times = times; residuals = residuals; terms = terms; mids = mids; vels = vels }
 
-abbrev pub outputsFit : Observed → Lists → Bool
+abbrev pub outputsFit : Observed → EpochColumns → Bool
 outputsFit obs outs =
     samplesFit (length (obs .obsTimes)) (length (obs .values)) (length (obs .good)) (length (outs .times)) (length (outs .residuals)) (length (outs .terms))
     (length (outs .mids)) (length (outs .vels))
@@ -110,8 +110,8 @@ residualsRefusal inp obs samples scratch =
     (inputsRise inp && rising (obs .obsTimes)) 0
 
 -- the records' numbers, +0.0 after the last
-unfoldable pub listsOf : ℕ → List Epoch → Lists
-listsOf m es = record {
+unfoldable pub filledColumns : ℕ → List Epoch → EpochColumns
+filledColumns m es = record {
   times = filledUp zero64 m (map (λ (e : Epoch). e .t) es);
   residuals = filledUp zero64 m (map (λ (e : Epoch). e .residual) es);
   terms = filledUp (replicate 5 zero64) m (map (λ (e : Epoch). e .terms) es);
@@ -119,34 +119,35 @@ listsOf m es = record {
   vels = filledUp (replicate 3 zero64) m (map (λ (e : Epoch). e .vel) es);
 }
 
-pub record ListsLeft : Type 0 where
+pub record ColumnsLeft : Type 0 where
   pub answer : Counted
-  pub outputs : Lists
+  pub outputs : EpochColumns
   pub scratch : List Float
 
-abbrev pub listsLeft : Counted → Lists → List Float → ListsLeft
-listsLeft answer outputs scratch = record { answer = answer; outputs = outputs; scratch = scratch }
+abbrev pub columnsLeft : Counted → EpochColumns → List Float → ColumnsLeft
+columnsLeft answer outputs scratch = record { answer = answer; outputs = outputs; scratch = scratch }
 
 -- handed out where every number is finite, else 10 and +0.0 everywhere
-abbrev pub handedOut : Bool → ℕ → List Epoch → List Float → ListsLeft
-handedOut true m es scratch = listsLeft (Filled (length es)) (listsOf m es) (cleared scratch)
-handedOut false m es scratch = listsLeft (NotFilled 10) (listsOf m []) (cleared scratch)
+abbrev pub handedOut : Bool → ℕ → List Epoch → List Float → ColumnsLeft
+handedOut true m es scratch = columnsLeft (Filled (length es)) (filledColumns m es) (cleared scratch)
+handedOut false m es scratch = columnsLeft (NotFilled 10) (filledColumns m []) (cleared scratch)
 
-abbrev pub settledLists : ℕ → ℕ → List Epoch → Lists → List Float → ListsLeft
-settledLists (suc n) m es outs scratch = listsLeft (NotFilled (suc n)) outs scratch
-settledLists zero m es outs scratch = handedOut (all epochFinite es) m es scratch
+abbrev pub settledColumns : ℕ → ℕ → List Epoch → EpochColumns → List Float → ColumnsLeft
+settledColumns (suc n) m es outs scratch = columnsLeft (NotFilled (suc n)) outs scratch
+settledColumns zero m es outs scratch = handedOut (all epochFinite es) m es scratch
 
 -- the records of the epochs that are kept
 abbrev pub keptFrom : (Observation → Option Epoch) → Observed → List Epoch
-keptFrom epoch obs = keptOf epoch (observations (obs .obsTimes) (obs .values) (obs .good))
+keptFrom epoch obs = keptOf epoch (observationsIn obs)
 
 unfoldable pub keptIn : Inputs → Observed → List Epoch
 keptIn inp obs = keptFrom (epochOf inp) obs
 
 -- from the epochs that are kept
-abbrev pub residualsFrom : List Epoch → Inputs → Observed → Lists → List Float → ListsLeft
-residualsFrom es inp obs outs scratch = settledLists (residualsRefusal inp obs (outputsFit obs outs) (length scratch)) (length (obs .obsTimes)) es outs scratch
+abbrev pub residualsFrom : List Epoch → Inputs → Observed → EpochColumns → List Float → ColumnsLeft
+residualsFrom es inp obs outs scratch =
+    settledColumns (residualsRefusal inp obs (outputsFit obs outs) (length scratch)) (length (obs .obsTimes)) es outs scratch
 
 -- `residuals`
-abbrev pub residualsCall : Inputs → Observed → Lists → List Float → ListsLeft
+abbrev pub residualsCall : Inputs → Observed → EpochColumns → List Float → ColumnsLeft
 residualsCall inp obs outs scratch = residualsFrom (keptIn inp obs) inp obs outs scratch

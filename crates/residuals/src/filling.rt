@@ -4,7 +4,7 @@ ghost use Prim.Native.Nat.{_+_, _<_};
 ghost use lib.ListN.{length};
 ghost use Rattle.inputs.specs.Inputs.{modelOf, frontSize, lentList, pairOf, observedOf, inputs};
 ghost use Rattle.residuals.specs.Work.{Searchable, Ready};
-ghost use Rattle.residuals.specs.Calls.{lists};
+ghost use Rattle.residuals.specs.Calls.{epochColumns};
 ghost use Rattle.residuals.specs.Filling.{zeros, blank, Long, Added, SoFar, Begun, Done};
 
 // How many records are stored, and whether all their numbers are finite.
@@ -47,8 +47,9 @@ fn add(
 ) -> Filled
     requires { ⌜ (filled .count < length (now outtimes)) × (filled .count < length (now outresiduals)) × (filled .count < length (now outterms))
         × (filled .count < length (now outmids)) × (filled .count < length (now outvels)) ⌝ }
-    ensures { λ r. ⌜ Added made filled r (lists (now (outtimes .entry)) (now (outresiduals .entry)) (now (outterms .entry)) (now (outmids .entry))
-        (now (outvels .entry))) (lists (now (outtimes .exit)) (now (outresiduals .exit)) (now (outterms .exit)) (now (outmids .exit)) (now (outvels .exit))) ⌝ }
+    ensures { λ r. ⌜ Added made filled r (epochColumns (now (outtimes .entry)) (now (outresiduals .entry)) (now (outterms .entry)) (now (outmids .entry))
+        (now (outvels .entry)))
+        (epochColumns (now (outtimes .exit)) (now (outresiduals .exit)) (now (outterms .exit)) (now (outmids .exit)) (now (outvels .exit))) ⌝ }
 {
     if made.kept {
         let e = made.epoch;
@@ -92,10 +93,10 @@ fn turn<'a>(
         × (base ≡ frontSize degree) × (i < length (now obstimes)) × (length (now obsvalues) ≡ length (now obstimes))
         × (length (now good) ≡ length (now obstimes))
         × SoFar (inputs (modelOf degree model) (pairOf keys states) (pairOf acckeys accs)) (observedOf (now obstimes) (now obsvalues) (now good)) base i
-        filled (lists (now outtimes) (now outresiduals) (now outterms) (now outmids) (now outvels)) (now w) ⌝ }
+        filled (epochColumns (now outtimes) (now outresiduals) (now outterms) (now outmids) (now outvels)) (now w) ⌝ }
     ensures { λ r. ⌜ SoFar (inputs (modelOf degree (model .entry)) (pairOf (keys .entry) (states .entry)) (pairOf (acckeys .entry) (accs .entry)))
         (observedOf (now (obstimes .entry)) (now (obsvalues .entry)) (now (good .entry))) base (i + 1) r
-        (lists (now (outtimes .exit)) (now (outresiduals .exit)) (now (outterms .exit)) (now (outmids .exit)) (now (outvels .exit))) (now (w .exit)) ⌝ }
+        (epochColumns (now (outtimes .exit)) (now (outresiduals .exit)) (now (outterms .exit)) (now (outmids .exit)) (now (outvels .exit))) (now (w .exit)) ⌝ }
 {
     let made = crate::work::try_epoch(
         degree,
@@ -143,10 +144,10 @@ fn fill_from<'a>(
     requires { ⌜ Searchable (lentList keys 0) × Searchable (lentList keys 1) × Searchable (lentList acckeys 0) × Searchable (lentList acckeys 1)
         × (base ≡ frontSize degree) × (length (now obsvalues) ≡ length (now obstimes)) × (length (now good) ≡ length (now obstimes))
         × Begun (inputs (modelOf degree model) (pairOf keys states) (pairOf acckeys accs)) (observedOf (now obstimes) (now obsvalues) (now good)) base
-        (lists (now outtimes) (now outresiduals) (now outterms) (now outmids) (now outvels)) (now w) ⌝ }
+        (epochColumns (now outtimes) (now outresiduals) (now outterms) (now outmids) (now outvels)) (now w) ⌝ }
     ensures { λ r. ⌜ Done (inputs (modelOf degree (model .entry)) (pairOf (keys .entry) (states .entry)) (pairOf (acckeys .entry) (accs .entry)))
         (observedOf (now (obstimes .entry)) (now (obsvalues .entry)) (now (good .entry))) r
-        (lists (now (outtimes .exit)) (now (outresiduals .exit)) (now (outterms .exit)) (now (outmids .exit)) (now (outvels .exit))) ⌝ }
+        (epochColumns (now (outtimes .exit)) (now (outresiduals .exit)) (now (outterms .exit)) (now (outmids .exit)) (now (outvels .exit))) ⌝ }
 {
     let mut filled = Filled {
         count: 0,
@@ -187,8 +188,8 @@ pub(crate) fn clear_lists(
     outmids: &mut [[f64; 3]],
     outvels: &mut [[f64; 3]],
 )
-    ensures { λ _. ⌜ lists (now (outtimes .exit)) (now (outresiduals .exit)) (now (outterms .exit)) (now (outmids .exit)) (now (outvels .exit)) ≡ blank
-        (lists (now (outtimes .entry)) (now (outresiduals .entry)) (now (outterms .entry)) (now (outmids .entry)) (now (outvels .entry))) ⌝ }
+    ensures { λ _. ⌜ epochColumns (now (outtimes .exit)) (now (outresiduals .exit)) (now (outterms .exit)) (now (outmids .exit)) (now (outvels .exit)) ≡ blank
+        (epochColumns (now (outtimes .entry)) (now (outresiduals .entry)) (now (outterms .entry)) (now (outmids .entry)) (now (outvels .entry))) ⌝ }
 {
     slices::clear(outtimes);
     slices::clear(outresiduals);
@@ -217,10 +218,10 @@ pub(crate) fn fill<'a>(
 ) -> Filled
     requires { ⌜ Ready degree (lentList keys 0) (lentList keys 1) (lentList acckeys 0) (lentList acckeys 1) (length (now w))
         × (length (now obsvalues) ≡ length (now obstimes)) × (length (now good) ≡ length (now obstimes))
-        × Long (length (now obstimes)) (lists (now outtimes) (now outresiduals) (now outterms) (now outmids) (now outvels)) ⌝ }
+        × Long (length (now obstimes)) (epochColumns (now outtimes) (now outresiduals) (now outterms) (now outmids) (now outvels)) ⌝ }
     ensures { λ r. ⌜ Done (inputs (modelOf degree (model .entry)) (pairOf (keys .entry) (states .entry)) (pairOf (acckeys .entry) (accs .entry)))
         (observedOf (now (obstimes .entry)) (now (obsvalues .entry)) (now (good .entry))) r
-        (lists (now (outtimes .exit)) (now (outresiduals .exit)) (now (outterms .exit)) (now (outmids .exit)) (now (outvels .exit))) ⌝ }
+        (epochColumns (now (outtimes .exit)) (now (outresiduals .exit)) (now (outterms .exit)) (now (outmids .exit)) (now (outvels .exit))) ⌝ }
 {
     let base = inputs::front_size(degree);
     clear_lists(outtimes, outresiduals, outterms, outmids, outvels);

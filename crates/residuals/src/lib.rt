@@ -12,7 +12,7 @@ ghost use Rattle.epoch.specs.Kept.{observation};
 ghost use Rattle.residuals.specs.Inputs.{epochOf};
 ghost use Rattle.residuals.specs.Work.{Ready};
 ghost use Rattle.residuals.specs.Calls.{epochRefusal, epochFinite, refused as refusedOf, answered, told, epochCall, samplesFit, residualsRefusal};
-ghost use Rattle.residuals.specs.Calls.{lists, listsLeft, residualsCall};
+ghost use Rattle.residuals.specs.Calls.{epochColumns, columnsLeft, residualsCall};
 
 pub enum Verdict {
     Kept,
@@ -262,10 +262,11 @@ pub fn residuals<'a>(
     outvels: &mut [[f64; 3]],
     scratch: &mut [f64],
 ) -> slices::Counted
-    ensures { λ r. ⌜ listsLeft r (lists (now (outtimes .exit)) (now (outresiduals .exit)) (now (outterms .exit)) (now (outmids .exit)) (now (outvels .exit)))
+    ensures { λ r. ⌜ columnsLeft r
+        (epochColumns (now (outtimes .exit)) (now (outresiduals .exit)) (now (outterms .exit)) (now (outmids .exit)) (now (outvels .exit)))
         (now (scratch .exit)) ≡ residualsCall (inputs (modelOf degree (model .entry)) (pairOf (keys .entry) (states .entry))
         (pairOf (acckeys .entry) (accs .entry))) (observedOf (now (obstimes .entry)) (now (obsvalues .entry)) (now (good .entry)))
-        (lists (now (outtimes .entry)) (now (outresiduals .entry)) (now (outterms .entry)) (now (outmids .entry)) (now (outvels .entry)))
+        (epochColumns (now (outtimes .entry)) (now (outresiduals .entry)) (now (outterms .entry)) (now (outmids .entry)) (now (outvels .entry)))
         (now (scratch .entry)) ⌝ }
 {
     let samples = samples_fit(

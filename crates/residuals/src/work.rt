@@ -5,13 +5,14 @@ ghost use lib.ListN.{length, take};
 ghost use Rattle.inputs.specs.Inputs.{modelOf, lentList, pairOf, keyed, inputs};
 ghost use Rattle.numbers.specs.Seconds.{wholeSecond};
 ghost use Rattle.finality.specs.Tables.{find as findIn};
-ghost use Rattle.epoch.specs.Kept.{states as statesOf, numbers as numbersOf, observation};
+ghost use Rattle.integrate.specs.RowsBySecond.{statesIn, valuesIn};
+ghost use Rattle.epoch.specs.Kept.{observation};
 ghost use Rattle.epoch.specs.Work.{givenState, sightingOf, Usable};
 ghost use Rattle.residuals.specs.Work.{Searchable, Tried};
 
 fn find_state(keys: &[i64], states: &[f64], second: numbers::GpsSecond) -> epoch::StateFound
     requires { ⌜ Searchable (now keys) ⌝ }
-    ensures { λ r. ⌜ r ≡ givenState (findIn (second .0) (statesOf (keyed (now (keys .entry)) (now (states .entry))))) ⌝ }
+    ensures { λ r. ⌜ r ≡ givenState (findIn (second .0) (statesIn (keyed (now (keys .entry)) (now (states .entry))))) ⌝ }
 {
     let key = second.0;
     let place = slices::find(keys, key);
@@ -33,10 +34,10 @@ fn look<'a>(
     t: f64,
 ) -> epoch::Sighting
     requires { ⌜ Searchable (lentList keys 0) × Searchable (lentList keys 1) × Searchable (lentList acckeys 0) × Searchable (lentList acckeys 1) ⌝ }
-    ensures { λ r. ⌜ r ≡ sightingOf (findIn (wholeSecond t) (statesOf (pairOf (keys .entry) (states .entry) .c)))
-        (findIn (wholeSecond t) (statesOf (pairOf (keys .entry) (states .entry) .d)))
-        (findIn (wholeSecond t) (numbersOf (pairOf (acckeys .entry) (accs .entry) .c)))
-        (findIn (wholeSecond t) (numbersOf (pairOf (acckeys .entry) (accs .entry) .d))) ⌝ }
+    ensures { λ r. ⌜ r ≡ sightingOf (findIn (wholeSecond t) (statesIn (pairOf (keys .entry) (states .entry) .c)))
+        (findIn (wholeSecond t) (statesIn (pairOf (keys .entry) (states .entry) .d)))
+        (findIn (wholeSecond t) (valuesIn (pairOf (acckeys .entry) (accs .entry) .c)))
+        (findIn (wholeSecond t) (valuesIn (pairOf (acckeys .entry) (accs .entry) .d))) ⌝ }
 {
     let second = numbers::whole_second(numbers::GpsTime(t));
     let c = find_state(keys[inputs::C], states[inputs::C], second);

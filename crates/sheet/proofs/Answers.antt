@@ -20,13 +20,13 @@ use Rattle.finality.proofs.Assembled.{lawful}
 use Rattle.finality.proofs.Finality.{sheet-length}
 use Rattle.horizon.specs.Horizon.{endsOf}
 use Rattle.epoch_record.specs.EpochRecord.{time}
+use Rattle.epoch.proofs.Kept.{observations-length}
 use Rattle.sheet.specs.Stages.{kernels}
 use Rattle.sheet.specs.Submission.{stages, submissionOf}
 use Rattle.sheet.specs.Calls.{placesFit, refusalOf, sheetRefusal, columnsOf, keptCount, finalCount, Worked, sheetCall}
 use Rattle.sheet.specs.declared.SheetAnswer.{SheetAnswer}
 use Rattle.sheet.specs.declared.SheetAnswer.the-variants.{Accepted, Refused}
 use Rattle.sheet.proofs.Lawful.{lawful-kernels}
-use Rattle.sheet.proofs.Grown.{observed-count}
 use Rattle.sheet.proofs.Accepted.{accepts, outputs-long}
 use Rattle.sheet.proofs.Columns.{ends-are}
 
@@ -42,7 +42,7 @@ cleared-alike m (x ∷ xs) (y ∷ ys) e a b = λ i. same-cleared x y (a .0 ∙ s
 columns-long : (S : Fixed) (l : Lists) → All (λ (c : List Float). length c ≡ length (l .tracks .observed .obsTimes)) (columnsOf S l)
 unfolding columnsOf
 columns-long S l =
-    subst (λ (m : ℕ). All (λ (c : List Float). length c ≡ m) (columnsOf S l)) (observed-count (l .tracks .observed .obsTimes) (l .tracks .observed .values) (l .tracks .observed .good))
+    subst (λ (m : ℕ). All (λ (c : List Float). length c ≡ m) (columnsOf S l)) (observations-length (l .tracks .observed))
     (sheet-length (stages S) (lawful (kernels S) (lawful-kernels S)) (submissionOf S l))
 
 abbrev firstColumn : List (List Float) → List Float

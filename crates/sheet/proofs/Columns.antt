@@ -20,9 +20,11 @@ use Rattle.horizon.specs.Horizon.{endsOf, horizonAnswer, horizonAt}
 use Rattle.horizon.specs.declared.kernel.HorizonNode.{HorizonNode}
 use Rattle.model.specs.Stages.{timed}
 use Rattle.model.proofs.Stages.{timed-times}
-use Rattle.windows.specs.Stage.{statesIn}
-use Rattle.sheet.specs.Submission.{stages, submissionOf, valuesIn, observationsIn}
-use Rattle.sheet.proofs.Grown.{states-keys, values-keys, observed-times}
+use Rattle.integrate.specs.RowsBySecond.{statesIn, valuesIn}
+use Rattle.integrate.proofs.RowsBySecond.{states-keys, values-keys}
+use Rattle.epoch.specs.Kept.{observationsIn}
+use Rattle.epoch.proofs.Kept.{observations-times}
+use Rattle.sheet.specs.Submission.{stages, submissionOf}
 
 -- ---- the last entry of a list is that of its keys or times
 
@@ -62,18 +64,13 @@ module _ (S : Fixed) (l : Lists) where
   pub ends-are : endsOf (l .tracks .states .c .keys) (l .tracks .states .d .keys) (l .tracks .accs .c .keys) (l .tracks .accs .d .keys) (l .fields .fieldTimes) (l .tracks .observed .obsTimes) ≡
       submissionEnds (stages S) (submissionOf S l)
   ends-are = λ i. record {
-    statesC = end-is secondTime keyOf (statesIn (l .tracks .states .c .keys) (l .tracks .states .c .values)) (l .tracks .states .c .keys)
-        (states-keys (l .tracks .states .c .keys) (l .tracks .states .c .values)) i;
-    statesD = end-is secondTime keyOf (statesIn (l .tracks .states .d .keys) (l .tracks .states .d .values)) (l .tracks .states .d .keys)
-        (states-keys (l .tracks .states .d .keys) (l .tracks .states .d .values)) i;
-    accC = end-is secondTime keyOf (valuesIn (l .tracks .accs .c .keys) (l .tracks .accs .c .values)) (l .tracks .accs .c .keys) (values-keys (l .tracks .accs .c .keys) (l .tracks .accs .c .values))
-        i;
-    accD = end-is secondTime keyOf (valuesIn (l .tracks .accs .d .keys) (l .tracks .accs .d .values)) (l .tracks .accs .d .keys) (values-keys (l .tracks .accs .d .keys) (l .tracks .accs .d .values))
-        i;
+    statesC = end-is secondTime keyOf (statesIn (l .tracks .states .c)) (l .tracks .states .c .keys) (states-keys (l .tracks .states .c)) i;
+    statesD = end-is secondTime keyOf (statesIn (l .tracks .states .d)) (l .tracks .states .d .keys) (states-keys (l .tracks .states .d)) i;
+    accC = end-is secondTime keyOf (valuesIn (l .tracks .accs .c)) (l .tracks .accs .c .keys) (values-keys (l .tracks .accs .c)) i;
+    accD = end-is secondTime keyOf (valuesIn (l .tracks .accs .d)) (l .tracks .accs .d .keys) (values-keys (l .tracks .accs .d)) i;
     fields = end-is (λ (t : Float). t) timeOf (timed (S .degree) (l .fields .fieldTimes) (l .fields .added)) (l .fields .fieldTimes)
         (timed-times (S .degree) (l .fields .fieldTimes) (l .fields .added)) i;
-    obs = end-is (λ (t : Float). t) obsTime (observationsIn (l .tracks .observed .obsTimes) (l .tracks .observed .values) (l .tracks .observed .good)) (l .tracks .observed .obsTimes)
-        (observed-times (l .tracks .observed .obsTimes) (l .tracks .observed .values) (l .tracks .observed .good)) i;
+    obs = end-is (λ (t : Float). t) obsTime (observationsIn (l .tracks .observed)) (l .tracks .observed .obsTimes) (observations-times (l .tracks .observed)) i;
   }
 
 -- ---- the horizon's answer and back

@@ -20,9 +20,11 @@ use Rattle.finality.proofs.Assembled.{lawful, kernels-final}
 use Rattle.finality.proofs.Finality.{Final, final-kept, final-is, no-horizon}
 use Rattle.model.specs.Stages.{timed}
 use Rattle.model.proofs.Stages.{timed-length, timed-times, timed-append}
+use Rattle.integrate.proofs.RowsBySecond.{states-keys, values-keys}
+use Rattle.epoch.proofs.Kept.{observations-times}
 use Rattle.sheet.specs.Stages.{kernels}
 use Rattle.sheet.specs.Submission.{stages, submissionOf, Passed, ListsGrow}
-use Rattle.sheet.proofs.Grown.{states-keys, values-keys, observed-times, begins-of, states-begin, values-begin, observed-begin}
+use Rattle.sheet.proofs.Grown.{begins-of, states-begin, values-begin, observed-begin}
 use Rattle.sheet.proofs.Lawful.{lawful-kernels}
 
 -- a test of a list, of the list that stands for it
@@ -33,15 +35,15 @@ pub valid : (S : Fixed) (l : Lists) → Passed S l → Valid (stages S) (submiss
 valid S l p =
     let N = S .degree in
     let ft = timed-times N (l .fields .fieldTimes) (l .fields .added) in
-    let ot = observed-times (l .tracks .observed .obsTimes) (l .tracks .observed .values) (l .tracks .observed .good) in
+    let ot = observations-times (l .tracks .observed) in
     valid-of (stages S) (submissionOf S l)
     (let n = timed-length N (l .fields .fieldTimes) (l .fields .added) in let f = p .fields in omega arith)
     (carried (λ (ts : List Float). T (all isTime ts)) (l .fields .fieldTimes) _ ft (p .field-times .0))
     (carried (λ (ts : List Float). T (rising ts)) (l .fields .fieldTimes) _ ft (p .field-times .1))
-    (carried (λ (ks : List ℤ). T (risingSeconds ks)) (l .tracks .states .c .keys) _ (states-keys (l .tracks .states .c .keys) (l .tracks .states .c .values)) (p .keysC-rise))
-    (carried (λ (ks : List ℤ). T (risingSeconds ks)) (l .tracks .states .d .keys) _ (states-keys (l .tracks .states .d .keys) (l .tracks .states .d .values)) (p .keysD-rise))
-    (carried (λ (ks : List ℤ). T (risingSeconds ks)) (l .tracks .accs .c .keys) _ (values-keys (l .tracks .accs .c .keys) (l .tracks .accs .c .values)) (p .accKeysC-rise))
-    (carried (λ (ks : List ℤ). T (risingSeconds ks)) (l .tracks .accs .d .keys) _ (values-keys (l .tracks .accs .d .keys) (l .tracks .accs .d .values)) (p .accKeysD-rise))
+    (carried (λ (ks : List ℤ). T (risingSeconds ks)) (l .tracks .states .c .keys) _ (states-keys (l .tracks .states .c)) (p .keysC-rise))
+    (carried (λ (ks : List ℤ). T (risingSeconds ks)) (l .tracks .states .d .keys) _ (states-keys (l .tracks .states .d)) (p .keysD-rise))
+    (carried (λ (ks : List ℤ). T (risingSeconds ks)) (l .tracks .accs .c .keys) _ (values-keys (l .tracks .accs .c)) (p .accKeysC-rise))
+    (carried (λ (ks : List ℤ). T (risingSeconds ks)) (l .tracks .accs .d .keys) _ (values-keys (l .tracks .accs .d)) (p .accKeysD-rise))
     (p .node-times .0)
     (p .node-times .1)
     (carried (λ (ts : List Float). T (all isTime ts)) (l .tracks .observed .obsTimes) _ ot (p .observed-times .0))
@@ -55,13 +57,12 @@ fields-begin N ts ts' fs fs' h a b =
 pub grows : (S : Fixed) (l l' : Lists) → Passed S l → ListsGrow l l' → Grows (stages S) (submissionOf S l) (submissionOf S l')
 grows S l l' p g = record {
   fields = fields-begin (S .degree) (l .fields .fieldTimes) (l' .fields .fieldTimes) (l .fields .added) (l' .fields .added) (p .added) (g .fieldTimes) (g .added);
-  statesC = states-begin (l .tracks .states .c .keys) (l' .tracks .states .c .keys) (l .tracks .states .c .values) (l' .tracks .states .c .values) (p .statesC) (g .keysC) (g .statesC);
-  statesD = states-begin (l .tracks .states .d .keys) (l' .tracks .states .d .keys) (l .tracks .states .d .values) (l' .tracks .states .d .values) (p .statesD) (g .keysD) (g .statesD);
-  accC = values-begin (l .tracks .accs .c .keys) (l' .tracks .accs .c .keys) (l .tracks .accs .c .values) (l' .tracks .accs .c .values) (p .accC) (g .accKeysC) (g .accC);
-  accD = values-begin (l .tracks .accs .d .keys) (l' .tracks .accs .d .keys) (l .tracks .accs .d .values) (l' .tracks .accs .d .values) (p .accD) (g .accKeysD) (g .accD);
+  statesC = states-begin (l .tracks .states .c) (l' .tracks .states .c) (g .keysC) (g .statesC) (p .statesC);
+  statesD = states-begin (l .tracks .states .d) (l' .tracks .states .d) (g .keysD) (g .statesD) (p .statesD);
+  accC = values-begin (l .tracks .accs .c) (l' .tracks .accs .c) (g .accKeysC) (g .accC) (p .accC);
+  accD = values-begin (l .tracks .accs .d) (l' .tracks .accs .d) (g .accKeysD) (g .accD) (p .accD);
   nodes = g .nodes;
-  obs = observed-begin (l .tracks .observed .obsTimes) (l' .tracks .observed .obsTimes) (l .tracks .observed .values) (l' .tracks .observed .values) (l .tracks .observed .good)
-      (l' .tracks .observed .good) (p .values) (p .good) (g .times) (g .values) (g .good);
+  obs = observed-begin (l .tracks .observed) (l' .tracks .observed) (p .values) (p .good) (g .times) (g .values) (g .good);
 }
 
 -- sentences 1 and 2

@@ -1,99 +1,69 @@
--- The lists of a call as a submission: keys and times are kept, and lists that begin with others give submissions that do. Assumes nothing.
-use mathlib.Core.Path.{_≡_, refl, sym, ap, _∙_}
-use mathlib.Core.Bool.{not}
-use mathlib.Core.List.{List, [], _∷_, _++_, map}
-use Prim.Native.Nat.{ℕ, _+_, _*_, _≤_}
+-- The lists of a call as a submission: lists that begin with others give submissions that do. Assumes nothing.
+use mathlib.Core.Path.{_≡_, refl, sym, ap, _∙_, subst}
+use mathlib.Core.List.{List, [], _∷_, _++_}
+use Prim.Native.Nat.{ℕ, suc, _+_, _*_, _≤_, _<_}
 use native.Mathlib.Omega.{arith}
-use lib.Dec.{eqb}
 use lib.IntN.{ℤ}
-use lib.ListN.{length, take, drop, length-map}
-use lib.Seq.{take-at, drop-append-le}
-use lib.Ieee.{Float}
+use lib.ListN.{length, take, drop, getD}
+use lib.Seq.{take-at, getD-take}
+use lib.Ieee.{Float, nan}
+use Rattle.inputs.specs.Inputs.{Keyed, Observed}
 use Rattle.finality.proofs.Begins.{glue}
-use Rattle.finality.specs.Tables.{Table, keyOf}
-use Rattle.finality.specs.Sheet.{Observation, obsTime, Begins}
+use Rattle.finality.specs.Sheet.{Begins}
 use Rattle.integrate.specs.Room.{stateIn}
-use Rattle.integrate.specs.declared.kernel.State.{State}
-use Rattle.windows.specs.Stage.{statesIn}
-use Rattle.sheet.specs.Submission.{valuesIn, observationsIn}
+use Rattle.integrate.specs.RowsBySecond.{mapFrom, rowsBy, statesIn, valuesIn}
+use Rattle.epoch.specs.Kept.{observation, observationsIn}
 
--- ---- keys and times
-
-pub states-keys : (ks : List ℤ) (xs : List Float) → map keyOf (statesIn ks xs) ≡ ks
-unfolding statesIn
-states-keys [] xs = refl
-states-keys (k ∷ ks) xs = ap (λ (l : List ℤ). k ∷ l) (states-keys ks (drop 6 xs))
-
-pub values-keys : (ks : List ℤ) (xs : List Float) → map keyOf (valuesIn ks xs) ≡ ks
-unfolding valuesIn
-values-keys [] xs = refl
-values-keys (k ∷ ks) xs = ap (λ (l : List ℤ). k ∷ l) (values-keys ks (drop 1 xs))
-
-pub observed-times : (ts vs : List Float) (gs : List ℕ) → map obsTime (observationsIn ts vs gs) ≡ ts
-unfolding observationsIn
-observed-times [] vs gs = refl
-observed-times (t ∷ ts) vs gs = ap (λ (l : List Float). t ∷ l) (observed-times ts (drop 1 vs) (drop 1 gs))
-
-pub observed-count : (ts vs : List Float) (gs : List ℕ) → length (observationsIn ts vs gs) ≡ length ts
-observed-count ts vs gs = sym (length-map (observationsIn ts vs gs) obsTime) ∙ ap length (observed-times ts vs gs)
-
--- ---- appended lists
-
-six : (xs ys : List Float) → 6 ≤ length xs → stateIn (xs ++ ys) 0 ≡ stateIn xs 0
-unfolding stateIn
-six (a ∷ b ∷ c ∷ d ∷ e ∷ f ∷ xs) ys h = refl
-six [] ys h = absurd (omega arith)
-six (a ∷ []) ys h = absurd (omega arith)
-six (a ∷ b ∷ []) ys h = absurd (omega arith)
-six (a ∷ b ∷ c ∷ []) ys h = absurd (omega arith)
-six (a ∷ b ∷ c ∷ d ∷ []) ys h = absurd (omega arith)
-six (a ∷ b ∷ c ∷ d ∷ e ∷ []) ys h = absurd (omega arith)
-
-pub states-append : (ks js : List ℤ) (xs ys : List Float) → length xs ≡ 6 * length ks → statesIn (ks ++ js) (xs ++ ys) ≡ statesIn ks xs ++ statesIn js ys
-unfolding statesIn
-states-append [] js [] ys h = refl
-states-append [] js (x ∷ xs) ys h = absurd (omega arith)
-states-append (k ∷ ks) js xs ys h =
-    let l : 6 ≤ length xs = omega arith in
-    let d : length (drop 6 xs) ≡ 6 * length ks = rw (lib.ListN.length-drop 6 xs) (omega arith) in
-    (λ i. (k, six xs ys l i) ∷ statesIn (ks ++ js) (drop-append-le 6 xs ys l i)) ∙ ap (λ (t : Table State). (k, stateIn xs 0) ∷ t) (states-append ks js (drop 6 xs) ys d)
-
-pub values-append : (ks js : List ℤ) (xs ys : List Float) → length xs ≡ length ks → valuesIn (ks ++ js) (xs ++ ys) ≡ valuesIn ks xs ++ valuesIn js ys
-unfolding valuesIn
-values-append [] js [] ys h = refl
-values-append [] js (x ∷ xs) ys h = absurd (omega arith)
-values-append (k ∷ ks) js [] ys h = absurd (omega arith)
-values-append (k ∷ ks) js (x ∷ xs) ys h = ap (λ (t : Table Float). (k, x) ∷ t) (values-append ks js xs ys (omega arith))
-
-pub observed-append : (ts us vs ws : List Float) (gs hs : List ℕ) → length vs ≡ length ts → length gs ≡ length ts →
-    observationsIn (ts ++ us) (vs ++ ws) (gs ++ hs) ≡ observationsIn ts vs gs ++ observationsIn us ws hs
-unfolding observationsIn
-observed-append [] us [] ws [] hs h g = refl
-observed-append [] us (v ∷ vs) ws gs hs h g = absurd (omega arith)
-observed-append [] us [] ws (b ∷ gs) hs h g = absurd (omega arith)
-observed-append (t ∷ ts) us [] ws gs hs h g = absurd (omega arith)
-observed-append (t ∷ ts) us (v ∷ vs) ws [] hs h g = absurd (omega arith)
-observed-append (t ∷ ts) us (v ∷ vs) ws (b ∷ gs) hs h g =
-    ap (λ (l : List Observation). record { at = t; observed = v; good = not (eqb b 0) } ∷ l) (observed-append ts us vs ws gs hs (omega arith) (omega arith))
-
--- ---- a list that begins with another is that list and more
-
+-- a list that begins with another is that list and more
 pub begins-of : {A : Type 0} (xs ys zs : List A) → zs ≡ xs ++ ys → Begins xs zs
 begins-of xs ys zs e = ap (take (length xs)) e ∙ take-at xs ys (length xs) refl
 
-pub states-begin : (ks ks' : List ℤ) (xs xs' : List Float) → length xs ≡ 6 * length ks → Begins ks ks' → Begins xs xs' → Begins (statesIn ks xs) (statesIn ks' xs')
-states-begin ks ks' xs xs' h a b =
-    begins-of (statesIn ks xs) (statesIn (drop (length ks) ks') (drop (length xs) xs')) (statesIn ks' xs')
-    ((λ i. statesIn (sym (glue ks ks' a) i) (sym (glue xs xs' b) i)) ∙ states-append ks (drop (length ks) ks') xs (drop (length xs) xs') h)
+-- what stands at a place of the first list
+begun-at : {A : Type 0} (xs ys : List A) (d : A) (k : ℕ) → Begins xs ys → k < length xs → getD ys k d ≡ getD xs k d
+begun-at {A = A} xs ys d k b h = sym (getD-take (length xs) ys k d h) ∙ ap (λ (l : List A). getD l k d) b
 
-pub values-begin : (ks ks' : List ℤ) (xs xs' : List Float) → length xs ≡ length ks → Begins ks ks' → Begins xs xs' → Begins (valuesIn ks xs) (valuesIn ks' xs')
-values-begin ks ks' xs xs' h a b =
-    begins-of (valuesIn ks xs) (valuesIn (drop (length ks) ks') (drop (length xs) xs')) (valuesIn ks' xs')
-    ((λ i. valuesIn (sym (glue ks ks' a) i) (sym (glue xs xs' b) i)) ∙ values-append ks (drop (length ks) ks') xs (drop (length xs) xs') h)
+-- ---- rows and observations, by their places
 
-pub observed-begin : (ts ts' vs vs' : List Float) (gs gs' : List ℕ) → length vs ≡ length ts → length gs ≡ length ts → Begins ts ts' → Begins vs vs' → Begins gs gs' →
-    Begins (observationsIn ts vs gs) (observationsIn ts' vs' gs')
-observed-begin ts ts' vs vs' gs gs' h g a b c =
-    begins-of (observationsIn ts vs gs) (observationsIn (drop (length ts) ts') (drop (length vs) vs') (drop (length gs) gs')) (observationsIn ts' vs' gs')
-    ((λ i. observationsIn (sym (glue ts ts' a) i) (sym (glue vs vs' b) i) (sym (glue gs gs' c) i))
-    ∙ observed-append ts (drop (length ts) ts') vs (drop (length vs) vs') gs (drop (length gs) gs') h g)
+module _ {A B : Type 0} (f f' : A → ℕ → B) where
+  from-append : (i : ℕ) (xs ys : List A) → ((x : A) (j : ℕ) → j < i + length xs → f' x j ≡ f x j) → Begins (mapFrom f i xs) (mapFrom f' i (xs ++ ys))
+  unfolding mapFrom
+  from-append i [] ys h = refl
+  from-append i (x ∷ xs) ys h = λ j. h x i (omega arith) j ∷ from-append (suc i) xs ys (λ y k l. h y k (omega arith)) j
+
+  from-begin : (xs xs' : List A) → Begins xs xs' → ((x : A) (j : ℕ) → j < length xs → f' x j ≡ f x j) → Begins (mapFrom f 0 xs) (mapFrom f' 0 xs')
+  from-begin xs xs' b h =
+      subst (λ (l : List A). Begins (mapFrom f 0 xs) (mapFrom f' 0 l)) (glue xs xs' b) (from-append 0 xs (drop (length xs) xs') (λ x j l. h x j (omega arith)))
+
+rows-begin : {X : Type 0} (row row' : ℕ → X) (ks ks' : List ℤ) → Begins ks ks' → ((i : ℕ) → i < length ks → row' i ≡ row i) → Begins (rowsBy row ks) (rowsBy row' ks')
+rows-begin row row' ks ks' b h = from-begin (λ (k : ℤ) (i : ℕ). (k, row i)) (λ (k : ℤ) (i : ℕ). (k, row' i)) ks ks' b (λ k i l j. (k, h i l j))
+
+state-begun : (xs xs' : List Float) (n : ℕ) → Begins xs xs' → n + 6 ≤ length xs → stateIn xs' n ≡ stateIn xs n
+unfolding stateIn
+state-begun xs xs' n b h = λ j. record {
+  position = record { x = at n (omega arith) j; y = at (n + 1) (omega arith) j; z = at (n + 2) (omega arith) j };
+  velocity = record { x = at (n + 3) (omega arith) j; y = at (n + 4) (omega arith) j; z = at (n + 5) (omega arith) j };
+}
+  where
+    at : (k : ℕ) → k < length xs → getD xs' k nan ≡ getD xs k nan
+    at k l = begun-at xs xs' nan k b l
+
+module _ (l l' : Keyed) (keys : Begins (l .keys) (l' .keys)) (values : Begins (l .values) (l' .values)) where
+  pub states-begin : length (l .values) ≡ 6 * length (l .keys) → Begins (statesIn l) (statesIn l')
+  unfolding statesIn
+  states-begin e =
+      rows-begin (λ (i : ℕ). stateIn (l .values) (6 * i)) (λ (i : ℕ). stateIn (l' .values) (6 * i)) (l .keys) (l' .keys) keys
+      (λ i h. state-begun (l .values) (l' .values) (6 * i) values (omega arith))
+
+  pub values-begin : length (l .values) ≡ length (l .keys) → Begins (valuesIn l) (valuesIn l')
+  unfolding valuesIn
+  values-begin e =
+      rows-begin (λ (i : ℕ). getD (l .values) i nan) (λ (i : ℕ). getD (l' .values) i nan) (l .keys) (l' .keys) keys
+      (λ i h. begun-at (l .values) (l' .values) nan i values (omega arith))
+
+pub observed-begin : (obs obs' : Observed) → length (obs .values) ≡ length (obs .obsTimes) → length (obs .good) ≡ length (obs .obsTimes) →
+    Begins (obs .obsTimes) (obs' .obsTimes) → Begins (obs .values) (obs' .values) → Begins (obs .good) (obs' .good) → Begins (observationsIn obs) (observationsIn obs')
+unfolding observationsIn
+observed-begin obs obs' ev eg times values good =
+    from-begin (λ (t : Float) (i : ℕ). observation t (getD (obs .values) i nan) (getD (obs .good) i 0))
+    (λ (t : Float) (i : ℕ). observation t (getD (obs' .values) i nan) (getD (obs' .good) i 0)) (obs .obsTimes) (obs' .obsTimes) times
+    (λ t i h j. observation t (begun-at (obs .values) (obs' .values) nan i values (omega arith) j) (begun-at (obs .good) (obs' .good) 0 i good (omega arith) j))

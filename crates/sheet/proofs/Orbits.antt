@@ -13,7 +13,7 @@ use lib.ListN.{length, getD}
 use mathlib.Core.List.{append-assoc, append-nil}
 use lib.Ieee.{Float, nan, le, lt, ofInt}
 use lib.Ieee.Fits.{and-i}
-use Rattle.inputs.specs.Inputs.{Fixed, Lists, modelIn}
+use Rattle.inputs.specs.Inputs.{Keyed, Fixed, Lists, modelIn}
 use Rattle.laws.specs.Floats.{zero⁺}
 use Rattle.laws.specs.Lists.{All}
 use Rattle.laws.specs.Order.{lt-le-tr}
@@ -28,10 +28,11 @@ use Rattle.finality.proofs.ArcFits.{starts, ends, rises, leaves}
 use Rattle.model.specs.Model.{fieldAt}
 use Rattle.model.proofs.Stages.{timed-times, field-bracketed}
 use Rattle.integrate.specs.Force.{fullForce}
+use Rattle.integrate.specs.RowsBySecond.{statesIn}
 use Rattle.integrate.proofs.Published.{Sized}
 use Rattle.integrate.specs.declared.kernel.State.{State}
 use Rattle.fit.specs.Fit.{stateFor}
-use Rattle.windows.specs.Stage.{fitStage, statesIn}
+use Rattle.windows.specs.Stage.{fitStage}
 use Rattle.windows.specs.Windows.{windowBy, Ends}
 use Rattle.windows.proofs.Lawful.{lawful-fit}
 use Rattle.windows.proofs.StageWindows.{window-is}
@@ -54,14 +55,14 @@ module _ (S : Fixed) (l : Lists) (few : 2 ≤ length (l .fields .fieldTimes)) wh
 
   -- ---- one window
 
-  abbrev pub windowIn : List ℤ → List Float → Float → Float → Table State
-  windowIn keys states = windowOf (fitStage S) (coveredIn (stagesOf (kernels S)) (submissionOf S l)) (fieldIn (stagesOf (kernels S)) (submissionOf S l)) (λ (k : ℤ). find k (statesIn keys states))
+  abbrev pub windowIn : Keyed → Float → Float → Table State
+  windowIn states = windowOf (fitStage S) (coveredIn (stagesOf (kernels S)) (submissionOf S l)) (fieldIn (stagesOf (kernels S)) (submissionOf S l)) (λ (k : ℤ). find k (statesIn states))
 
-  pub fitted-window : ModelFits S l → (keys : List ℤ) (states : List Float) (a b : Float) → Ends a b →
-      windowBy (covers (l .fields .fieldTimes)) (fullForce (modelIn S l)) (stateFor keys states) a b ≡ windowIn keys states a b
-  fitted-window fits keys states a b e =
-      window-is (modelIn S l) keys states fits a b e
-      ∙ (λ i. windowOf (fitStage S) (λ t. covered-is t i) (λ t. field-is t i) (λ (k : ℤ). find k (statesIn keys states)) a b)
+  pub fitted-window : ModelFits S l → (states : Keyed) (a b : Float) → Ends a b →
+      windowBy (covers (l .fields .fieldTimes)) (fullForce (modelIn S l)) (stateFor (states .keys) (states .values)) a b ≡ windowIn states a b
+  fitted-window fits states a b e =
+      window-is (modelIn S l) states fits a b e
+      ∙ (λ i. windowOf (fitStage S) (λ t. covered-is t i) (λ t. field-is t i) (λ (k : ℤ). find k (statesIn states)) a b)
 
 -- ---- all windows end to end
 

@@ -9,7 +9,7 @@ use lib.IntN.{ℤ}
 use lib.ListN.{length, take, getD, length-map}
 use lib.Ieee.{Float, nan, lt}
 use borrow.Author.Tests.{le-leb, eq-eqb}
-use Rattle.inputs.specs.Inputs.{windowRoom, frontSize, Fixed, Lists, modelIn}
+use Rattle.inputs.specs.Inputs.{windowRoom, frontSize, Keyed, Fixed, Lists, modelIn}
 use Rattle.laws.specs.Floats.{zero64}
 use Rattle.laws.specs.Lists.{All}
 use Rattle.laws.specs.Checks.{all}
@@ -23,12 +23,13 @@ use Rattle.epoch_record.specs.declared.Epoch.{Epoch}
 use Rattle.integrate.specs.Force.{fullForce}
 use Rattle.integrate.specs.declared.kernel.State.{State}
 use Rattle.fit.specs.Fit.{stateFor}
-use Rattle.epoch.specs.Kept.{numbers, epochBy, observations}
-use Rattle.windows.specs.Stage.{statesIn}
+use Rattle.integrate.specs.RowsBySecond.{statesIn}
+use Rattle.epoch.specs.Kept.{epochBy}
+use Rattle.epoch.proofs.Kept.{observations-length}
 use Rattle.windows.specs.Slots.{Slot}
 use Rattle.windows.specs.Windows.{slotAt, windowBy, windowsServe, Ends}
 use Rattle.windows.proofs.Filling.{served}
-use Rattle.slots.specs.LookUp.{joined, Shelved, BothFit}
+use Rattle.slots.specs.LookUp.{joined, SlotsHold, BothFit}
 use Rattle.kept_epochs.specs.KeptEpochs.{Given, given, keptIn, gatherServes, Listed, Gathered}
 use Rattle.columns.specs.Columns.{columnsServe, ColumnsFilled}
 use Rattle.sheet.specs.Submission.{stages, submissionOf}
@@ -37,7 +38,6 @@ use Rattle.sheet.proofs.Orbits.{fitted-window, windowAt, windows-joined
 use Rattle.sheet.proofs.Accepted.{Accepts, accepts, passed, outputs-long, model-fits, windows-serve}
 use Rattle.sheet.proofs.Columns.{following, following-are}
 use Rattle.sheet.proofs.Kept.{kept-is}
-use Rattle.sheet.proofs.Grown.{observed-count}
 use Rattle.sheet.proofs.Final.{valid}
 
 -- ---- the fits of one satellite in their slots
@@ -56,26 +56,26 @@ module _ (S : Fixed) (l : Lists) (outputs : List (List Float)) (room : ℕ) (h :
       (windows-serve S l outputs room h (l .tracks .states .c .keys) (l .tracks .states .c .values) 0 (omega arith) (h .statesC) (h .rise .statesC)) .ends w
       (omega arith)
 
-  abbrev tables : List ℤ → List Float → ℕ → Table State
-  tables keys states = windowAt S (coveredIn (stages S) sub) (fieldIn (stages S) sub) (λ (k : ℤ). find k (statesIn keys states)) (l .tracks .nodes)
+  abbrev tables : Keyed → ℕ → Table State
+  tables states = windowAt S (coveredIn (stages S) sub) (fieldIn (stages S) sub) (λ (k : ℤ). find k (statesIn states)) (l .tracks .nodes)
 
-  pub tables-joined : (keys : List ℤ) (states : List Float) → joined (tables keys states) (length (l .tracks .nodes) - 1) ≡ fitted (stages S) sub (statesIn keys states)
-  tables-joined keys states = windows-joined S (coveredIn (stages S) sub) (fieldIn (stages S) sub) (λ (k : ℤ). find k (statesIn keys states)) (l .tracks .nodes)
+  pub tables-joined : (states : Keyed) → joined (tables states) (length (l .tracks .nodes) - 1) ≡ fitted (stages S) sub (statesIn states)
+  tables-joined states = windows-joined S (coveredIn (stages S) sub) (fieldIn (stages S) sub) (λ (k : ℤ). find k (statesIn states)) (l .tracks .nodes)
 
-  pub shelved : (keys : List ℤ) (states : List Float) (satellite : ℕ) (s : List Float) → satellite ≤ 1 → length s ≡ room →
+  pub slots-hold : (states : Keyed) (satellite : ℕ) (s : List Float) → satellite ≤ 1 → length s ≡ room →
       ((w : ℕ) → w < length (l .tracks .nodes) - 1 →
-      Slot s (slotAt base satellite w) (windowBy (covers (l .fields .fieldTimes)) (fullForce (modelIn S l)) (stateFor keys states) (getD (l .tracks .nodes) w nan)
+      Slot s (slotAt base satellite w) (windowBy (covers (l .fields .fieldTimes)) (fullForce (modelIn S l)) (stateFor (states .keys) (states .values)) (getD (l .tracks .nodes) w nan)
       (getD (l .tracks .nodes) (w + 1) nan))) →
-      Shelved s (slotAt base satellite 0) (tables keys states) (length (l .tracks .nodes) - 1)
-  shelved keys states satellite s one e slots = record {
+      SlotsHold s (slotAt base satellite 0) (tables states) (length (l .tracks .nodes) - 1)
+  slots-hold states satellite s one e slots = record {
     room = omega (arith, h .scratch);
     slots = λ w k.
         let place : slotAt base satellite w ≡ slotAt base satellite 0 + windowRoom * w = omega arith in
-        subst (λ (at : ℕ). Slot s at (tables keys states w)) place
+        subst (λ (at : ℕ). Slot s at (tables states w)) place
         (subst (λ (t : Table State). Slot s (slotAt base satellite w) t)
-        (fitted-window S l (h .fields) (model-fits S l outputs room h) keys states (getD (l .tracks .nodes) w nan) (getD (l .tracks .nodes) (w + 1) nan) (node-ends w k)) (slots w k));
+        (fitted-window S l (h .fields) (model-fits S l outputs room h) states (getD (l .tracks .nodes) w nan) (getD (l .tracks .nodes) (w + 1) nan) (node-ends w k)) (slots w k));
     orderly =
-        λ w k. window-orderly S (coveredIn (stages S) sub) (fieldIn (stages S) sub) (λ (k : ℤ). find k (statesIn keys states)) (getD (l .tracks .nodes) w nan) (getD (l .tracks .nodes) (w + 1) nan)
+        λ w k. window-orderly S (coveredIn (stages S) sub) (fieldIn (stages S) sub) (λ (k : ℤ). find k (statesIn states)) (getD (l .tracks .nodes) w nan) (getD (l .tracks .nodes) (w + 1) nan)
         (node-ends w k);
   }
 
@@ -86,7 +86,7 @@ length-kept S l =
     omega (
       arith,
       kept-length (epochOf (stages S) (submissionOf S l)) (submissionOf S l .obs),
-      observed-count (l .tracks .observed .obsTimes) (l .tracks .observed .values) (l .tracks .observed .good),
+      observations-length (l .tracks .observed),
     )
 
 -- lists of one length
@@ -112,8 +112,8 @@ module _ (S : Fixed) (l : Lists) (outtimes outraws : List Float) (others : List 
   places : All (λ (o : List Float). length o ≡ m) outputs
   places = outputs-long S l outputs (length s) h
 
-  abbrev windowOfCode : List ℤ → List Float → Float → Float → Table State
-  windowOfCode keys states = windowBy (covers (l .fields .fieldTimes)) (fullForce (modelIn S l)) (stateFor keys states)
+  abbrev windowOfCode : Keyed → Float → Float → Table State
+  windowOfCode states = windowBy (covers (l .fields .fieldTimes)) (fullForce (modelIn S l)) (stateFor (states .keys) (states .values))
 
   abbrev bothServe : Bool
   bothServe = windowsServe (S .degree) (l .tracks .states .c .keys) (length (l .tracks .states .c .values)) (l .tracks .nodes) 0 (length s) && windowsServe (S .degree) (l .tracks .states .d .keys)
@@ -150,28 +150,28 @@ module _ (S : Fixed) (l : Lists) (outtimes outraws : List Float) (others : List 
 
   -- the fits and the epochs over them
   listed : (s₁ s₂ t r : List Float) (b : Bool) (windows n : ℕ) → windows ≡ length (l .tracks .nodes) - 1 →
-      BothFit bothServe (windowOfCode (l .tracks .states .c .keys) (l .tracks .states .c .values)) (windowOfCode (l .tracks .states .d .keys) (l .tracks .states .d .values)) (l .tracks .nodes) s s₁
+      BothFit bothServe (windowOfCode (l .tracks .states .c)) (windowOfCode (l .tracks .states .d)) (l .tracks .nodes) s s₁
       (frontSize (S .degree)) b →
       Gathered (asGiven windows) (epochsServe (length s₁)) outtimes outraws s₁ t r s₂ n →
       Listed m es t r n
   listed s₁ s₂ t r b windows n w f g =
-      let C : ℕ → Table State = tables S l outputs (length s) h (l .tracks .states .c .keys) (l .tracks .states .c .values) in
-      let D : ℕ → Table State = tables S l outputs (length s) h (l .tracks .states .d .keys) (l .tracks .states .d .values) in
-      let shelf : (keys : List ℤ) (states : List Float) (satellite : ℕ) → satellite ≤ 1 →
+      let C : ℕ → Table State = tables S l outputs (length s) h (l .tracks .states .c) in
+      let D : ℕ → Table State = tables S l outputs (length s) h (l .tracks .states .d) in
+      let hold : (states : Keyed) (satellite : ℕ) → satellite ≤ 1 →
       ((i : ℕ) → i < length (l .tracks .nodes) - 1 → Slot s₁ (slotAt (frontSize (S .degree)) satellite i)
-      (windowOfCode keys states (getD (l .tracks .nodes) i nan) (getD (l .tracks .nodes) (i + 1) nan))) →
-      Shelved s₁ (slotAt (frontSize (S .degree)) satellite 0) (tables S l outputs (length s) h keys states) windows =
-      λ keys states satellite one slots. subst (λ (k : ℕ). Shelved s₁ (slotAt (frontSize (S .degree)) satellite 0) (tables S l outputs (length s) h keys states) k) (sym w)
-      (shelved S l outputs (length s) h keys states satellite s₁ one (f .long) slots) in
+      (windowOfCode states (getD (l .tracks .nodes) i nan) (getD (l .tracks .nodes) (i + 1) nan))) →
+      SlotsHold s₁ (slotAt (frontSize (S .degree)) satellite 0) (tables S l outputs (length s) h states) windows =
+      λ states satellite one slots. subst (λ (k : ℕ). SlotsHold s₁ (slotAt (frontSize (S .degree)) satellite 0) (tables S l outputs (length s) h states) k) (sym w)
+      (slots-hold S l outputs (length s) h states satellite s₁ one (f .long) slots) in
       let got : Listed m (keptIn (asGiven windows) C D) t r n =
-      g .is (gather-serves (length s₁) (f .long)) C D (shelf (l .tracks .states .c .keys) (l .tracks .states .c .values) 0 (omega arith) (f .slotsC both-serve))
-      (shelf (l .tracks .states .d .keys) (l .tracks .states .d .values) 1 (omega arith) (f .slotsD both-serve)) in
-      let joined-is : (keys : List ℤ) (states : List Float) → joined (tables S l outputs (length s) h keys states) windows ≡ fitted (stages S) (submissionOf S l) (statesIn keys states) =
-      λ keys states. ap (joined (tables S l outputs (length s) h keys states)) w ∙ tables-joined S l outputs (length s) h keys states in
+      g .is (gather-serves (length s₁) (f .long)) C D (hold (l .tracks .states .c) 0 (omega arith) (f .slotsC both-serve))
+      (hold (l .tracks .states .d) 1 (omega arith) (f .slotsD both-serve)) in
+      let joined-is : (states : Keyed) → joined (tables S l outputs (length s) h states) windows ≡ fitted (stages S) (submissionOf S l) (statesIn states) =
+      λ states. ap (joined (tables S l outputs (length s) h states)) w ∙ tables-joined S l outputs (length s) h states in
       let same : keptIn (asGiven windows) C D ≡ es =
-      (λ i. keptOf (epochBy (modelIn S l) (joined-is (l .tracks .states .c .keys) (l .tracks .states .c .values) i) (joined-is (l .tracks .states .d .keys) (l .tracks .states .d .values) i)
-      (numbers (l .tracks .accs .c)) (numbers (l .tracks .accs .d))) (observations (l .tracks .observed .obsTimes) (l .tracks .observed .values) (l .tracks .observed .good)))
-      ∙ kept-is S l (h .fields) (model-fits S l outputs (length s) h) (valid S l (passed S l outputs (length s) h)) (h .values) (h .good) in
+      (λ i. keptOf (epochBy (modelIn S l) (joined-is (l .tracks .states .c) i) (joined-is (l .tracks .states .d) i) (submissionOf S l .accC) (submissionOf S l .accD))
+      (submissionOf S l .obs))
+      ∙ kept-is S l (h .fields) (model-fits S l outputs (length s) h) (valid S l (passed S l outputs (length s) h)) in
       subst (λ (e : List Epoch). Listed m e t r n) same got
 
   columns-serve : (n room : ℕ) (t r : List Float) → n ≤ m → length t ≡ m → length r ≡ m → room ≡ length s → columnsServe n (length t) (map length (r ∷ others)) room ≡ true
@@ -181,7 +181,7 @@ module _ (S : Fixed) (l : Lists) (outtimes outraws : List Float) (others : List 
       rw (le-leb n (length t) (omega (arith, lt, few)), all-long (length t) m (r ∷ others) lt (lr, places .1 .1), le-leb n (room / 8) enough) refl
 
   pub worked : (s₁ s₂ s₃ t r : List Float) (others' : List (List Float)) (b c : Bool) (windows n : ℕ) → windows ≡ length (l .tracks .nodes) - 1 →
-      BothFit bothServe (windowOfCode (l .tracks .states .c .keys) (l .tracks .states .c .values)) (windowOfCode (l .tracks .states .d .keys) (l .tracks .states .d .values)) (l .tracks .nodes) s s₁
+      BothFit bothServe (windowOfCode (l .tracks .states .c)) (windowOfCode (l .tracks .states .d)) (l .tracks .nodes) s s₁
       (frontSize (S .degree)) b →
       Gathered (asGiven windows) (epochsServe (length s₁)) outtimes outraws s₁ t r s₂ n →
       ColumnsFilled (columnsServe n (length t) (map length (r ∷ others)) (length s₂)) (l .tracks .nodes) n t r others others' s₂ s₃ c →
@@ -194,7 +194,7 @@ module _ (S : Fixed) (l : Lists) (outtimes outraws : List Float) (others : List 
       let lr : length r ≡ m = ap length (q .raws) ∙ filled-length zero64 m (map residual es) (omega (arith, length-map es residual)) in
       let ft : take n t ≡ map time es = ap (take n) (q .times) ∙ filled-front zero64 m n (map time es) (length-map es time ∙ sym (q .count)) in
       let fr : take n r ≡ map residual es = ap (take n) (q .raws) ∙ filled-front zero64 m n (map residual es) (length-map es residual ∙ sym (q .count)) in
-      let o : m ≡ length (submissionOf S l .obs) = sym (observed-count (l .tracks .observed .obsTimes) (l .tracks .observed .values) (l .tracks .observed .good)) in
+      let o : m ≡ length (submissionOf S l .obs) = sym (observations-length (l .tracks .observed)) in
       let rest : others' ≡ map (published (length (submissionOf S l .obs))) (following S l (map time es) (map residual es)) =
       k .columns (columns-serve n (length s₂) t r (omega (arith, q .count)) lt lr (g .long ∙ f .long)) ∙ (λ j. map (published ((lt ∙ o) j)) (following S l (ft j) (fr j))) in
       record {

@@ -1,33 +1,22 @@
 -- A submission, from the lists that a call is lent: keys beside six numbers a state, keys beside accelerometer values, field times beside the fields
 -- end to end, and observations as times, values and bytes that are 0 when not good. Assumes nothing.
 use mathlib.Core.Path.{_≡_}
-use Prim.Native.Nat.{ℕ, _*_, _<_}
-use mathlib.Core.Bool.{not}
-use mathlib.Core.List.{List, [], _∷_}
-use lib.Dec.{T, eqb}
-use lib.IntN.{ℤ}
-use lib.ListN.{length, drop, getD}
-use lib.Ieee.{Float, nan}
+use Prim.Native.Nat.{_*_, _<_}
+use mathlib.Core.List.{List}
+use lib.Dec.{T}
+use lib.ListN.{length}
+use lib.Ieee.{Float}
 use Rattle.inputs.specs.Inputs.{Fixed, Lists, fieldSize}
-use Rattle.finality.specs.Tables.{Table}
 use Rattle.finality.specs.Stages.{Stages}
 use Rattle.finality.specs.Kernels.{stagesOf}
-use Rattle.finality.specs.Sheet.{Observation, Submission, Begins}
+use Rattle.finality.specs.Sheet.{Submission, Begins}
 use Rattle.laws.specs.Checks.{all, isTime, rising, risingSeconds}
 use Rattle.model.specs.Stages.{timed}
 use Rattle.vectors.specs.declared.Vector.{Vector}
-use Rattle.windows.specs.Stage.{fieldGravity, statesIn}
+use Rattle.integrate.specs.RowsBySecond.{statesIn, valuesIn}
+use Rattle.windows.specs.Stage.{fieldGravity}
+use Rattle.epoch.specs.Kept.{observationsIn}
 use Rattle.sheet.specs.Stages.{kernelsBy, kernels}
-
--- keys, each with its value
-unfoldable pub valuesIn : List ℤ → List Float → Table Float
-valuesIn [] values = []
-valuesIn (k ∷ ks) values = (k, getD values 0 nan) ∷ valuesIn ks (drop 1 values)
-
-unfoldable pub observationsIn : List Float → List Float → List ℕ → List Observation
-observationsIn [] values good = []
-observationsIn (t ∷ ts) values good =
-    record { at = t; observed = getD values 0 nan; good = not (eqb (getD good 0 0) 0) } ∷ observationsIn ts (drop 1 values) (drop 1 good)
 
 -- the stages of crate `finality`, by the modules' own work, from a field's gravity
 abbrev pub stagesBy : (List Float → Vector → Vector) → Fixed → Stages
@@ -40,12 +29,12 @@ abbrev pub submissionBy : (gravity : List Float → Vector → Vector) (S : Fixe
 submissionBy gravity S l =
     record {
       fields = timed (S .degree) (l .fields .fieldTimes) (l .fields .added);
-      statesC = statesIn (l .tracks .states .c .keys) (l .tracks .states .c .values);
-      statesD = statesIn (l .tracks .states .d .keys) (l .tracks .states .d .values);
-      accC = valuesIn (l .tracks .accs .c .keys) (l .tracks .accs .c .values);
-      accD = valuesIn (l .tracks .accs .d .keys) (l .tracks .accs .d .values);
+      statesC = statesIn (l .tracks .states .c);
+      statesD = statesIn (l .tracks .states .d);
+      accC = valuesIn (l .tracks .accs .c);
+      accD = valuesIn (l .tracks .accs .d);
       nodes = l .tracks .nodes;
-      obs = observationsIn (l .tracks .observed .obsTimes) (l .tracks .observed .values) (l .tracks .observed .good);
+      obs = observationsIn (l .tracks .observed);
     }
 
 abbrev pub submissionOf : (S : Fixed) → Lists → Submission (stages S)

@@ -27,7 +27,7 @@ use Rattle.fit.specs.declared.kernel.Held.{Held}
 use Rattle.fit.specs.declared.kernel.Held.the-variants.{Known, Missing}
 use Rattle.windows.specs.Stage.{heldOf}
 use Rattle.windows.specs.Slots.{nth, Entry}
-use Rattle.slots.specs.LookUp.{joined, Shelved, Looked, Sought, Searched, InSlot, InSlots}
+use Rattle.slots.specs.LookUp.{joined, SlotsHold, Looked, Sought, Searched, InSlot, InSlots}
 use Rattle.inputs.specs.Inputs.{windowRoom}
 
 -- ---- the count
@@ -249,7 +249,7 @@ joined-first k tables w (suc n) x l e =
 
 -- nothing in the first windows
 pub record Empty (s : List Float) (first windows : ℕ) (t : Float) (w : ℕ) : Type 0 where
-  pub is : (tables : ℕ → Table State) (k : ℤ) → isKey k ≡ true → t ≡ secondTime k → Shelved s first tables windows → find k (joined tables w) ≡ none
+  pub is : (tables : ℕ → Table State) (k : ℤ) → isKey k ≡ true → t ≡ secondTime k → SlotsHold s first tables windows → find k (joined tables w) ≡ none
 
 pub empty-none : (s : List Float) (first windows : ℕ) (t : Float) → Empty s first windows t 0
 unfolding joined find
@@ -265,7 +265,7 @@ held-back none = refl
 held-back (some x) = refl
 
 module _ (s : List Float) (first windows : ℕ) (t : Float) (w : ℕ) (empty : Empty s first windows t w) where
-  next : w < windows → (r : Held) → InSlot s (first + windowRoom * w) t r → (tables : ℕ → Table State) (k : ℤ) → isKey k ≡ true → t ≡ secondTime k → Shelved s first tables windows
+  next : w < windows → (r : Held) → InSlot s (first + windowRoom * w) t r → (tables : ℕ → Table State) (k : ℤ) → isKey k ≡ true → t ≡ secondTime k → SlotsHold s first tables windows
       → find k (joined tables (suc w)) ≡ back r
   unfolding joined
   next l r f tables k key time h =
@@ -293,7 +293,7 @@ module _ (s : List Float) (first windows : ℕ) (t : Float) (w : ℕ) (empty : E
 
 -- ---- the guard
 
-pub no-room : (s : List Float) (first windows : ℕ) (k : ℤ) → ((tables : ℕ → Table State) → Shelved s first tables windows → windows ≡ 0) → Looked s first windows k Missing
+pub no-room : (s : List Float) (first windows : ℕ) (k : ℤ) → ((tables : ℕ → Table State) → SlotsHold s first tables windows → windows ≡ 0) → Looked s first windows k Missing
 unfolding joined find
 no-room s first windows k e = record {
   is = λ tables key h. ap heldOf (sym (ap (λ (m : ℕ). find k (joined tables m)) (e tables h)));

@@ -31,14 +31,14 @@ pub record Orderly (table : Table State) : Type 0 where
   pub keys : All (λ (e : ℤ × State). T (isKey (e .0))) table
 
 -- one satellite's windows, each in its slot, the first slot at a place
-pub record Shelved (s : List Float) (first : ℕ) (tables : ℕ → Table State) (windows : ℕ) : Type 0 where
+pub record SlotsHold (s : List Float) (first : ℕ) (tables : ℕ → Table State) (windows : ℕ) : Type 0 where
   pub room : first + windowRoom * windows ≤ length s + slotRoom
   pub slots : (w : ℕ) → w < windows → Slot s (first + windowRoom * w) (tables w)
   pub orderly : (w : ℕ) → w < windows → Orderly (tables w)
 
 -- the first state at a second, over all windows
 pub record Looked (s : List Float) (first windows : ℕ) (k : ℤ) (r : Held) : Type 0 where
-  pub is : (tables : ℕ → Table State) → isKey k ≡ true → Shelved s first tables windows → r ≡ heldOf (find k (joined tables windows))
+  pub is : (tables : ℕ → Table State) → isKey k ≡ true → SlotsHold s first tables windows → r ≡ heldOf (find k (joined tables windows))
 
 -- ---- what the parts of the search give, where t is a second as a float
 
@@ -59,7 +59,8 @@ pub record InSlot (s : List Float) (at : ℕ) (t : Float) (r : Held) : Type 0 wh
 
 -- in all slots
 pub record InSlots (s : List Float) (first windows : ℕ) (t : Float) (r : Held) : Type 0 where
-  pub is : (tables : ℕ → Table State) (k : ℤ) → isKey k ≡ true → t ≡ secondTime k → Shelved s first tables windows → r ≡ heldOf (find k (joined tables windows))
+  pub is : (tables : ℕ → Table State) (k : ℤ) → isKey k ≡ true → t ≡ secondTime k → SlotsHold s first tables windows
+      → r ≡ heldOf (find k (joined tables windows))
 
 -- ---- the fits
 

@@ -1,17 +1,15 @@
 -- The code's full attraction and look-up of states are those of the stage: the gravity of the field at a time, and the first row at a whole second. Assumes nothing.
 use mathlib.Core.Path.{_≡_, refl, sym, ap, _∙_}
-use mathlib.Core.Bool.{true, false, not, _||_}
-use mathlib.Core.List.{List, [], _∷_, _++_}
-use Prim.Native.Nat.{ℕ, suc, _+_, _*_}
-use native.Mathlib.Omega.{arith}
+use mathlib.Core.Bool.{true}
+use mathlib.Core.List.{List, _++_}
+use Prim.Native.Nat.{ℕ, _+_, _*_}
 use lib.IntN.{ℤ}
-use lib.Signed.{ltZ}
-use lib.Ieee.{Float, nan}
-use lib.ListN.{length, getD, take, drop}
-use Rattle.inputs.specs.Inputs.{Model, kind, Fixed}
+use lib.Ieee.{Float}
+use lib.ListN.{length, take, drop}
+use lib.Seq.{take-at, drop-at}
+use Rattle.inputs.specs.Inputs.{Model, kind, Fixed, Keyed}
 use Rattle.laws.specs.Tables.{rows}
 use Rattle.laws.specs.Times.{second}
-use Rattle.laws.specs.Bools.{by}
 use Rattle.numbers.specs.Seconds.{isHeld, wholeSecond}
 use Rattle.vectors.specs.Vector.{plus}
 use Rattle.vectors.specs.declared.Vector.{Vector}
@@ -25,13 +23,14 @@ use Rattle.model.proofs.Checks.{kind-long}
 use Rattle.integrate.specs.Force.{gravityAt, fullForce}
 use Rattle.integrate.proofs.Published.{Sized, gravity-lent}
 use Rattle.integrate.specs.Room.{stateIn}
-use Rattle.finality.specs.Tables.{sameSecond, find}
-use Rattle.finality.proofs.Lookup.{same-order}
-use Rattle.slices.specs.Slices.{lookup, lookupFrom}
+use Rattle.integrate.specs.RowsBySecond.{statesIn}
+use Rattle.integrate.proofs.RowsBySecond.{rowAt, find-row}
+use Rattle.finality.specs.Tables.{find}
+use Rattle.slices.specs.Slices.{lookup}
+use Rattle.slices.specs.declared.Found.{Found}
+use Rattle.slices.specs.declared.Found.the-variants.{At, Nothing}
 use Rattle.fit.specs.Fit.{heldAt, stateFor}
-use Rattle.fit.specs.declared.kernel.Held.the-variants.{Known}
-use lib.Seq.{take-at, drop-at, drop-drop, getD-drop}
-use Rattle.windows.specs.Stage.{fieldGravity, fullOf, heldOf, lookOf, statesIn}
+use Rattle.windows.specs.Stage.{fieldGravity, fullOf, heldOf, lookOf}
 
 -- ---- the gravity of a field
 
@@ -66,27 +65,10 @@ stage-published N static field x = lent-gravity N (gm static) (radius static) (t
 
 -- ---- the look-up of states
 
-state-after : (numbers : List Float) (n : ℕ) → stateIn (drop n numbers) 0 ≡ stateIn numbers n
-unfolding stateIn
-state-after numbers n = λ i. record {
-  position = record { x = read 0 n (omega arith) i; y = read 1 (n + 1) refl i; z = read 2 (n + 2) refl i };
-  velocity = record { x = read 3 (n + 3) refl i; y = read 4 (n + 4) refl i; z = read 5 (n + 5) refl i };
-}
-  where
-    read : (k m : ℕ) → n + k ≡ m → getD (drop n numbers) k nan ≡ getD numbers m nan
-    read k m e = getD-drop n numbers k nan ∙ ap (λ (j : ℕ). getD numbers j nan) e
+held-row : (states : List Float) (f : Found) → heldAt states f ≡ heldOf (rowAt (λ (i : ℕ). stateIn states (6 * i)) f)
+held-row states (At i) = refl
+held-row states Nothing = refl
 
-held-from : (i : ℕ) (keys : List ℤ) (numbers : List Float) (key : ℤ) → heldAt numbers (lookupFrom i keys key) ≡ heldOf (find key (statesIn keys (drop (6 * i) numbers)))
-unfolding lookupFrom find statesIn
-held-from i [] numbers key = refl
-held-from i (k ∷ keys) numbers key =
-    let six : 6 * i + 6 ≡ 6 * suc i = omega arith in
-    let next : drop 6 (drop (6 * i) numbers) ≡ drop (6 * suc i) numbers = drop-drop 6 (6 * i) numbers ∙ ap (λ (m : ℕ). drop m numbers) six in
-    let rest = held-from (suc i) keys numbers key ∙ ap (λ (l : List Float). heldOf (find key (statesIn keys l))) (sym next) in
-    by (ltZ k key || ltZ key k)
-    (λ e. let d : sameSecond k key ≡ false = same-order k key ∙ ap not e in rw (e, d) rest)
-    (λ e. let d : sameSecond k key ≡ true = same-order k key ∙ ap not e in rw (e, d) (ap Known (sym (state-after numbers (6 * i)))))
-
-pub look-is : (keys : List ℤ) (states : List Float) (t : Float) → isHeld t ≡ true → stateFor keys states t ≡ lookOf (λ (k : ℤ). find k (statesIn keys states)) t
-unfolding stateFor lookup wholeSecond
-look-is keys states t e = rw e (held-from 0 keys states (second t))
+pub look-is : (l : Keyed) (t : Float) → isHeld t ≡ true → stateFor (l .keys) (l .values) t ≡ lookOf (λ (k : ℤ). find k (statesIn l)) t
+unfolding stateFor wholeSecond statesIn
+look-is l t e = rw e (held-row (l .values) (lookup (l .keys) (second t)) ∙ ap heldOf (sym (find-row (λ (i : ℕ). stateIn (l .values) (6 * i)) (l .keys) (second t))))

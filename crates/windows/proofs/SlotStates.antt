@@ -135,15 +135,15 @@ state-read s base run m k o h =
     let vz = ap (λ (m : ℕ). getD s m nan) ez ∙ w .z in
     λ i. record { position = record { x = p .x i; y = p .y i; z = p .z i }; velocity = record { x = vx i; y = vy i; z = vz i } }
 
--- what the loop over the steps keeps
-pub record Shelf (t0 from to : Float) (s s' : List Float) (base at k n : ℕ) : Type 0 where
+-- what the loop over the steps has put into the slot
+pub record SlotSoFar (t0 from to : Float) (s s' : List Float) (base at k n : ℕ) : Type 0 where
   pub all : (run : Run) (m : ℕ) → Orbit s base run m → k ≤ m → Entries s' at (keptTo run t0 from to k)
   pub counted : n ≡ keptCount t0 from to k
   pub only : Only at (at + entriesRoom) s s'
 
-pub shelf-none : (t0 from to : Float) (s : List Float) (base at : ℕ) → Shelf t0 from to s s base at 0 0
+pub slot-empty : (t0 from to : Float) (s : List Float) (base at : ℕ) → SlotSoFar t0 from to s s base at 0 0
 unfolding keptTo keptCount
-shelf-none t0 from to s base at = record {
+slot-empty t0 from to s base at = record {
   all = λ run m o h. record { each = λ j l. absurd (omega arith) };
   counted = refl;
   only = only-same at (at + entriesRoom) s;
@@ -175,10 +175,10 @@ few t0 from to k m ft ut h l =
     let c = count-below t0 from to k m l in
     omega (arith, a, b, c)
 
-pub shelf-more : (t0 from to : Float) (s s₁ s₂ : List Float) (base at k n r : ℕ) → base + runSize ≤ at → k ≤ 5302 → n ≤ 3500 → Shelf t0 from to s s₁ base at k n →
-    Keeping s₁ s₂ at n (within from to (stepTime t0 k)) (wholeSecond (stepTime t0 k)) (stateIn s₁ (base + 6 * k)) r → Shelf t0 from to s s₂ base at (k + 1) r
+pub slot-more : (t0 from to : Float) (s s₁ s₂ : List Float) (base at k n r : ℕ) → base + runSize ≤ at → k ≤ 5302 → n ≤ 3500 → SlotSoFar t0 from to s s₁ base at k n →
+    Keeping s₁ s₂ at n (within from to (stepTime t0 k)) (wholeSecond (stepTime t0 k)) (stateIn s₁ (base + 6 * k)) r → SlotSoFar t0 from to s s₂ base at (k + 1) r
 unfolding keptTo keptCount
-shelf-more t0 from to s s₁ s₂ base at k n r h lk ln f w = record {
+slot-more t0 from to s s₁ s₂ base at k n r h lk ln f w = record {
   all = λ run m o l.
       let next : keptTo run t0 from to (k + 1) ≡ keptTo run t0 from to k ++ keptIf (within from to (stepTime t0 k)) (wholeSecond (stepTime t0 k)) (run k) = rw add-one in
       let same : stateIn s₁ (base + 6 * k) ≡ run k = state-kept run m o (omega arith) in
@@ -194,7 +194,8 @@ shelf-more t0 from to s s₁ s₂ base at k n r h lk ln f w = record {
       velocity = λ j q. stays3 at (at + entriesRoom) (base + 6 * j + 3) s s₁ (run j .velocity) (f .only) (o .velocity j (omega arith)) (λ i p u v x. omega arith);
     }) (omega arith)
 
-pub kept-all : (t0 from to : Float) (steps : ℕ) (s s' : List Float) (base at k n : ℕ) → Time from → Time to → k ≡ steps + 1 → Shelf t0 from to s s' base at k n → Keeps t0 from to steps s s' base at n
+pub kept-all : (t0 from to : Float) (steps : ℕ) (s s' : List Float) (base at k n : ℕ) → Time from → Time to → k ≡ steps + 1 → SlotSoFar t0 from to s s' base at k n
+    → Keeps t0 from to steps s s' base at n
 kept-all t0 from to steps s s' base at k n ft ut e f = record {
   all = λ run o. subst (λ (l : Table State). Entries s' at l) (sym (kept-inside run t0 from to (steps + 1) ft ut))
       (subst (λ (m : ℕ). Entries s' at (keptTo run t0 from to m)) e (f .all run (steps + 1) o (omega arith)));

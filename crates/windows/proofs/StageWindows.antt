@@ -10,7 +10,7 @@ use lib.Ieee.{Float, fin, le, lt}
 use lib.Ieee.Bits.{is-true}
 use lib.Ieee.Fits.{and-i}
 use borrow.Author.Tests.{le-leb}
-use Rattle.inputs.specs.Inputs.{Model}
+use Rattle.inputs.specs.Inputs.{Model, Keyed}
 use Rattle.laws.specs.Floats.{_⊖_}
 use Rattle.laws.specs.Order.{lt→le}
 use Rattle.laws.specs.WholeNumbers.{Is, is-le, is-lt}
@@ -24,13 +24,14 @@ use Rattle.finality.specs.Tables.{find}
 use Rattle.finality.specs.Arcs.{longest, start, steps, arcOf, inside, windowOf}
 use Rattle.finality.proofs.WindowTimes.{k-le, P-le, N-le, steps-le, step-is, steps-short}
 use Rattle.integrate.specs.Force.{fullForce}
+use Rattle.integrate.specs.RowsBySecond.{statesIn}
 use Rattle.integrate.proofs.Published.{Sized}
 use Rattle.integrate.specs.declared.kernel.State.{State}
 use Rattle.integrate.specs.declared.kernel.Arc.{Arc as ArcStruct}
 use Rattle.fit.specs.Fit.{fitOf, orbitOf, stateFor}
 use Rattle.fit.specs.declared.kernel.Held.{Held}
 use Rattle.fit.proofs.Locality.{SameReads, fit-same, orbit-same}
-use Rattle.windows.specs.Stage.{fullOf, arcStruct, lookOf, statesOf, fitFrom, fitStage, statesIn}
+use Rattle.windows.specs.Stage.{fullOf, arcStruct, lookOf, statesOf, fitFrom, fitStage}
 use Rattle.windows.specs.Windows.{windowBy, Ends}
 use Rattle.windows.proofs.Times.{start-is}
 use Rattle.windows.proofs.Lawful.{states-same}
@@ -88,21 +89,21 @@ module _ (a b : Float) (e : Ends a b) where
         states-same _ _ _ _ (steps a b) (fit-same covered covered full full look look' (arcStruct (arcOf a b)) l reads)
         (λ i h. orbit-same covered covered full full look look' (arcStruct (arcOf a b)) l reads i (omega arith))
 
-pub window-is : (M : Model) (keys : List ℤ) (states : List Float) → Sized M → (a b : Float) → Ends a b →
-    windowBy (covers (M .fields .fieldTimes)) (fullForce M) (stateFor keys states) a b
-    ≡ windowOf (fitStage (M .fixed)) (covers (M .fields .fieldTimes)) (fieldAt M) (λ (key : ℤ). find key (statesIn keys states)) a b
+pub window-is : (M : Model) (l : Keyed) → Sized M → (a b : Float) → Ends a b →
+    windowBy (covers (M .fields .fieldTimes)) (fullForce M) (stateFor (l .keys) (l .values)) a b
+    ≡ windowOf (fitStage (M .fixed)) (covers (M .fields .fieldTimes)) (fieldAt M) (λ (key : ℤ). find key (statesIn l)) a b
 unfolding windowBy windowOf fitFrom
-window-is M keys states fit a b e =
+window-is M l fit a b e =
     by (lt (b ⊖ a) longest)
     (λ t.
     let short : T (lt (b ⊖ a) longest) = subst T (sym t) tt in
     let few : steps a b ≤ 5302 = let h = steps-short a b (e .from) (e .to) (lt→le a b (e .order)) short in omega (arith, h) in
     let within : leb (steps a b) 5302 ≡ true = le-leb (steps a b) 5302 few in
     let full : Float → Vector → Vector = fullOf (M .fixed) (fieldAt M) in
-    let look' : Float → Held = lookOf (λ (key : ℤ). find key (statesIn keys states)) in
+    let look' : Float → Held = lookOf (λ (key : ℤ). find key (statesIn l)) in
     rw (t, within) (ap (λ (l : List State). inside (start a) a b 0 l)
-    ((λ i. statesOf (fitOf (covers (M .fields .fieldTimes)) (λ u x. full-is M fit u x i) (stateFor keys states) (arcStruct (arcOf a b)))
-    (orbitOf (λ u x. full-is M fit u x i) (stateFor keys states) (arcStruct (arcOf a b))) (steps a b))
-    ∙ look-same a b e (covers (M .fields .fieldTimes)) full (stateFor keys states) look' (λ i h. look-is keys states (stepTime (start a) i) (held-step a b e i h))
-    (look-is keys states (start a) (held-start a b e)) few)))
+    ((λ i. statesOf (fitOf (covers (M .fields .fieldTimes)) (λ u x. full-is M fit u x i) (stateFor (l .keys) (l .values)) (arcStruct (arcOf a b)))
+    (orbitOf (λ u x. full-is M fit u x i) (stateFor (l .keys) (l .values)) (arcStruct (arcOf a b))) (steps a b))
+    ∙ look-same a b e (covers (M .fields .fieldTimes)) full (stateFor (l .keys) (l .values)) look' (λ i h. look-is l (stepTime (start a) i) (held-step a b e i h))
+    (look-is l (start a) (held-start a b e)) few)))
     (λ t. rw t refl)

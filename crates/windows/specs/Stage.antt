@@ -3,7 +3,7 @@
 use Prim.Native.Nat.{ℕ, suc}
 use mathlib.Core.Option.{Option, none, some}
 use mathlib.Core.Bool.{cond}
-use mathlib.Core.List.{List, [], _∷_}
+use mathlib.Core.List.{List, []}
 use lib.Dec.{leb}
 use lib.IntN.{ℤ}
 use lib.ListN.{take, drop}
@@ -11,13 +11,12 @@ use lib.Ieee.{Float}
 use Rattle.inputs.specs.Inputs.{Fixed, kind}
 use Rattle.laws.specs.Tables.{row}
 use Rattle.laws.specs.Times.{second}
-use Rattle.finality.specs.Tables.{Table}
 use Rattle.finality.specs.Arcs.{Arc, Fit}
 use Rattle.vectors.specs.declared.Vector.{Vector}
 use Rattle.forces.specs.Forces.{gravityBy}
 use Rattle.model.specs.Field.{gm, radius}
 use Rattle.integrate.specs.Force.{fullBy}
-use Rattle.integrate.specs.Room.{Run, stateIn}
+use Rattle.integrate.specs.Room.{Run}
 use Rattle.integrate.specs.declared.kernel.State.{State}
 use Rattle.integrate.specs.declared.kernel.Arc.{Arc as ArcStruct}
 use Rattle.fit.specs.Fit.{fitOf, orbitOf}
@@ -66,10 +65,3 @@ fitFrom gravity covered at look arc =
 
 abbrev pub fitStage : Fixed → Fit (List Float) State
 fitStage S = fitFrom (fieldGravity S)
-
--- ---- submitted states
-
--- keys, each with its six numbers
-unfoldable pub statesIn : List ℤ → List Float → Table State
-statesIn [] numbers = []
-statesIn (k ∷ ks) numbers = (k, stateIn numbers 0) ∷ statesIn ks (drop 6 numbers)

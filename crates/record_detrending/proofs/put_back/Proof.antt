@@ -1,6 +1,5 @@
--- `record_detrending::put_back` meets its contract: a walk of its MIR, by hand. The list of records at the head of the loop is `upto i`; a turn opens both borrows, reads the value, writes it into the residual
--- of one record, and closes them.
--- Assumes nothing.
+-- `record_detrending::put_back` meets its contract: a walk of its MIR, by hand. The list of records at the head of the loop is `upto i`; a turn opens both borrows, reads the
+-- value, writes it into the residual of one record, and closes them. Assumes nothing.
 use mathlib.Core.Path.{_≡_, refl, sym, _∙_, ap, subst}
 use Prim.Native.Nat.{ℕ, zero, suc, _+_, _*_, _-_, _<_, _≤_, _^_, zero-le}
 use native.Mathlib.Nat.{le-antisymm}

@@ -1,6 +1,5 @@
--- `record_detrending::read` meets its contract: a walk of its MIR, by hand. The work area at the head of the loop is `reading i`; a turn looks into one record through the shared borrow, and writes its time and
--- its residual through the other borrow.
--- Assumes nothing.
+-- `record_detrending::read` meets its contract: a walk of its MIR, by hand. The work area at the head of the loop is `reading i`; a turn looks into one record through the shared
+-- borrow, and writes its time and its residual through the other borrow. Assumes nothing.
 use mathlib.Core.Path.{_≡_, refl, sym, _∙_, ap, subst}
 use Prim.Native.Nat.{ℕ, suc, _+_, _*_, _-_, _<_, _≤_, _^_, zero-le}
 use native.Mathlib.Nat.{le-antisymm}

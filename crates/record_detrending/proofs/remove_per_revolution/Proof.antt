@@ -1,7 +1,5 @@
--- `record_detrending::remove_per_revolution` meets its contract: a walk of its MIR, by hand. Each slice is lent again for each call, as `&` or as `&mut`, for a lifetime that is made for the call, and comes
--- back at the list that the callee left (`Lent.antt`).
--- All that the proof knows of the three callees is that each meets its contract.
--- Assumes nothing.
+-- `record_detrending::remove_per_revolution` meets its contract: a walk of its MIR, by hand. Each slice is lent again for each call, as `&` or as `&mut`, for a lifetime that is
+-- made for the call, and comes back at the list that the callee left (`Lent.antt`). All that the proof knows of the three callees is that each meets its contract. Assumes nothing.
 use mathlib.Core.Path.{_≡_, refl, sym, _∙_, ap, subst}
 use Prim.Native.Nat.{ℕ, _*_, _<_, _≤_, _^_}
 use mathlib.Core.Bool.{Bool, true, false, not}

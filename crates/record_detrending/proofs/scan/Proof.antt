@@ -1,5 +1,5 @@
--- `record_detrending::scan` meets its contract: a walk of its MIR, by hand. A turn copies one record out through the shared borrow and calls `scanned` on it, of which the proof knows its contract alone.
--- Assumes nothing.
+-- `record_detrending::scan` meets its contract: a walk of its MIR, by hand. A turn copies one record out through the shared borrow and calls `scanned` on it, of which the proof
+-- knows its contract alone. Assumes nothing.
 use mathlib.Core.Path.{_≡_, refl, sym, _∙_, ap, subst}
 use Prim.Native.Nat.{ℕ, zero, suc, _+_, _*_, _-_, _<_, _≤_, _^_, zero-le}
 use native.Mathlib.Nat.{le-antisymm}

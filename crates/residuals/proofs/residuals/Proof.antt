@@ -1,6 +1,6 @@
 -- `residuals::residuals`: refused, counted and handed out, or not finite and cleared, each by its law of proofs/ListAnswers.antt. Assumes nothing.
 use Rattle.inputs.specs.Inputs.{modelOf, pairOf, observedOf, inputs}
-use Rattle.residuals.specs.Calls.{lists}
+use Rattle.residuals.specs.Calls.{epochColumns}
 use Rattle.residuals.proofs.ListAnswers.{residuals-ready, residuals-refused, residuals-handed, residuals-unfit}
 use borrow.Author.Needs.{needs}
 use Rattle.residuals.proofs.residuals.Statement.{statement}
@@ -11,7 +11,7 @@ returns c =
     let at-residuals-refusal = c .before in
     let s = at-residuals-refusal .before .before .before .before .before .before .before .before .args in
     residuals-refused (inputs (modelOf (s .degree) (s .model)) (pairOf (s .keys) (s .states)) (pairOf (s .acckeys) (s .accs))) (observedOf (s .obstimes .now) (s .obsvalues .now) (s .good .now))
-    (lists (s .outtimes .now) (s .outresiduals .now) (s .outterms .now) (s .outmids .now) (s .outvels .now)) (s .scratch .now) _ _ (at-residuals-refusal .before .samples-fit .ensures)
+    (epochColumns (s .outtimes .now) (s .outresiduals .now) (s .outterms .now) (s .outmids .now) (s .outvels .now)) (s .scratch .now) _ _ (at-residuals-refusal .before .samples-fit .ensures)
     (at-residuals-refusal .residuals-refusal .ensures) (c .if1 .taken)
 
 fill-requires : tie.Need-fill-requires
@@ -20,7 +20,7 @@ fill-requires c κs =
     let at-residuals-refusal = at-if1 .before in
     let s = at-residuals-refusal .before .before .before .before .before .before .before .before .args in
     residuals-ready (inputs (modelOf (s .degree) (s .model)) (pairOf (s .keys) (s .states)) (pairOf (s .acckeys) (s .accs))) (observedOf (s .obstimes .now) (s .obsvalues .now) (s .good .now))
-    (lists (s .outtimes .now) (s .outresiduals .now) (s .outterms .now) (s .outmids .now) (s .outvels .now)) _ _ _ (at-residuals-refusal .before .samples-fit .ensures)
+    (epochColumns (s .outtimes .now) (s .outresiduals .now) (s .outterms .now) (s .outmids .now) (s .outvels .now)) _ _ _ (at-residuals-refusal .before .samples-fit .ensures)
     (at-residuals-refusal .residuals-refusal .ensures) (at-if1 .if1 .left)
 
 returns-2 : tie.Need-returns-2
@@ -32,7 +32,7 @@ returns-2 c =
     let at-residuals-refusal = at-if1 .before in
     let s = at-residuals-refusal .before .before .before .before .before .before .before .before .args in
     residuals-handed (inputs (modelOf (s .degree) (s .model)) (pairOf (s .keys) (s .states)) (pairOf (s .acckeys) (s .accs))) (observedOf (s .obstimes .now) (s .obsvalues .now) (s .good .now))
-    (lists (s .outtimes .now) (s .outresiduals .now) (s .outterms .now) (s .outmids .now) (s .outvels .now)) (s .scratch .now) _ _ (at-residuals-refusal .before .samples-fit .ensures)
+    (epochColumns (s .outtimes .now) (s .outresiduals .now) (s .outterms .now) (s .outmids .now) (s .outvels .now)) (s .scratch .now) _ _ (at-residuals-refusal .before .samples-fit .ensures)
     (at-residuals-refusal .residuals-refusal .ensures) _ _ _ _ (at-if1 .if1 .left) (at-fill .fill .ensures) (at-fill .fill .kept .1 .1 .1 .1 .1 .1 .1 .1 .1 .1 .1 .1 .1 .1 .0)
     (at-clear .clear .ensures) (c .if2 .taken)
 
@@ -47,7 +47,7 @@ returns-3 c =
     let at-residuals-refusal = at-if1 .before in
     let s = at-residuals-refusal .before .before .before .before .before .before .before .before .args in
     residuals-unfit (inputs (modelOf (s .degree) (s .model)) (pairOf (s .keys) (s .states)) (pairOf (s .acckeys) (s .accs))) (observedOf (s .obstimes .now) (s .obsvalues .now) (s .good .now))
-    (lists (s .outtimes .now) (s .outresiduals .now) (s .outterms .now) (s .outmids .now) (s .outvels .now)) (s .scratch .now) _ _ (at-residuals-refusal .before .samples-fit .ensures)
+    (epochColumns (s .outtimes .now) (s .outresiduals .now) (s .outterms .now) (s .outmids .now) (s .outvels .now)) (s .scratch .now) _ _ (at-residuals-refusal .before .samples-fit .ensures)
     (at-residuals-refusal .residuals-refusal .ensures) _ _ _ _ _ (at-if1 .if1 .left) (at-fill .fill .ensures) (at-fill .fill .kept .1 .1 .1 .1 .1 .1 .1 .1 .1 .1 .1 .1 .1 .1 .0)
     (at-clear .clear .ensures) (at-if2 .if2 .left) (at-clear-lists .clear-lists .ensures)
 

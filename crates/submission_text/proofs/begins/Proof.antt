@@ -1,5 +1,5 @@
 -- `submission_text::begins`: whether the rest of the line begins with the rest of the name is whether the whole does. Assumes nothing.
-use Rattle.submission_text.proofs.Laws.{begins-stops, begins-goes, begins-done}
+use Rattle.submission_text.proofs.ReadLines.{begins-stops, begins-goes, begins-done}
 use mathlib.Core.Path.{_≡_, refl}
 use Prim.Native.Nat.{_-_, _≤_}
 use lib.ListN.{length, drop}

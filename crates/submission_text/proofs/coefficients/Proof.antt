@@ -1,4 +1,4 @@
-use Rattle.submission_text.proofs.Laws.{few-coefficients, coefficients-some, coefficients-none}
+use Rattle.submission_text.proofs.ReadLines.{few-coefficients, coefficients-some, coefficients-none}
 use native.Mathlib.Omega.{arith}
 use borrow.Author.Needs.{needs}
 use Rattle.submission_text.proofs.coefficients.Statement.{statement}

@@ -1,4 +1,4 @@
-use Rattle.submission_text.proofs.Laws.{count-short, count-long}
+use Rattle.submission_text.proofs.ReadLines.{count-short, count-long}
 use borrow.Author.Needs.{needs}
 use Rattle.submission_text.proofs.count_in.Statement.{statement}
 use Rattle.submission_text.proofs.count_in.Tie as tie

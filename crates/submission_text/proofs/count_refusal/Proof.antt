@@ -1,4 +1,4 @@
-use Rattle.submission_text.proofs.Laws.{count-judged}
+use Rattle.submission_text.proofs.ReadLines.{count-judged}
 use borrow.Author.Needs.{needs}
 use Rattle.submission_text.proofs.count_refusal.Statement.{statement}
 use Rattle.submission_text.proofs.count_refusal.Tie as tie

@@ -1,4 +1,4 @@
-use Rattle.submission_text.proofs.Laws.{degree-new, degree-old}
+use Rattle.submission_text.proofs.ReadLines.{degree-new, degree-old}
 use borrow.Author.Needs.{needs}
 use Rattle.submission_text.proofs.degree_after.Statement.{statement}
 use Rattle.submission_text.proofs.degree_after.Tie as tie

@@ -1,4 +1,4 @@
-use Rattle.submission_text.proofs.Laws.{degree-judged}
+use Rattle.submission_text.proofs.ReadLines.{degree-judged}
 use borrow.Author.Needs.{needs}
 use Rattle.submission_text.proofs.degree_refusal.Statement.{statement}
 use Rattle.submission_text.proofs.degree_refusal.Tie as tie

@@ -1,4 +1,4 @@
-use Rattle.submission_text.proofs.Laws.{feed-none, feed-end, feed-header, feed-row}
+use Rattle.submission_text.proofs.ReadLines.{feed-none, feed-end, feed-header, feed-row}
 use borrow.Author.Needs.{needs}
 use Rattle.submission_text.proofs.feed.Statement.{statement}
 use Rattle.submission_text.proofs.feed.Tie as tie

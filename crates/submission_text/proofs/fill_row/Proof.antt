@@ -1,5 +1,5 @@
 -- `submission_text::fill_row`: the numbers written, with the words left, are the line's column of numbers. Assumes nothing.
-use Rattle.submission_text.proofs.Laws.{column-starts, column-turn, column-done}
+use Rattle.submission_text.proofs.ReadLines.{column-starts, column-turn, column-done}
 use mathlib.Core.Path.{_≡_, refl}
 use Prim.Native.Nat.{_+_, _-_, _*_}
 use lib.ListN.{length, take}

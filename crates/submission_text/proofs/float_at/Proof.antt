@@ -1,4 +1,4 @@
-use Rattle.submission_text.proofs.Laws.{float-is}
+use Rattle.submission_text.proofs.ReadLines.{float-is}
 use borrow.Author.Needs.{needs}
 use Rattle.submission_text.proofs.float_at.Statement.{statement}
 use Rattle.submission_text.proofs.float_at.Tie as tie

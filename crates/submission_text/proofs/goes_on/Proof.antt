@@ -1,4 +1,4 @@
-use Rattle.submission_text.proofs.Laws.{goes-next, goes-same}
+use Rattle.submission_text.proofs.ReadLines.{goes-next, goes-same}
 use borrow.Author.Needs.{needs}
 use Rattle.submission_text.proofs.goes_on.Statement.{statement}
 use Rattle.submission_text.proofs.goes_on.Tie as tie

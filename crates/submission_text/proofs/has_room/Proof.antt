@@ -1,5 +1,5 @@
 use borrow.Author.Needs.{needs}
-use Rattle.submission_text.proofs.Laws.{room-none, room-some}
+use Rattle.submission_text.proofs.ReadLines.{room-none, room-some}
 use Rattle.submission_text.proofs.has_room.Statement.{statement}
 use Rattle.submission_text.proofs.has_room.Tie as tie
 

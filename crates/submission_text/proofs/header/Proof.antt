@@ -1,4 +1,4 @@
-use Rattle.submission_text.proofs.Laws.{header-short, header-counts, header-other}
+use Rattle.submission_text.proofs.ReadLines.{header-short, header-counts, header-other}
 use borrow.Author.Needs.{needs}
 use Rattle.submission_text.proofs.header.Statement.{statement}
 use Rattle.submission_text.proofs.header.Tie as tie

@@ -1,4 +1,4 @@
-use Rattle.submission_text.proofs.Laws.{header-judged}
+use Rattle.submission_text.proofs.ReadLines.{header-judged}
 use borrow.Author.Needs.{needs}
 use Rattle.submission_text.proofs.header_fault.Statement.{statement}
 use Rattle.submission_text.proofs.header_fault.Tie as tie

@@ -1,5 +1,5 @@
 -- `submission_text::header_of`: each section's number leads to the header with its name, any other number to none. Assumes nothing.
-use Rattle.submission_text.proofs.Laws.{beyond, header-at, header-none}
+use Rattle.submission_text.proofs.ReadLines.{beyond, header-at, header-none}
 use native.Mathlib.Omega.{arith}
 use borrow.Author.Needs.{needs}
 use Rattle.submission_text.proofs.header_of.Statement.{statement}

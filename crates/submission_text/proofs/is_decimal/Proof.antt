@@ -1,4 +1,4 @@
-use Rattle.submission_text.proofs.Laws.{decimal-is}
+use Rattle.submission_text.proofs.ReadLines.{decimal-is}
 use borrow.Author.Needs.{needs}
 use Rattle.submission_text.proofs.is_decimal.Statement.{statement}
 use Rattle.submission_text.proofs.is_decimal.Tie as tie

@@ -1,5 +1,5 @@
 -- `submission_text::is_row`: whether the words left make a row is whether all do. Assumes nothing.
-use Rattle.submission_text.proofs.Laws.{row-bad, row-goes, row-done}
+use Rattle.submission_text.proofs.ReadLines.{row-bad, row-goes, row-done}
 use mathlib.Core.Path.{_≡_, refl}
 use Prim.Native.Nat.{_+_, _-_, _*_}
 use Rattle.submission_text.specs.Text.{isRow}

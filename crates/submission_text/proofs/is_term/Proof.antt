@@ -1,4 +1,4 @@
-use Rattle.submission_text.proofs.Laws.{term-short, term-tested}
+use Rattle.submission_text.proofs.ReadLines.{term-short, term-tested}
 use borrow.Author.Needs.{needs}
 use Rattle.submission_text.proofs.is_term.Statement.{statement}
 use Rattle.submission_text.proofs.is_term.Tie as tie

@@ -1,4 +1,4 @@
-use Rattle.submission_text.proofs.Laws.{line-end, line-head, line-row}
+use Rattle.submission_text.proofs.ReadLines.{line-end, line-head, line-row}
 use borrow.Author.Needs.{needs}
 use Rattle.submission_text.proofs.line_length.Statement.{statement}
 use Rattle.submission_text.proofs.line_length.Tie as tie

@@ -1,4 +1,4 @@
-use Rattle.submission_text.proofs.Laws.{number-value, number-none}
+use Rattle.submission_text.proofs.ReadLines.{number-value, number-none}
 use borrow.Author.Needs.{needs}
 use Rattle.submission_text.proofs.number_at.Statement.{statement}
 use Rattle.submission_text.proofs.number_at.Tie as tie

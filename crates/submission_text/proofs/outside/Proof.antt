@@ -1,5 +1,5 @@
 use borrow.Author.Needs.{needs}
-use Rattle.submission_text.proofs.Laws.{outside-format, outside-bound}
+use Rattle.submission_text.proofs.ReadLines.{outside-format, outside-bound}
 use Rattle.submission_text.proofs.outside.Statement.{statement}
 use Rattle.submission_text.proofs.outside.Tie as tie
 

@@ -1,4 +1,4 @@
-use Rattle.submission_text.proofs.Laws.{row-judged}
+use Rattle.submission_text.proofs.ReadLines.{row-judged}
 use borrow.Author.Needs.{needs}
 use Rattle.submission_text.proofs.row_fault.Statement.{statement}
 use Rattle.submission_text.proofs.row_fault.Tie as tie

@@ -1,4 +1,4 @@
-use Rattle.submission_text.proofs.Laws.{row-degree, row-good, row-plain}
+use Rattle.submission_text.proofs.ReadLines.{row-degree, row-good, row-plain}
 use borrow.Author.Needs.{needs}
 use Rattle.submission_text.proofs.row_refusal.Statement.{statement}
 use Rattle.submission_text.proofs.row_refusal.Tie as tie

@@ -1,5 +1,5 @@
 use borrow.Author.Needs.{needs}
-use Rattle.submission_text.proofs.Laws.{feed-behind, space-behind}
+use Rattle.submission_text.proofs.ReadLines.{feed-behind, space-behind}
 use Rattle.submission_text.proofs.separator.Statement.{statement}
 use Rattle.submission_text.proofs.separator.Tie as tie
 

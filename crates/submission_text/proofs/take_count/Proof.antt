@@ -1,4 +1,4 @@
-use Rattle.submission_text.proofs.Laws.{count-room, count-refused, count-taken}
+use Rattle.submission_text.proofs.ReadLines.{count-room, count-refused, count-taken}
 use borrow.Author.Needs.{needs}
 use Rattle.submission_text.proofs.take_count.Statement.{statement}
 use Rattle.submission_text.proofs.take_count.Tie as tie

@@ -1,4 +1,4 @@
-use Rattle.submission_text.proofs.Laws.{end-early, end-more, end-there}
+use Rattle.submission_text.proofs.ReadLines.{end-early, end-more, end-there}
 use borrow.Author.Needs.{needs}
 use Rattle.submission_text.proofs.take_end.Statement.{statement}
 use Rattle.submission_text.proofs.take_end.Tie as tie

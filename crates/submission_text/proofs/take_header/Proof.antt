@@ -1,4 +1,4 @@
-use Rattle.submission_text.proofs.Laws.{header-value, header-bad}
+use Rattle.submission_text.proofs.ReadLines.{header-value, header-bad}
 use borrow.Author.Needs.{needs}
 use Rattle.submission_text.proofs.take_header.Statement.{statement}
 use Rattle.submission_text.proofs.take_header.Tie as tie

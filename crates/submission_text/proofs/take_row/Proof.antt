@@ -1,5 +1,5 @@
 -- `submission_text::take_row`: a row is refused, or its numbers are added, by the laws of a row taken. Assumes nothing.
-use Rattle.submission_text.proofs.Laws.{row-room, row-refused, row-taken}
+use Rattle.submission_text.proofs.ReadLines.{row-room, row-refused, row-taken}
 use borrow.Author.Needs.{needs}
 use Rattle.submission_text.proofs.take_row.Statement.{statement}
 use Rattle.submission_text.proofs.take_row.Tie as tie

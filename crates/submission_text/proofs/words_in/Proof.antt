@@ -1,4 +1,4 @@
-use Rattle.submission_text.proofs.Laws.{words-are, words-few}
+use Rattle.submission_text.proofs.ReadLines.{words-are, words-few}
 use borrow.Author.Needs.{needs}
 use Rattle.submission_text.proofs.words_in.Statement.{statement}
 use Rattle.submission_text.proofs.words_in.Tie as tie

@@ -4,7 +4,7 @@ use Prim.Native.Nat.{_+_, _-_, _≤_}
 use lib.ListN.{length, drop}
 use Rattle.laws.specs.Runs.{runsOf}
 use Rattle.filter.specs.Calls.{longRuns}
-use Rattle.filter.proofs.Laws.{runs-turn, long-turn, runs-none, long-none}
+use Rattle.filter.proofs.Turns.{runs-turn, long-turn, runs-none, long-none}
 use borrow.Author.Needs.{needs}
 use Rattle.filter.proofs.kernel.count_runs.Statement.{statement}
 use Rattle.filter.proofs.kernel.count_runs.Tie as tie

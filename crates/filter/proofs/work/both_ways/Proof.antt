@@ -1,7 +1,7 @@
 -- `filter::work::both_ways`: padded, run, reversed, run again and reversed again, from what each call ensures, by one law. Assumes nothing.
 use mathlib.Core.Path.{_∙_}
 use Rattle.filter.specs.Sections.{sectionsOf}
-use Rattle.filter.proofs.Laws.{both-law}
+use Rattle.filter.proofs.Turns.{both-law}
 use borrow.Author.Needs.{needs}
 use Rattle.filter.proofs.work.both_ways.Statement.{statement}
 use Rattle.filter.proofs.work.both_ways.Tie as tie

@@ -1,4 +1,4 @@
-use Rattle.filter.proofs.Laws.{filtfilt-law}
+use Rattle.filter.proofs.Turns.{filtfilt-law}
 use borrow.Author.Needs.{needs}
 use Rattle.filter.proofs.work.filtfilt.Statement.{statement}
 use Rattle.filter.proofs.work.filtfilt.Tie as tie

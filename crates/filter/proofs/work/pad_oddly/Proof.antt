@@ -1,5 +1,5 @@
 use borrow.Author.Needs.{needs}
-use Rattle.filter.proofs.Laws.{pad-law}
+use Rattle.filter.proofs.Turns.{pad-law}
 use Rattle.filter.proofs.work.pad_oddly.Statement.{statement}
 use Rattle.filter.proofs.work.pad_oddly.Tie as tie
 

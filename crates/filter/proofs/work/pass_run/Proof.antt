@@ -1,4 +1,4 @@
-use Rattle.filter.proofs.Laws.{pass-long, pass-short}
+use Rattle.filter.proofs.Turns.{pass-long, pass-short}
 use borrow.Author.Needs.{needs}
 use Rattle.filter.proofs.work.pass_run.Statement.{statement}
 use Rattle.filter.proofs.work.pass_run.Tie as tie

@@ -8,7 +8,7 @@ use Rattle.laws.specs.Runs.{passed}
 use Rattle.filter.specs.Sections.{sectionsOf}
 use Rattle.filter.specs.Filter.{passBy}
 use Rattle.laws.specs.Lists.{put-length}
-use Rattle.filter.proofs.Laws.{pass-turn, passed-now}
+use Rattle.filter.proofs.Turns.{pass-turn, passed-now}
 use Rattle.filter.proofs.work.pass_runs.Statement.{statement}
 use Rattle.filter.proofs.work.pass_runs.Tie as tie
 

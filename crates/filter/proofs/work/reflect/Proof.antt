@@ -7,7 +7,7 @@ use lib.ListN.{length, take, drop, getD}
 use lib.Ieee.{nan}
 use native.Mathlib.Nat.{sub-zero}
 use Rattle.filter.specs.Filter.{reflected}
-use Rattle.filter.proofs.Laws.{mirrored, reflect-turn, reflect-done}
+use Rattle.filter.proofs.Turns.{mirrored, reflect-turn, reflect-done}
 use Rattle.filter.proofs.work.reflect.Statement.{statement}
 use Rattle.filter.proofs.work.reflect.Tie as tie
 

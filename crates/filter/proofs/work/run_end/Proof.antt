@@ -6,7 +6,7 @@ use native.Mathlib.Omega.{arith}
 use borrow.Author.Needs.{needs}
 use lib.ListN.{length, drop, getD}
 use lib.Ieee.{Float}
-use Rattle.filter.proofs.Laws.{run-goes, run-ends, run-stops}
+use Rattle.filter.proofs.Turns.{run-goes, run-ends, run-stops}
 use Rattle.laws.specs.Runs.{runsOf, splits}
 use Rattle.filter.proofs.work.run_end.Statement.{statement}
 use Rattle.filter.proofs.work.run_end.Tie as tie

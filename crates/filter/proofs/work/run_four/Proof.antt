@@ -7,7 +7,7 @@ use borrow.Author.Needs.{needs}
 use lib.ListN.{length, take, drop}
 use Rattle.filter.specs.Filter.{through}
 use Rattle.filter.specs.declared.BiquadMemory.{BiquadMemory}
-use Rattle.filter.proofs.Laws.{throughFour, four-turn, four-done}
+use Rattle.filter.proofs.Turns.{throughFour, four-turn, four-done}
 use Rattle.filter.proofs.work.run_four.Statement.{statement}
 use Rattle.filter.proofs.work.run_four.Tie as tie
 

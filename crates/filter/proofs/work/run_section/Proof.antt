@@ -7,7 +7,7 @@ use borrow.Author.Needs.{needs}
 use lib.ListN.{length, take, drop}
 use Rattle.filter.specs.Filter.{rest, throughOne}
 use Rattle.filter.specs.declared.BiquadMemory.{BiquadMemory}
-use Rattle.filter.proofs.Laws.{section-turn, section-done}
+use Rattle.filter.proofs.Turns.{section-turn, section-done}
 use Rattle.filter.proofs.work.run_section.Statement.{statement}
 use Rattle.filter.proofs.work.run_section.Tie as tie
 

@@ -6,7 +6,7 @@ use borrow.Author.Needs.{needs}
 use lib.ListN.{length, drop}
 use Rattle.filter.specs.Sections.{sectionsOf}
 use Rattle.filter.specs.Filter.{through}
-use Rattle.filter.proofs.Laws.{one-more, four-more, run-done}
+use Rattle.filter.proofs.Turns.{one-more, four-more, run-done}
 use Rattle.filter.proofs.work.run_sections.Statement.{statement}
 use Rattle.filter.proofs.work.run_sections.Tie as tie
 

@@ -1,4 +1,4 @@
-use Rattle.filter.proofs.Laws.{sections-at}
+use Rattle.filter.proofs.Turns.{sections-at}
 use borrow.Author.Needs.{needs}
 use Rattle.filter.proofs.work.section_at.Statement.{statement}
 use Rattle.filter.proofs.work.section_at.Tie as tie

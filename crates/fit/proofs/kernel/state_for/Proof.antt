@@ -1,4 +1,4 @@
--- `fit::kernel::state_for`: a second that is found lies below the end of the keys (proofs/Found.antt), so its state, or none, is the definition's. Assumes nothing.
+-- `fit::kernel::state_for`: a second that is found lies below the end of the keys (crate `integrate`'s proofs/RowsBySecond.antt), so its state, or none, is the definition's. Assumes nothing.
 use mathlib.Core.Path.{_≡_, sym, ap, _∙_}
 use native.Mathlib.Omega.{arith}
 use Rattle.slices.specs.declared.Found.the-variants.{At}
@@ -6,7 +6,7 @@ use Rattle.slices.specs.Slices.{lookup}
 use Rattle.numbers.specs.Seconds.{wholeSecond}
 use Rattle.fit.specs.declared.kernel.Held.the-variants.{Known}
 use Rattle.fit.specs.Fit.{stateFor, heldAt}
-use Rattle.fit.proofs.Found.{place-below}
+use Rattle.integrate.proofs.RowsBySecond.{found-below}
 use borrow.Author.Needs.{needs}
 use Rattle.fit.proofs.kernel.state_for.Statement.{statement}
 use Rattle.fit.proofs.kernel.state_for.Tie as tie
@@ -27,7 +27,7 @@ returns-2 c =
     let at-place = at-found .before .before in
     let a = at-place .before .before .args in
     let p : lookup (a .keys .now) (wholeSecond (a .t)) ≡ At (at-found .found .given .0 .0) = sym (at-place .place .ensures (at-place .before .before .pre .0)) ∙ at-found .found .given .1 in
-    absurd (omega (arith, place-below (a .keys .now) (a .t) (at-found .found .given .0 .0) p, c .if1 .left))
+    absurd (omega (arith, found-below (a .keys .now) (wholeSecond (a .t)) (at-found .found .given .0 .0) p, c .if1 .left))
 
 returns-3 : tie.Need-returns-3
 unfolding stateFor

@@ -3,7 +3,7 @@ use mathlib.Core.Path.{refl, _≡_, _∙_}
 use native.Mathlib.Omega.{arith}
 use lib.ListN.{length}
 use Rattle.inputs.specs.Inputs.{modelOf, frontSize}
-use Rattle.residuals.specs.Calls.{lists}
+use Rattle.residuals.specs.Calls.{epochColumns}
 use Rattle.residuals.proofs.Turns.{blank-is}
 use borrow.Author.Needs.{needs}
 use Rattle.residuals.proofs.filling.fill.Statement.{statement}
@@ -27,8 +27,8 @@ fill-from-requires c κs =
       p .1,
       p .2,
       record {
-        outputs = at-clear-lists .clear-lists .ensures ∙ blank-is (length (s .obstimes .now)) (lists (s .outtimes .now) (s .outresiduals .now) (s .outterms .now) (s .outmids .now) (s .outvels .now))
-            (p .3);
+        outputs = at-clear-lists .clear-lists .ensures ∙ blank-is (length (s .obstimes .now))
+            (epochColumns (s .outtimes .now) (s .outresiduals .now) (s .outterms .now) (s .outmids .now) (s .outvels .now)) (p .3);
         room = omega (arith, e, p .0 .room, at-open .«open» .ensures .only .long);
         usable = at-open .«open» .ensures .usable e (omega (arith, e, p .0 .room)) (modelOf (s .degree) (s .model)) refl;
       },

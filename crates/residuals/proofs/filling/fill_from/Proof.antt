@@ -4,7 +4,7 @@ use Prim.Native.Nat.{_≤_, _-_}
 use native.Mathlib.Omega.{arith}
 use lib.ListN.{length}
 use Rattle.inputs.specs.Inputs.{modelOf, pairOf, observedOf, inputs}
-use Rattle.residuals.specs.Calls.{lists}
+use Rattle.residuals.specs.Calls.{epochColumns}
 use Rattle.residuals.specs.Filling.{SoFar}
 use Rattle.residuals.proofs.Turns.{begins, ends}
 use Rattle.residuals.proofs.filling.fill_from.Statement.{statement}
@@ -15,7 +15,8 @@ Inv-loop degree model keys states acckeys accs obstimes obsvalues good base outt
     =
     (i ≤ length obstimes) × (length outtimes ≡ length outtimes₀) × (length outresiduals ≡ length outresiduals₀) × (length outterms ≡ length outterms₀) × (length outmids ≡ length outmids₀)
     × (length outvels ≡ length outvels₀) × (length w ≡ length w₀)
-    × SoFar (inputs (modelOf degree model) (pairOf keys states) (pairOf acckeys accs)) (observedOf obstimes obsvalues good) base i filled (lists outtimes outresiduals outterms outmids outvels) w
+    × SoFar (inputs (modelOf degree model) (pairOf keys states) (pairOf acckeys accs)) (observedOf obstimes obsvalues good) base i filled
+    (epochColumns outtimes outresiduals outterms outmids outvels) w
 
 abbrev μ-loop : tie.MeasureT-loop
 μ-loop degree model keys states acckeys accs obstimes obsvalues good base outtimes₀ outresiduals₀ outterms₀ outmids₀ outvels₀ w₀ filled₀ i₀ outtimes outresiduals outterms outmids outvels w filled i =
@@ -33,7 +34,7 @@ loop-holds c =
       refl,
       refl,
       begins (inputs (modelOf (s .degree) (s .model)) (pairOf (s .keys) (s .states)) (pairOf (s .acckeys) (s .accs))) (observedOf (s .obstimes .now) (s .obsvalues .now) (s .good .now)) (s .base)
-          (lists (s .outtimes .now) (s .outresiduals .now) (s .outterms .now) (s .outmids .now) (s .outvels .now)) (s .w .now) (start .pre .7),
+          (epochColumns (s .outtimes .now) (s .outresiduals .now) (s .outterms .now) (s .outmids .now) (s .outvels .now)) (s .w .now) (start .pre .7),
     )
 
 turn-requires : tie.Need-turn-requires Inv-loop μ-loop
@@ -100,7 +101,7 @@ returns c =
     let s = start .args in
     let l = c .before .loop in
     ends (inputs (modelOf (s .degree) (s .model)) (pairOf (s .keys) (s .states)) (pairOf (s .acckeys) (s .accs))) (observedOf (s .obstimes .now) (s .obsvalues .now) (s .good .now)) (s .base) (l .i)
-    (l .filled) (lists (l .outtimes) (l .outresiduals) (l .outterms) (l .outmids) (l .outvels)) (l .w) (start .pre .5) (start .pre .6) (l .inv .0) (c .loop-test .left) (l .inv .7)
+    (l .filled) (epochColumns (l .outtimes) (l .outresiduals) (l .outterms) (l .outmids) (l .outvels)) (l .w) (l .inv .0) (c .loop-test .left) (l .inv .7)
 
 pub fill-from-spec : {M : Type 1} → statement M
 fill-from-spec =

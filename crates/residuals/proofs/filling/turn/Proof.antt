@@ -2,7 +2,7 @@
 use mathlib.Core.Path.{refl}
 use lib.ListN.{getD}
 use Rattle.inputs.specs.Inputs.{modelOf, pairOf, observedOf, inputs}
-use Rattle.residuals.specs.Calls.{lists}
+use Rattle.residuals.specs.Calls.{epochColumns}
 use Rattle.residuals.proofs.Turns.{room-left, turned-at}
 use borrow.Author.Needs.{needs}
 use Rattle.residuals.proofs.filling.turn.Statement.{statement}
@@ -23,7 +23,7 @@ add-requires c κs =
     let s = start .args in
     let p = start .pre in
     room-left (inputs (modelOf (s .degree) (s .model)) (pairOf (s .keys) (s .states)) (pairOf (s .acckeys) (s .accs))) (observedOf (s .obstimes .now) (s .obsvalues .now) (s .good .now)) (s .base)
-    (s .i) (s .filled) (lists (s .outtimes .now) (s .outresiduals .now) (s .outterms .now) (s .outmids .now) (s .outvels .now)) (s .w .now) (p .5) (p .6) (p .7) (p .8)
+    (s .i) (s .filled) (epochColumns (s .outtimes .now) (s .outresiduals .now) (s .outterms .now) (s .outmids .now) (s .outvels .now)) (s .w .now) (p .5) (p .8)
 
 returns : tie.Need-returns
 returns c =
@@ -34,7 +34,7 @@ returns c =
     let s = start .args in
     let p = start .pre in
     turned-at (inputs (modelOf (s .degree) (s .model)) (pairOf (s .keys) (s .states)) (pairOf (s .acckeys) (s .accs))) (observedOf (s .obstimes .now) (s .obsvalues .now) (s .good .now)) (s .base)
-    (s .i) (s .filled) (lists (s .outtimes .now) (s .outresiduals .now) (s .outterms .now) (s .outmids .now) (s .outvels .now)) (s .w .now) (p .5) (p .6) (p .7) (p .8) _ _
+    (s .i) (s .filled) (epochColumns (s .outtimes .now) (s .outresiduals .now) (s .outterms .now) (s .outmids .now) (s .outvels .now)) (s .w .now) (p .5) (p .8) _ _
     (getD (s .good .now) (s .i) 0) (at-element2 .before .element .ensures) (at-element2 .element2 .ensures) refl _ _ _ _ (at-try-epoch .try-epoch .ensures) (at-add .add .ensures)
 
 pub turn-spec : {M : Type 1} → statement M

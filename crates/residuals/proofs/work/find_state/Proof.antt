@@ -9,7 +9,8 @@ use mir.ValLaws.{toZ-ofZ}
 use Rattle.slices.specs.Slices.{lookup}
 use Rattle.slices.specs.declared.Found.the-variants.{At, Nothing}
 use Rattle.integrate.specs.declared.kernel.State.{State}
-use Rattle.epoch.proofs.Lookups.{found-below, state-found, state-missing}
+use Rattle.integrate.proofs.RowsBySecond.{found-below}
+use Rattle.epoch.proofs.Lookups.{state-found, state-missing}
 use borrow.Author.Needs.{needs}
 use Rattle.residuals.proofs.work.find_state.Statement.{statement}
 use Rattle.residuals.proofs.work.find_state.Tie as tie

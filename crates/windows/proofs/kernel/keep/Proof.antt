@@ -1,19 +1,19 @@
 -- `windows::kernel::keep`: after k steps the states among them that lie in the window stand in the slot, and n counts them. Assumes nothing.
 use Prim.Native.Nat.{_+_, _-_, _≤_}
 use native.Mathlib.Omega.{arith}
-use Rattle.windows.proofs.SlotStates.{Shelf, shelf-none, shelf-more, kept-all, few}
+use Rattle.windows.proofs.SlotStates.{SlotSoFar, slot-empty, slot-more, kept-all, few}
 use borrow.Author.Needs.{needs}
 use Rattle.windows.proofs.kernel.keep.Statement.{statement}
 use Rattle.windows.proofs.kernel.keep.Tie as tie
 
 abbrev Inv-loop : tie.InvT-loop
-Inv-loop t0 from to steps s₀ base at n₀ k₀ k-end s n k = (k ≤ steps + 1) × Shelf t0 from to s₀ s base at k n
+Inv-loop t0 from to steps s₀ base at n₀ k₀ k-end s n k = (k ≤ steps + 1) × SlotSoFar t0 from to s₀ s base at k n
 
 abbrev μ-loop : tie.MeasureT-loop
 μ-loop t0 from to steps s₀ base at n₀ k₀ k-end s n k = steps + 1 - k
 
 loop-holds : tie.Need-loop-holds Inv-loop μ-loop
-loop-holds c = (omega arith, shelf-none _ _ _ _ _ _)
+loop-holds c = (omega arith, slot-empty _ _ _ _ _ _)
 
 keep-step-requires : tie.Need-keep-step-requires Inv-loop μ-loop
 keep-step-requires c κs =
@@ -32,7 +32,7 @@ loop-again c =
     let loop = at-loop .loop in
     let most = few (a .t0) (a .from) (a .to) (loop .k) (a .steps + 1) (pre .0) (pre .1) (pre .3) (omega arith) in (
       omega arith,
-      shelf-more (a .t0) (a .from) (a .to) _ _ _ (a .base) (a .at) (loop .k) _ _ (pre .4) (omega arith) (omega (arith, loop .inv .1 .counted, most)) (loop .inv .1) (at-keep-step .keep-step .ensures),
+      slot-more (a .t0) (a .from) (a .to) _ _ _ (a .base) (a .at) (loop .k) _ _ (pre .4) (omega arith) (omega (arith, loop .inv .1 .counted, most)) (loop .inv .1) (at-keep-step .keep-step .ensures),
     )
 
 same-length : tie.Need-same-length Inv-loop μ-loop

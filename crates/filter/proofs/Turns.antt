@@ -1,4 +1,4 @@
--- Laws of the definitions of `specs/Filter.antt`, stated as the loops and calls of `src/work.rt` give them. Assumes nothing.
+-- One turn of each loop of `src/work.rt`, and each call, by the definitions of `specs/Filter.antt`. Assumes nothing.
 use mathlib.Core.Path.{_≡_, refl, sym, ap, _∙_}
 use mathlib.Core.List.{List, [], _∷_, _++_, append-assoc, append-nil, reverse, reverse-append}
 use mathlib.Core.Bool.{Bool, true, false, cond}

@@ -1,4 +1,4 @@
--- Laws of a submission's text, as the loops and calls give their premises. Assumes nothing.
+-- A submission's text read word by word, header by header, row by row and line after line, as the loops and calls give their premises. Assumes nothing.
 use mathlib.Core.Path.{_≡_, refl, sym, ap, _∙_, subst}
 use mathlib.Core.Bool.{Bool, true, false, cond, not, _&&_}
 use mathlib.Core.List.{List, [], _∷_, _++_, append-nil, append-assoc}
