@@ -17,7 +17,7 @@ use Rattle.hex.specs.declared.Parsed.the-variants.{Value}
 use Rattle.submission_text.specs.declared.Reading.{Reading}
 use Rattle.submission_text.specs.Text.{longCount, countIn, beginsWith, headerWith, names, headerOf, outside, countRefusal, headerFault, refusedBy, goesOn, only, unlessFault, announced, headed}
 use Rattle.submission_text.specs.Text.{takenHeader}
-use Rattle.submission_text.proofs.Laws.{count-long, header-counts, header-at}
+use Rattle.submission_text.proofs.ReadLines.{count-long, header-counts, header-at}
 
 -- more than 18 decimal digits, and no zero in front of them
 pub record LongCount (digits : List ℕ) : Type 0 where
