@@ -1,2 +1,3 @@
--- The horizon's answer and the entries handed back.
+-- The horizon's answer and the entries handed back; the public calls.
 pub mod Horizon
+pub mod Calls

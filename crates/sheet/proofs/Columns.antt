@@ -1,7 +1,5 @@
 -- The columns that follow from times and raw residuals, and the ends of the lists that the horizon looks at, from the code's lists to the submission's. Assumes nothing.
 use mathlib.Core.Path.{_≡_, refl, sym, ap, _∙_}
-use mathlib.Core.Option.{Option, none, some}
-use Prim.Native.Nat.{ℕ}
 use mathlib.Core.List.{List, [], _∷_, map}
 use lib.Ieee.{Float}
 use lib.ListN.{length-map}
@@ -9,15 +7,14 @@ use Rattle.inputs.specs.Inputs.{Fixed, Lists}
 use Rattle.laws.specs.Times.{end, secondTime}
 use Rattle.finality.specs.Tables.{keyOf}
 use Rattle.finality.specs.Stages.{timeOf}
-use Rattle.finality.specs.Sheet.{obsTime, kept, times, detrended, passedValues, countTo, endsOf as submissionEnds}
+use Rattle.finality.specs.Sheet.{obsTime, kept, times, detrended, passedValues, endsOf as submissionEnds}
 use Rattle.finality.specs.Detrending.{Sample, detrend}
 use Rattle.epoch_record.specs.declared.Epoch.{Epoch}
 use Rattle.epoch_record.specs.EpochRecord.{time, residual}
 use Rattle.detrend.specs.Revolutions.{revolvedOf, removedOf}
 use Rattle.detrend.proofs.SplitAtNodes.{samplesOf, removed-split}
 use Rattle.filter.specs.Filter.{bandPass}
-use Rattle.horizon.specs.Horizon.{endsOf, horizonAnswer, horizonAt}
-use Rattle.horizon.specs.declared.kernel.HorizonNode.{HorizonNode}
+use Rattle.horizon.specs.Horizon.{endsOf}
 use Rattle.model.specs.Stages.{timed}
 use Rattle.model.proofs.Stages.{timed-times}
 use Rattle.integrate.specs.RowsBySecond.{statesIn, valuesIn}
@@ -72,12 +69,3 @@ module _ (S : Fixed) (l : Lists) where
         (timed-times (S .degree) (l .fields .fieldTimes) (l .fields .added)) i;
     obs = end-is (λ (t : Float). t) obsTime (observationsIn (l .tracks .observed)) (l .tracks .observed .obsTimes) (observations-times (l .tracks .observed)) i;
   }
-
--- ---- the horizon's answer and back
-
-back : (o : Option Float) → horizonAt (horizonAnswer o) ≡ o
-back none = refl
-back (some z) = refl
-
-pub final-of : (o : Option Float) (h : HorizonNode) (ts : List Float) (r : ℕ) → h ≡ horizonAnswer o → r ≡ countTo (horizonAt h) ts → r ≡ countTo o ts
-final-of o h ts r e f = f ∙ ap (λ (n : HorizonNode). countTo (horizonAt n) ts) e ∙ ap (λ (x : Option Float). countTo x ts) (back o)

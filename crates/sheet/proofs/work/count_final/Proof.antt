@@ -1,7 +1,7 @@
 use Rattle.inputs.specs.Inputs.{lentList}
 use Rattle.finality.specs.Sheet.{horizonOf}
 use Rattle.horizon.specs.Horizon.{endsOf}
-use Rattle.sheet.proofs.Columns.{final-of}
+use Rattle.horizon.proofs.Answered.{final-of}
 use borrow.Author.Needs.{needs}
 use Rattle.sheet.proofs.work.count_final.Statement.{statement}
 use Rattle.sheet.proofs.work.count_final.Tie as tie
