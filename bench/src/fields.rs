@@ -31,7 +31,7 @@ pub fn works(bench: &mut Bench) {
         let mut work = vec![0.0; 8 * l];
         work[..l].copy_from_slice(&f.c);
         work[l..2 * l].copy_from_slice(&f.s);
-        raw::prepare(n, &mut work);
+        assert_eq!(raw::prepare(n, &mut work), 0);
         let places: Vec<(f64, f64, f64)> = [(0.3, 1.0), (-1.2, -3.0), (std::f64::consts::FRAC_PI_2, 100.0), (0.0, 0.0)].iter().map(|(lat, lon)| (6.878e6, *lat, *lon)).collect();
         let times = bench.compare(
             &format!("partials, N = {n}"),

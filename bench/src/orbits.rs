@@ -25,8 +25,9 @@ fn window(bench: &mut Bench, n: usize, runs: usize) -> (f64, f64) {
         &mut || {
             let mut out = vec![0.0; 6 * (arc.steps + 1)];
             let asked = raw::Arc { t0: arc.t0, steps: arc.steps, node: arc.node, period: arc.period };
-            let rms = raw::fit_orbit(fields.lent(), states.lent(), asked, &mut out, &mut scratch);
-            out.push(rms);
+            let mut rms = [0.0];
+            raw::fit_orbit(fields.lent(), states.lent(), asked, &mut out, &mut rms, &mut scratch);
+            out.extend(rms);
             out
         },
     )

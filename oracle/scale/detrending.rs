@@ -50,18 +50,19 @@ fn listing(tally: &mut Tally, rounds: u64) {
                 _ => unsorted(&mut random, &mut nodes),
             }
         }
-        let (mut firsts, mut ends, mut counts) = (vec![77; lengths[0]], vec![88; lengths[1]], [99, 99]);
+        let handed = if random.below(20) == 0 { [0, 2][random.below(2)] } else { 1 };
+        let (mut firsts, mut ends, mut counts) = (vec![77; lengths[0]], vec![88; lengths[1]], vec![99; handed]);
         let (mut starts, mut periods) = (Lent::new(&mut random, lengths[2]), Lent::new(&mut random, lengths[3]));
         let told = raw::revolutions(&times, &nodes, &mut firsts, &mut ends, &mut starts.now, &mut periods.now, &mut counts);
-        let number = if times.len() > 100_000 || nodes.len() > 64 { 2 } else if lengths != [k; 4] { 3 }
+        let number = if times.len() > 100_000 || nodes.len() > 64 { 2 } else if lengths != [k; 4] || handed != 1 { 3 }
             else if !times.iter().chain(&nodes).all(|t| is_time(*t)) { 4 } else if !rising(&times) || !rising(&nodes) { 5 } else { 0 };
         let found = if number == 0 { revolutions(&times, &nodes) } else { vec![] };
         tally.answered(number);
         let whole = |f: &dyn Fn(usize) -> usize| (0..k).map(|i| if i < found.len() { f(i) } else { 0 }).collect::<Vec<usize>>();
         let broken = |f: &dyn Fn(usize) -> f64| (0..k).map(|i| if i < found.len() { f(i) } else { 0.0 }).collect::<Vec<f64>>();
         let equal = told == number && starts.settled(number, &broken(&|i| found[i].1)) && periods.settled(number, &broken(&|i| found[i].2))
-            && if number == 0 { firsts == whole(&|i| found[i].0.start) && ends == whole(&|i| found[i].0.end) && counts == [found.len(), 99] }
-            else { firsts == vec![77; lengths[0]] && ends == vec![88; lengths[1]] && counts == [99, 99] };
+            && if number == 0 { firsts == whole(&|i| found[i].0.start) && ends == whole(&|i| found[i].0.end) && counts == [found.len()] }
+            else { firsts == vec![77; lengths[0]] && ends == vec![88; lengths[1]] && counts == vec![99; handed] };
         tally.judge(equal, || format!("case {case}: {} times, {} nodes, told {told}, expected {number}", times.len(), nodes.len()));
     }
     tally.end("");

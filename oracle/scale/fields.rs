@@ -99,31 +99,36 @@ fn partials(tally: &mut Tally, rounds: u64) {
         let equal = told == number && out.settled(number, &four) && scratch.left(number);
         tally.judge(equal, || format!("case {case}: degree {n}, told {told}, expected {number}, {place:?}"));
         if early == 0 {
-            prepared(tally, case, n, &values, &a, &b, place, four);
+            prepared(tally, &mut random, case, n, &values, &a, &b, place, four);
         }
     }
     tally.end("");
 }
 
-// The kernel gives the same numbers, finite or not, and leaves an out of five as it was.
-fn prepared(tally: &mut Tally, case: u64, n: usize, values: &[f64], a: &[f64], b: &[f64], place: [f64; 3], four: [f64; 4]) {
+// From a prepared work slice the same numbers, or the same 10; a length, a degree or a number that does not fit is refused, and nothing changes.
+fn prepared(tally: &mut Tally, random: &mut Rng, case: u64, n: usize, values: &[f64], a: &[f64], b: &[f64], place: [f64; 3], four: [f64; 4]) {
     let l = places(n);
     let mut work = vec![f64::NAN; 8 * l];
     work[..2 * l].copy_from_slice(&values[2..]);
-    raw::prepare(n, &mut work);
-    let mut out = [7.0; 4];
-    raw::partials_prepared(n, values[0], values[1], a, b, &work, place[0], place[1], place[2], &mut out);
-    let mut five = [7.0; 5];
-    raw::partials_prepared(n, values[0], values[1], a, b, &work, place[0], place[1], place[2], &mut five);
-    let equal = out.iter().zip(four).all(|(x, y)| x.to_bits() == y.to_bits() || x.is_nan() && y.is_nan()) && five == [7.0; 5];
-    // a length that does not fit, or a degree beyond 180: four times +0.0
-    let (degree, a, b, work) = match case % 4 { 0 => (n, &a[1..], b, &work[..]), 1 => (n, a, &b[1..], &work[..]), 2 => (n, a, b, &work[1..]), _ => (181, a, b, &work[..]) };
-    raw::partials_prepared(degree, values[0], values[1], a, b, work, place[0], place[1], place[2], &mut out);
-    let mut short = vec![7.0; 8 * l - 1];
-    raw::prepare(n, &mut short);
-    raw::prepare(181, &mut short);
-    let refused = out.iter().all(|v| v.to_bits() == 0) && short.iter().all(|v| *v == 7.0);
-    tally.judge(equal && refused, || format!("case {case}, prepared: degree {n}, {place:?}"));
+    let made = raw::prepare(n, &mut work);
+    let mut asked = |degree, gm, a: &[f64], b: &[f64], work: &[f64], handed, number, four: &[f64]| {
+        let mut out = Lent::new(random, handed);
+        let told = raw::partials_prepared(degree, gm, values[1], a, b, work, place[0], place[1], place[2], &mut out.now);
+        told == number && out.settled(number, four)
+    };
+    let equal = asked(n, values[0], a, b, &work, 4, if finite(&four) { 0 } else { 10 }, &four);
+    let (short, of_a, of_b) = (&work[1..], &a[1..], &b[1..]);
+    let refused = match case % 6 {
+        0 => asked(n, values[0], of_a, b, &work, 4, 3, &[]),
+        1 => asked(n, values[0], a, of_b, &work, 4, 3, &[]),
+        2 => asked(n, values[0], a, b, short, 4, 3, &[]),
+        3 => asked(181, values[0], a, b, &work, 5, 1, &[]),
+        4 => asked(n, f64::NAN, a, b, &work, 4, 4, &[]),
+        _ => asked(n, f64::INFINITY, a, b, &work, 5, 3, &[]),
+    };
+    let mut few = vec![7.0; 8 * l - 1];
+    let unprepared = raw::prepare(n, &mut few) == 3 && raw::prepare(181, &mut few) == 1 && raw::prepare(1, &mut few) == 1 && few.iter().all(|v| *v == 7.0);
+    tally.judge(made == 0 && equal && refused && unprepared, || format!("case {case}, prepared: degree {n}, {place:?}"));
 }
 
 pub fn compare(tally: &mut Tally, rounds: u64) {

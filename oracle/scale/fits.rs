@@ -92,17 +92,20 @@ pub fn compare(tally: &mut Tally, rounds: u64) {
         let mut asked = Asked::new(&mut random);
         for _ in 0..[0, 0, 0, 1, 1, 2][random.below(6)] { asked.damage(&mut random) }
         let (mut out, mut scratch) = (Lent::new(&mut random, asked.places), Lent::new(&mut random, asked.scratch));
-        let told = raw::fit_orbit(asked.fields.lent(), asked.states.lent(), asked.arc, &mut out.now, &mut scratch.now);
-        let early = asked.refusal();
+        let handed = if random.below(20) == 0 { [0, 2][random.below(2)] } else { 1 };
+        let mut spread = Lent::new(&mut random, handed);
+        let told = raw::fit_orbit(asked.fields.lent(), asked.states.lent(), asked.arc, &mut out.now, &mut spread.now, &mut scratch.now);
+        // an rms without its place is a length that does not fit
+        let early = match asked.refusal() { n @ 1..=3 => n, _ if handed != 1 => 3, n => n };
         let raw::Arc { t0, steps, node, period } = asked.arc;
         let fit = if early != 0 { Err(early) } else { single_fit(&asked.fields.source(), &asked.states.states(), Arc { t0, steps, node, period }) };
         let (number, states, rms) = match fit {
             Ok((states, rms)) => (0, states.iter().flat_map(|s| [s.0, s.1].concat()).collect(), rms),
-            Err(n) => (n, vec![], -(n as f64)),
+            Err(n) => (n, vec![], 0.0),
         };
         tally.answered(number);
-        let equal = told.to_bits() == rms.to_bits() && out.settled(number, &states) && scratch.left(number);
-        tally.judge(equal, || format!("case {case}: degree {}, {steps} steps, t0 {t0}, told {told}, expected {rms}", asked.fields.degree));
+        let equal = told == number && spread.settled(number, &[rms]) && out.settled(number, &states) && scratch.left(number);
+        tally.judge(equal, || format!("case {case}: degree {}, {steps} steps, t0 {t0}, told {told}, rms {:?}, expected {number}, {rms}", asked.fields.degree, spread.now));
     }
     tally.end("");
 }

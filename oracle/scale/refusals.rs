@@ -27,11 +27,13 @@ pub fn compare(tally: &mut Tally, rounds: u64) {
         }
         asked.outs[4] = asked.obs.len();
         let own = if nodes.len() > 64 { 2 } else if !are_times(&nodes) { 4 } else if !rising(&nodes) { 5 } else { 0 };
-        let number = [asked.refusal(true), own].into_iter().filter(|n| *n > 0).min().unwrap_or(0);
+        let places = if random.below(4) == 0 { [0, 1, 3][random.below(3)] } else { 2 };
+        let unplaced = if places == 2 { 0 } else { 3 };
+        let number = [asked.refusal(true), own, unplaced].into_iter().filter(|n| *n > 0).min().unwrap_or(0);
         // Observing::scratch is without the part of the nodes
         let room = asked.scratch + 49_200 * nodes.len().min(64).saturating_sub(1);
         let [mut first, mut second, mut third, mut fourth] = [0, 1, 2, 3].map(|k| Lent::new(&mut random, asked.outs[k]));
-        let (mut scratch, places) = (Lent::new(&mut random, room), random.below(4));
+        let mut scratch = Lent::new(&mut random, room);
         let mut counts = vec![99; places];
         let [c, d, c_acc, d_acc] = &asked.rows;
         let told = raw::sheet(
@@ -40,7 +42,7 @@ pub fn compare(tally: &mut Tally, rounds: u64) {
             raw::Published { times: &mut first.now, raws: &mut second.now, detrended: &mut third.now, passed: &mut fourth.now }, &mut counts, &mut scratch.now,
         );
         tally.answered(number);
-        let expected: Vec<usize> = (0..places).map(|k| if number == 0 && k < 2 { 0 } else { 99 }).collect();
+        let expected = vec![if number == 0 { 0 } else { 99 }; places];
         let equal = told == number && scratch.left(number) && counts == expected && [first, second, third, fourth].iter().all(|o| o.left(number));
         tally.judge(equal, || format!("case {case}: degree {}, {} nodes, {} observations, told {told}, expected {number}", asked.fields.degree, nodes.len(), asked.obs.len()));
     }

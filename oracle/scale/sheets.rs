@@ -23,16 +23,16 @@ fn engine(random: &mut Rng, s: &Submission) -> (Result<Sheet, u8>, bool) {
     let room = lists.room() + [0, 0, 0, 77][random.below(4)];
     let [mut first, mut second, mut third, mut fourth] = [(); 4].map(|_| Lent::new(random, m));
     let mut scratch = Lent::new(random, room);
-    let mut counts = [77, 88, 99];
+    let mut counts = [77, 88];
     let out = raw::Published { times: &mut first.now, raws: &mut second.now, detrended: &mut third.now, passed: &mut fourth.now };
     let number = raw::sheet(lists.model(), lists.pair(), lists.nodes(), lists.observations(), out, &mut counts, &mut scratch.now);
     let outs = [first, second, third, fourth];
     if number != 0 {
-        let left = outs.iter().all(|o| o.settled(number, &[])) && scratch.left(number) && counts == if number < 6 { [77, 88, 99] } else { [0, 0, 99] };
+        let left = outs.iter().all(|o| o.settled(number, &[])) && scratch.left(number) && counts == if number < 6 { [77, 88] } else { [0, 0] };
         return (Err(number), left);
     }
     let (kept, f) = (counts[0], counts[1]);
-    let left = kept <= m && counts[2] == 99 && scratch.clear() && outs.iter().all(|o| o.now[kept.min(m)..].iter().all(|v| v.to_bits() == 0));
+    let left = kept <= m && scratch.clear() && outs.iter().all(|o| o.now[kept.min(m)..].iter().all(|v| v.to_bits() == 0));
     (Ok(Sheet { lists: outs.map(|o| o.now[..kept.min(m)].to_vec()), f }), left)
 }
 

@@ -2,6 +2,11 @@
 //!
 //! Each function here allocates outputs and scratch, makes one call of [`raw`], and answers what it handed out or why it refused.
 //! L is (N + 1)(N + 2)/2 for the degree N. A field is one list of 2 + 2·L numbers: GM, radius, all C, all S, by degree and then order.
+//!
+//! The processor's floating-point mode stays as Rust starts a thread: round to nearest, no flush of subnormal numbers to zero. C code in the same
+//! program that was built with `-ffast-math` may change it, and then refusals and bits are not those promised: a time of −2^-1074 is accepted.
+//! Calls have no state, so threads may make them side by side; 32 KB of stack are enough for the library's part of any (18.9 KB were measured).
+//! Only the elementary numbers (`root`, `sine`, `cosine`, `arctangent`, `arcsine`, `power`) answer NaN; they refuse nothing.
 
 pub mod raw;
 
@@ -130,16 +135,17 @@ impl<'a> Prepared<'a> {
         }
         let mut work = vec![0.0; 8 * l];
         work[..2 * l].copy_from_slice(&field[2..]);
-        raw::prepare(tables.degree, &mut work);
+        judged(raw::prepare(tables.degree, &mut work))?;
         Ok(Prepared { tables, gm: field[0], radius: field[1], work })
     }
 
-    /// As [`partials`], without its tests: what is not finite is handed out.
-    pub fn partials(&self, r: f64, lat: f64, lon: f64) -> Partials {
+    /// As [`partials`]; a number of the field that is not finite shows in the four, which are then refused.
+    pub fn partials(&self, r: f64, lat: f64, lon: f64) -> Result<Partials, Refusal> {
         let mut out = [0.0; 4];
-        raw::partials_prepared(self.tables.degree, self.gm, self.radius, &self.tables.a, &self.tables.b, &self.work, r, lat, lon, &mut out);
+        let Tables { degree, a, b } = self.tables;
+        judged(raw::partials_prepared(*degree, self.gm, self.radius, a, b, &self.work, r, lat, lon, &mut out))?;
         let [v, dr, dlat, dlon] = out;
-        Partials { v, dr, dlat, dlon }
+        Ok(Partials { v, dr, dlat, dlon })
     }
 }
 
@@ -171,12 +177,9 @@ pub struct Orbit {
 
 pub fn fit_orbit(model: &Model, states: Keyed, arc: Arc) -> Result<Orbit, Refusal> {
     let mut out = vec![0.0; 6 * (arc.steps.min(5_302) + 1)];
-    let answer = raw::fit_orbit(model.lent(), states, arc, &mut out, &mut vec![0.0; model.scratch()]);
-    // an rms is never below zero
-    if answer < 0.0 {
-        return Err(REFUSALS[(-answer) as usize - 1]);
-    }
-    Ok(Orbit { states: out.as_chunks().0.to_vec(), rms: answer })
+    let mut rms = [0.0];
+    judged(raw::fit_orbit(model.lent(), states, arc, &mut out, &mut rms, &mut vec![0.0; model.scratch()]))?;
+    Ok(Orbit { states: out.as_chunks().0.to_vec(), rms: rms[0] })
 }
 
 /// One epoch's record.
@@ -260,15 +263,18 @@ pub fn sheet(model: &Model, pair: Pair, nodes: &[f64], seen: Observations) -> Re
     Ok(Sheet { times, raws, detrended, passed, final_count: counts[1] })
 }
 
-/// The largest node that every list of an accepted submission reaches 1,804 s beyond.
-pub fn horizon(reach: Reach) -> Option<f64> {
-    let z = raw::horizon(reach);
-    if z < 0.0 { None } else { Some(z) }
+/// The largest node that every list reaches 1,804 s beyond, where there is one.
+pub fn horizon(reach: Reach) -> Result<Option<f64>, Refusal> {
+    let mut out = [0.0];
+    judged(raw::horizon(reach, &mut out))?;
+    Ok(Some(out[0]).filter(|z| *z >= 0.0))
 }
 
 /// F: how many of the kept epochs at these times no appended data can change.
-pub fn final_count(reach: Reach, kept: &[f64]) -> usize {
-    raw::final_count(reach, kept)
+pub fn final_count(reach: Reach, kept: &[f64]) -> Result<usize, Refusal> {
+    let mut counts = [0];
+    judged(raw::final_count(reach, kept, &mut counts))?;
+    Ok(counts[0])
 }
 
 /// The first F entries of a published list, none where it has not so many.

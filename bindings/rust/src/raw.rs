@@ -14,11 +14,11 @@ mod linked {
         pub safe fn pozsmeteg_arctangent(y: f64, x: f64) -> f64;
         pub safe fn pozsmeteg_arcsine(v: f64) -> f64;
         pub safe fn pozsmeteg_power(a: f64, n: u32, c: f64) -> f64;
-        pub fn pozsmeteg_prepare(degree: usize, work: FloatsMut, length: usize);
+        pub fn pozsmeteg_prepare(degree: usize, work: FloatsMut, length: usize) -> u8;
         pub fn pozsmeteg_partials_prepared(
             degree: usize, gm: f64, radius: f64, a: Floats, a_length: usize, b: Floats, b_length: usize, work: Floats, work_length: usize,
             r: f64, lat: f64, lon: f64, out: FloatsMut, out_length: usize,
-        );
+        ) -> u8;
         pub fn pozsmeteg_legendre_new(degree: usize, a: FloatsMut, a_length: usize, b: FloatsMut, b_length: usize, scratch: FloatsMut, scratch_length: usize) -> u8;
         pub fn pozsmeteg_partials(
             degree: usize, field: Floats, field_length: usize, a: Floats, a_length: usize, b: Floats, b_length: usize, r: f64, lat: f64, lon: f64,
@@ -38,8 +38,9 @@ mod linked {
         pub fn pozsmeteg_fit_orbit(
             degree: usize, field: Floats, field_length: usize, a: Floats, a_length: usize, b: Floats, b_length: usize, times: Floats, times_length: usize,
             added: Floats, added_length: usize, keys: *const i64, keys_length: usize, states: Floats, states_length: usize,
-            t0: f64, steps: usize, node: f64, period: f64, out: FloatsMut, out_length: usize, scratch: FloatsMut, scratch_length: usize,
-        ) -> f64;
+            t0: f64, steps: usize, node: f64, period: f64, out: FloatsMut, out_length: usize, rms: FloatsMut, rms_length: usize,
+            scratch: FloatsMut, scratch_length: usize,
+        ) -> u8;
         pub fn pozsmeteg_residuals(
             degree: usize, field: Floats, field_length: usize, a: Floats, a_length: usize, b: Floats, b_length: usize, times: Floats, times_length: usize,
             added: Floats, added_length: usize, ckeys: *const i64, ckeys_length: usize, cstates: Floats, cstates_length: usize,
@@ -60,12 +61,13 @@ mod linked {
         ) -> u8;
         pub fn pozsmeteg_horizon(
             nodes: Floats, nodes_length: usize, cstates: *const i64, cstates_length: usize, dstates: *const i64, dstates_length: usize, caccs: *const i64, caccs_length: usize,
-            daccs: *const i64, daccs_length: usize, fields: Floats, fields_length: usize, observed: Floats, observed_length: usize,
-        ) -> f64;
+            daccs: *const i64, daccs_length: usize, fields: Floats, fields_length: usize, observed: Floats, observed_length: usize, out: FloatsMut, out_length: usize,
+        ) -> u8;
         pub fn pozsmeteg_final_count(
             nodes: Floats, nodes_length: usize, cstates: *const i64, cstates_length: usize, dstates: *const i64, dstates_length: usize, caccs: *const i64, caccs_length: usize,
             daccs: *const i64, daccs_length: usize, fields: Floats, fields_length: usize, observed: Floats, observed_length: usize, kept: Floats, kept_length: usize,
-        ) -> usize;
+            counts: *mut usize, counts_length: usize,
+        ) -> u8;
         pub fn pozsmeteg_final_entries(list: Floats, list_length: usize, count: usize) -> usize;
     }
 }
@@ -100,11 +102,11 @@ pub fn power(a: f64, n: u32, c: f64) -> f64 {
     linked::pozsmeteg_power(a, n, c)
 }
 
-pub fn prepare(degree: usize, work: &mut [f64]) {
+pub fn prepare(degree: usize, work: &mut [f64]) -> u8 {
     unsafe { linked::pozsmeteg_prepare(degree, work.as_mut_ptr(), work.len()) }
 }
 
-pub fn partials_prepared(degree: usize, gm: f64, radius: f64, a: &[f64], b: &[f64], work: &[f64], r: f64, lat: f64, lon: f64, out: &mut [f64]) {
+pub fn partials_prepared(degree: usize, gm: f64, radius: f64, a: &[f64], b: &[f64], work: &[f64], r: f64, lat: f64, lon: f64, out: &mut [f64]) -> u8 {
     unsafe {
         linked::pozsmeteg_partials_prepared(
             degree, gm, radius, a.as_ptr(), a.len(), b.as_ptr(), b.len(), work.as_ptr(), work.len(), r, lat, lon, out.as_mut_ptr(), out.len(),
@@ -178,13 +180,13 @@ pub struct Arc {
     pub period: f64,
 }
 
-pub fn fit_orbit(model: Model, states: Keyed, arc: Arc, out: &mut [f64], scratch: &mut [f64]) -> f64 {
+pub fn fit_orbit(model: Model, states: Keyed, arc: Arc, out: &mut [f64], rms: &mut [f64], scratch: &mut [f64]) -> u8 {
     let Model { degree, field, a, b, times, added } = model;
     unsafe {
         linked::pozsmeteg_fit_orbit(
             degree, field.as_ptr(), field.len(), a.as_ptr(), a.len(), b.as_ptr(), b.len(), times.as_ptr(), times.len(), added.as_ptr(), added.len(),
             states.keys.as_ptr(), states.keys.len(), states.values.as_ptr(), states.values.len(), arc.t0, arc.steps, arc.node, arc.period,
-            out.as_mut_ptr(), out.len(), scratch.as_mut_ptr(), scratch.len(),
+            out.as_mut_ptr(), out.len(), rms.as_mut_ptr(), rms.len(), scratch.as_mut_ptr(), scratch.len(),
         )
     }
 }
@@ -264,22 +266,23 @@ pub struct Reach<'a> {
     pub observed: &'a [f64],
 }
 
-pub fn horizon(reach: Reach) -> f64 {
+pub fn horizon(reach: Reach, out: &mut [f64]) -> u8 {
     let Reach { nodes, c, d, c_acc, d_acc, fields, observed } = reach;
     unsafe {
         linked::pozsmeteg_horizon(
             nodes.as_ptr(), nodes.len(), c.as_ptr(), c.len(), d.as_ptr(), d.len(), c_acc.as_ptr(), c_acc.len(), d_acc.as_ptr(), d_acc.len(),
-            fields.as_ptr(), fields.len(), observed.as_ptr(), observed.len(),
+            fields.as_ptr(), fields.len(), observed.as_ptr(), observed.len(), out.as_mut_ptr(), out.len(),
         )
     }
 }
 
-pub fn final_count(reach: Reach, kept: &[f64]) -> usize {
+pub fn final_count(reach: Reach, kept: &[f64], counts: &mut [usize]) -> u8 {
     let Reach { nodes, c, d, c_acc, d_acc, fields, observed } = reach;
     unsafe {
         linked::pozsmeteg_final_count(
             nodes.as_ptr(), nodes.len(), c.as_ptr(), c.len(), d.as_ptr(), d.len(), c_acc.as_ptr(), c_acc.len(), d_acc.as_ptr(), d_acc.len(),
             fields.as_ptr(), fields.len(), observed.as_ptr(), observed.len(), kept.as_ptr(), kept.len(),
+            counts.as_mut_ptr(), counts.len(),
         )
     }
 }

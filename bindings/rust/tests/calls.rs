@@ -1,4 +1,4 @@
-// Each call once accepted, and once refused with each number that it can answer here: lengths that this crate makes itself are right.
+// Each safe function once accepted, and once refused with each number that it can answer: the lengths that this crate makes itself are right.
 use pozsmeteg::*;
 
 const GM: f64 = 3.986_004_415e14;
@@ -55,11 +55,9 @@ fn tables_and_partials() {
     assert_eq!(partials(&tables, &earth(4), 0.0, 0.4, 1.0), Err(Refusal::NotFinite));
     assert!(Prepared::new(&tables, &earth(3)).is_err_and(|why| why == Refusal::Length));
     let prepared = Prepared::new(&tables, &earth(4)).unwrap();
-    assert_eq!(prepared.partials(6.878e6, 0.4, 1.0), p);
-    assert!(!prepared.partials(0.0, 0.4, 1.0).v.is_finite());
-    let (mut five, mut scratch) = ([7.0; 5], [7.0; 120]);
-    assert_eq!(raw::partials(4, &earth(4), &[0.0; 15], &[0.0; 15], 6.878e6, 0.4, 1.0, &mut five, &mut scratch), 3);
-    assert!(five == [7.0; 5] && scratch == [7.0; 120]);
+    assert_eq!(prepared.partials(6.878e6, 0.4, 1.0), Ok(p));
+    assert_eq!(prepared.partials(6.878e6, f64::NAN, 1.0), Err(Refusal::Value));
+    assert_eq!(prepared.partials(0.0, 0.4, 1.0), Err(Refusal::NotFinite));
 }
 
 #[test]
@@ -149,11 +147,17 @@ fn epochs() {
 fn finality() {
     let reach = |keys: &'static [i64], times: &'static [f64]| Reach { nodes: &[10_000.0, 15_000.0], c: keys, d: keys, c_acc: keys, d_acc: keys, fields: times, observed: times };
     let far = reach(&[0, 16_804], &[0.0, 16_804.0]);
-    assert_eq!(horizon(far), Some(15_000.0));
-    assert_eq!(horizon(reach(&[0, 16_803], &[0.0, 16_804.0])), Some(10_000.0));
-    assert_eq!(horizon(reach(&[], &[0.0, 16_804.0])), None);
+    assert_eq!(horizon(far), Ok(Some(15_000.0)));
+    assert_eq!(horizon(reach(&[0, 16_803], &[0.0, 16_804.0])), Ok(Some(10_000.0)));
+    assert_eq!(horizon(reach(&[], &[0.0, 16_804.0])), Ok(None));
+    assert_eq!(horizon(Reach { nodes: &[0.0; 65], ..far }), Err(Refusal::Count));
+    assert_eq!(horizon(Reach { c: &[-1], ..far }), Err(Refusal::Value));
+    assert_eq!(horizon(Reach { nodes: &[15_000.0, 10_000.0], ..far }), Err(Refusal::Order));
     let kept = [1.0, 2.0, 14_996.5, 14_998.0];
-    assert_eq!(final_count(far, &kept), 2);
+    assert_eq!(final_count(far, &kept), Ok(2));
+    assert_eq!(final_count(far, &vec![0.0; 100_001]), Err(Refusal::Count));
+    assert_eq!(final_count(far, &[f64::NAN]), Err(Refusal::Value));
+    assert_eq!(final_count(far, &[2.0, 1.0]), Err(Refusal::Order));
     assert_eq!(final_entries(&kept, 2), &kept[..2]);
     assert!(final_entries(&kept, 5).is_empty());
 }

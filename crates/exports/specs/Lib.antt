@@ -1,8 +1,6 @@
 -- What C is told.
 --
---   PartialsList  the partials as a list
---   Told          a fit's answer as one number
---   Answers       every other answer in numbers, with what is left beside it
-pub mod PartialsList
-pub mod Told
+--   Answers  an answer in numbers: document 01's number, and its values in a lent list
+--   Calls    what each export returns and leaves behind
 pub mod Answers
+pub mod Calls

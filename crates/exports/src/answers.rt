@@ -1,25 +1,14 @@
-// Answers told in numbers: 0 for acceptance, or the refusal's number; counts in the first place of a lent list.
+// Answers told in numbers: 0 for acceptance, or the refusal's number; values in a lent list that has a place for each.
 ghost use mathlib.Core.Path.{_≡_};
-ghost use mathlib.Core.Bool.{true, false, cond};
+ghost use mathlib.Core.Bool.{cond};
 ghost use lib.Dec.{leb};
-ghost use lib.ListN.{length, set};
+ghost use lib.ListN.{length, replicate};
 ghost use Rattle.laws.specs.Loops.{cleared};
 ghost use Rattle.slices.specs.Answers.{outcomeNumber, countedNumber};
-ghost use Rattle.fields.specs.Calls.{refusalOf, partialsNumber};
+ghost use Rattle.fields.specs.Calls.{partialsNumber, judgedPartials};
 ghost use Rattle.sheet.specs.Calls.{sheetNumber};
-ghost use Rattle.exports.specs.PartialsList.{listedIn};
-ghost use Rattle.exports.specs.Told.{toldOf};
-ghost use Rattle.exports.specs.Answers.{countIn, partialsIn, horizonNumber, countsIn};
-
-// The rms, or the refusal's number below zero.
-pub fn told(answer: fit::kernel::Fitted) -> f64
-    ensures { λ r. ⌜ r ≡ toldOf answer ⌝ }
-{
-    match answer {
-        fit::kernel::Fitted::Fitted(rms) => rms,
-        fit::kernel::Fitted::Refused(n) => 0.0 - std::num::nearest_u64_to_f64(n as u64),
-    }
-}
+ghost use Rattle.horizon.specs.Calls.{horizonNumber};
+ghost use Rattle.exports.specs.Answers.{fitNumber, one, two, four, countIn, countsIn, rmsIn, partialsIn, timeIn};
 
 pub fn number(outcome: slices::Outcome) -> u8
     ensures { λ r. ⌜ r ≡ outcomeNumber outcome ⌝ }
@@ -30,84 +19,61 @@ pub fn number(outcome: slices::Outcome) -> u8
     }
 }
 
-fn put(counts: &mut [usize], i: usize, k: usize)
-    ensures { λ _. ⌜ now (counts .exit) ≡ set (now (counts .entry)) i k ⌝ }
+// ---- values into their places
+
+fn put_count(counts: &mut [usize], k: usize)
+    requires { ⌜ length (now counts) ≡ 1 ⌝ }
+    ensures { λ _. ⌜ now (counts .exit) ≡ one k ⌝ }
 {
-    if i < counts.len() {
-        counts[i] = k;
-    }
+    counts[0] = k;
 }
 
-// 0 in the first place where the work was refused, nothing where it was not begun.
-fn put_none(counts: &mut [usize], n: u8)
-    ensures { λ _. ⌜ now (counts .exit) ≡ cond (leb n 5) (now (counts .entry)) (set (now (counts .entry)) 0 0) ⌝ }
+fn put_counts(counts: &mut [usize], kept: usize, last: usize)
+    requires { ⌜ length (now counts) ≡ 2 ⌝ }
+    ensures { λ _. ⌜ now (counts .exit) ≡ two (kept, last) ⌝ }
 {
-    if n > 5 {
-        put(counts, 0, 0);
-    }
+    counts[0] = kept;
+    counts[1] = last;
 }
 
-pub fn store_count(answer: slices::Counted, counts: &mut [usize]) -> u8
-    ensures number { λ r. ⌜ r ≡ countedNumber answer ⌝ }
-    ensures places { λ _. ⌜ now (counts .exit) ≡ countIn answer (now (counts .entry)) ⌝ }
+fn put_number(out: &mut [f64], x: f64)
+    requires { ⌜ length (now out) ≡ 1 ⌝ }
+    ensures { λ _. ⌜ now (out .exit) ≡ one x ⌝ }
 {
-    match answer {
-        slices::Counted::Counted(k) => {
-            put(counts, 0, k);
-            0
-        }
-        slices::Counted::Refused(n) => {
-            put_none(counts, n);
-            n
-        }
-    }
+    out[0] = x;
 }
 
-fn put_two(counts: &mut [usize], kept: usize, last: usize)
-    ensures { λ _. ⌜ now (counts .exit) ≡ set (set (now (counts .entry)) 0 kept) 1 last ⌝ }
+fn put_four(out: &mut [f64], p: legendre::Partials)
+    requires { ⌜ length (now out) ≡ 4 ⌝ }
+    ensures { λ _. ⌜ now (out .exit) ≡ four p ⌝ }
 {
-    put(counts, 0, kept);
-    put(counts, 1, last);
+    out[0] = p.v;
+    out[1] = p.dr;
+    out[2] = p.dlat;
+    out[3] = p.dlon;
 }
 
-fn put_neither(counts: &mut [usize], n: u8)
-    ensures { λ _. ⌜ now (counts .exit) ≡ cond (leb n 5) (now (counts .entry)) (set (set (now (counts .entry)) 0 0) 1 0) ⌝ }
+// ---- after refusal n: 0 in each place where the work was begun, nothing where it was not
+
+fn forget_count(counts: &mut [usize], n: u8)
+    requires { ⌜ length (now counts) ≡ 1 ⌝ }
+    ensures { λ _. ⌜ now (counts .exit) ≡ cond (leb n 5) (now (counts .entry)) (replicate (length (now (counts .entry))) 0) ⌝ }
 {
     if n > 5 {
-        put_two(counts, 0, 0);
+        put_count(counts, 0);
     }
 }
 
-// The kept and the final epochs, in the first two places.
-pub fn store_counts(answer: sheet::SheetAnswer, counts: &mut [usize]) -> u8
-    ensures number { λ r. ⌜ r ≡ sheetNumber answer ⌝ }
-    ensures places { λ _. ⌜ now (counts .exit) ≡ countsIn answer (now (counts .entry)) ⌝ }
+fn forget_counts(counts: &mut [usize], n: u8)
+    requires { ⌜ length (now counts) ≡ 2 ⌝ }
+    ensures { λ _. ⌜ now (counts .exit) ≡ cond (leb n 5) (now (counts .entry)) (replicate (length (now (counts .entry))) 0) ⌝ }
 {
-    match answer {
-        sheet::SheetAnswer::Accepted(kept, last) => {
-            put_two(counts, kept, last);
-            0
-        }
-        sheet::SheetAnswer::Refused(n) => {
-            put_neither(counts, n);
-            n
-        }
+    if n > 5 {
+        put_counts(counts, 0, 0);
     }
 }
 
-// An out of another length stays as it was.
-pub fn put_four(p: legendre::Partials, out: &mut [f64])
-    ensures { λ _. ⌜ now (out .exit) ≡ listedIn p (now (out .entry)) ⌝ }
-{
-    if out.len() == 4 {
-        out[0] = p.v;
-        out[1] = p.dr;
-        out[2] = p.dlat;
-        out[3] = p.dlon;
-    }
-}
-
-fn clear_after(out: &mut [f64], n: u8)
+fn forget(out: &mut [f64], n: u8)
     ensures { λ _. ⌜ now (out .exit) ≡ cond (leb n 5) (now (out .entry)) (cleared (now (out .entry))) ⌝ }
 {
     if n > 5 {
@@ -115,14 +81,60 @@ fn clear_after(out: &mut [f64], n: u8)
     }
 }
 
-// 3, or 1 where the degree is refused before any length.
-pub fn length_refusal(degree: usize) -> u8
-    ensures { λ r. ⌜ r ≡ refusalOf degree false true ⌝ }
+// ---- answers
+
+pub fn store_count(answer: slices::Counted, counts: &mut [usize]) -> u8
+    requires { ⌜ length (now counts) ≡ 1 ⌝ }
+    ensures number { λ r. ⌜ r ≡ countedNumber answer ⌝ }
+    ensures places { λ _. ⌜ now (counts .exit) ≡ countIn answer (now (counts .entry)) ⌝ }
 {
-    slices::unless(slices::both(2 <= degree, degree <= 180), 1, 3)
+    match answer {
+        slices::Counted::Counted(k) => {
+            put_count(counts, k);
+            0
+        }
+        slices::Counted::Refused(n) => {
+            forget_count(counts, n);
+            n
+        }
+    }
 }
 
-// The four numbers in a list of four.
+// The kept and the final epochs.
+pub fn store_counts(answer: sheet::SheetAnswer, counts: &mut [usize]) -> u8
+    requires { ⌜ length (now counts) ≡ 2 ⌝ }
+    ensures number { λ r. ⌜ r ≡ sheetNumber answer ⌝ }
+    ensures places { λ _. ⌜ now (counts .exit) ≡ countsIn answer (now (counts .entry)) ⌝ }
+{
+    match answer {
+        sheet::SheetAnswer::Accepted(kept, last) => {
+            put_counts(counts, kept, last);
+            0
+        }
+        sheet::SheetAnswer::Refused(n) => {
+            forget_counts(counts, n);
+            n
+        }
+    }
+}
+
+pub fn store_rms(answer: fit::kernel::Fitted, rms: &mut [f64]) -> u8
+    requires { ⌜ length (now rms) ≡ 1 ⌝ }
+    ensures number { λ r. ⌜ r ≡ fitNumber answer ⌝ }
+    ensures places { λ _. ⌜ now (rms .exit) ≡ rmsIn answer (now (rms .entry)) ⌝ }
+{
+    match answer {
+        fit::kernel::Fitted::Fitted(x) => {
+            put_number(rms, x);
+            0
+        }
+        fit::kernel::Fitted::Refused(n) => {
+            forget(rms, n);
+            n
+        }
+    }
+}
+
 pub fn store_partials(answer: fields::PartialsAnswer, out: &mut [f64]) -> u8
     requires { ⌜ length (now out) ≡ 4 ⌝ }
     ensures number { λ r. ⌜ r ≡ partialsNumber answer ⌝ }
@@ -130,21 +142,48 @@ pub fn store_partials(answer: fields::PartialsAnswer, out: &mut [f64]) -> u8
 {
     match answer {
         fields::PartialsAnswer::Value(p) => {
-            put_four(p, out);
+            put_four(out, p);
             0
         }
         fields::PartialsAnswer::Refused(n) => {
-            clear_after(out, n);
+            forget(out, n);
             n
         }
     }
 }
 
-pub fn horizon_time(z: horizon::kernel::HorizonNode) -> f64
-    ensures { λ r. ⌜ r ≡ horizonNumber z ⌝ }
+// The four numbers where all are finite, else 10 and +0.0.
+pub fn hand_out(p: legendre::Partials, out: &mut [f64]) -> u8
+    requires { ⌜ length (now out) ≡ 4 ⌝ }
+    ensures number { λ r. ⌜ r ≡ partialsNumber (judgedPartials p) ⌝ }
+    ensures places { λ _. ⌜ now (out .exit) ≡ partialsIn (judgedPartials p) (now (out .entry)) ⌝ }
 {
-    match z {
-        horizon::kernel::HorizonNode::At(t) => t,
-        horizon::kernel::HorizonNode::Nothing => -1.0,
+    put_four(out, p);
+    if slices::all_finite(&out[..]) {
+        return 0;
+    }
+    slices::clear(out);
+    10
+}
+
+// The horizon's time, −1.0 without one.
+pub fn store_time(answer: horizon::HorizonAnswer, out: &mut [f64]) -> u8
+    requires { ⌜ length (now out) ≡ 1 ⌝ }
+    ensures number { λ r. ⌜ r ≡ horizonNumber answer ⌝ }
+    ensures places { λ _. ⌜ now (out .exit) ≡ timeIn answer (now (out .entry)) ⌝ }
+{
+    match answer {
+        horizon::HorizonAnswer::At(z) => {
+            put_number(out, z);
+            0
+        }
+        horizon::HorizonAnswer::Nothing => {
+            put_number(out, -1.0);
+            0
+        }
+        horizon::HorizonAnswer::Refused(n) => {
+            forget(out, n);
+            n
+        }
     }
 }

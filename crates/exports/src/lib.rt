@@ -1,27 +1,27 @@
-// The static library's functions for Rust and C (bindings/c/pozsmeteg.h). Each is the call of the same name, its answer told
-// in numbers: 0 for acceptance or the refusal's number, counts in a lent list.
+// The static library's functions for Rust and C (bindings/c/pozsmeteg.h), of three kinds:
+// - the elementary numbers refuse nothing, and answer NaN where document 01 or IEEE 754 does;
+// - `pozsmeteg_final_entries` refuses nothing: a count above the list's length gives 0;
+// - every other is the public call of the same name, its answer told in numbers: it returns 0 for acceptance or the refusal's number, and its values
+//   go into a lent list that has a place for each, else 3. NaN never leaves them. `prepare` and `partials_prepared` are such calls over the kernel of
+//   `partials`, for many evaluations at one degree: they do not look at the numbers in the tables and in the work slice.
 mod answers;
+mod places;
+mod prepared;
 
 ghost use mathlib.Core.Path.{_≡_};
 ghost use mathlib.Core.List.{[], _∷_};
 ghost use lib.Ieee.{binary64};
 ghost use lib.ListN.{length};
-ghost use Rattle.legendre.specs.Field.{partialsWith};
-ghost use Rattle.legendre.specs.Prepared.{prepared};
-ghost use Rattle.exports.specs.PartialsList.{listedIn};
 ghost use Rattle.slices.specs.Calls.{left};
-ghost use Rattle.fields.specs.Calls.{newCall, partialsCall};
+ghost use Rattle.fields.specs.Calls.{newCall};
 ghost use Rattle.filter.specs.Calls.{bandPassCall};
-ghost use Rattle.detrend.specs.Calls.{detrendCall, revolutionsCall};
+ghost use Rattle.detrend.specs.Calls.{detrendCall};
 ghost use Rattle.inputs.specs.Inputs.{modelWith, pairWith, observedOf, inputs, lists as sheetLists};
-ghost use Rattle.residuals.specs.Calls.{epochColumns, residualsCall};
-ghost use Rattle.sheet.specs.Calls.{sheetCall};
-ghost use Rattle.finality.specs.Sheet.{horizonOf, countTo};
-ghost use Rattle.horizon.specs.Horizon.{endsOf, finalEntries};
-ghost use Rattle.fit.specs.Calls.{fitCall};
-ghost use Rattle.exports.specs.Told.{toldLeft};
-ghost use Rattle.exports.specs.Answers.{outcomeLeft, partialsTold, horizonTold, revolutionsTold, revolutionsLeft, residualsTold, residualsLeft};
-ghost use Rattle.exports.specs.Answers.{sheetTold, sheetLeft};
+ghost use Rattle.residuals.specs.Calls.{epochColumns};
+ghost use Rattle.horizon.specs.Horizon.{finalEntries};
+ghost use Rattle.horizon.specs.Calls.{given};
+ghost use Rattle.exports.specs.Calls.{outcomeLeft, told, toldAlone, prepareTold, partialsTold, preparedAnswer, preparedTold, fitTold};
+ghost use Rattle.exports.specs.Calls.{revolutionsTold, residualsTold, sheetTold, horizonTold, finalCountTold};
 ghost use Rattle.root.specs.Root.{sqrt};
 ghost use Rattle.numbers.specs.Numbers.{sine as Numbers·sine, cosine as Numbers·cosine, arctangent as Numbers·arctangent, arcsine as Numbers·arcsine};
 ghost use Rattle.numbers.specs.Numbers.{carried as Numbers·carried};
@@ -68,14 +68,20 @@ pub extern "C" fn pozsmeteg_power(a: f64, n: u32, c: f64) -> f64
     numbers::carried(a, n, c)
 }
 
+// What many evaluations at one degree share, into a work slice with C and S in front.
 #[no_mangle]
-pub extern "C" fn pozsmeteg_prepare(degree: usize, work: &mut [f64])
-    ensures { λ _. ⌜ now (work .exit) ≡ prepared degree (now (work .entry)) ⌝ }
+pub extern "C" fn pozsmeteg_prepare(degree: usize, work: &mut [f64]) -> u8
+    ensures { λ r. ⌜ left r (now (work .exit) ∷ []) [] ≡ prepareTold degree (now (work .entry)) ⌝ }
 {
+    let refused = prepared::prepare_refusal(degree, work.len());
+    if refused != 0 {
+        return refused;
+    }
     fields::kernel::prepare(degree, work);
+    0
 }
 
-// The kernel over a prepared work slice; the four numbers go into an out of four places, another stays as it was.
+// The four numbers from a prepared work slice.
 #[no_mangle]
 pub extern "C" fn pozsmeteg_partials_prepared(
     degree: usize,
@@ -88,14 +94,26 @@ pub extern "C" fn pozsmeteg_partials_prepared(
     lat: f64,
     lon: f64,
     out: &mut [f64],
-)
-    ensures { λ _. ⌜ now (out .exit) ≡ listedIn (partialsWith degree gm radius (now (a .entry)) (now (b .entry)) (now (work .entry)) r lat lon)
-        (now (out .entry)) ⌝ }
+) -> u8
+    ensures { λ z. ⌜ left z (now (out .exit) ∷ []) [] ≡ preparedTold (preparedAnswer degree gm radius (now (a .entry)) (now (b .entry)) (now (work .entry))
+        r lat lon (length (now (out .entry)))) (now (out .entry)) ⌝ }
 {
+    let refused = prepared::partials_refusal(
+        degree,
+        a.len(),
+        b.len(),
+        work.len(),
+        out.len(),
+        prepared::place_fine(gm, radius, r, lat, lon),
+    );
+    if refused != 0 {
+        return refused;
+    }
     let z = fields::kernel::partials(degree, gm, radius, a, b, work, r, lat, lon);
-    answers::put_four(z, out);
+    answers::hand_out(z, out)
 }
 
+// The rms goes into the one place of rms.
 #[no_mangle]
 pub extern "C" fn pozsmeteg_fit_orbit<'a>(
     degree: usize,
@@ -111,12 +129,17 @@ pub extern "C" fn pozsmeteg_fit_orbit<'a>(
     node: f64,
     period: f64,
     out: &mut [f64],
+    rms: &mut [f64],
     scratch: &mut [f64],
-) -> f64
-    ensures { λ r. ⌜ left r (now (out .exit) ∷ []) (now (scratch .exit)) ≡ toldLeft
-        (fitCall (modelWith degree (now (field .entry)) (now (a .entry)) (now (b .entry)) (now (times .entry)) (now (added .entry))) (now (keys .entry))
-        (now (states .entry)) (record { t0 = t0; steps = steps; node = node; period = period }) (now (out .entry)) (now (scratch .entry))) ⌝ }
+) -> u8
+    ensures { λ r. ⌜ told r (now (rms .exit)) (now (out .exit) ∷ []) (now (scratch .exit)) ≡ fitTold
+        (modelWith degree (now (field .entry)) (now (a .entry)) (now (b .entry)) (now (times .entry)) (now (added .entry))) (now (keys .entry))
+        (now (states .entry)) (record { t0 = t0; steps = steps; node = node; period = period }) (now (out .entry)) (now (rms .entry))
+        (now (scratch .entry)) ⌝ }
 {
+    if rms.len() != 1 {
+        return places::fit(degree, times.len(), keys.len(), steps);
+    }
     let arc = integrate::kernel::Arc {
         t0: t0,
         steps: steps,
@@ -132,7 +155,7 @@ pub extern "C" fn pozsmeteg_fit_orbit<'a>(
         out,
         scratch,
     );
-    answers::told(answer)
+    answers::store_rms(answer, rms)
 }
 
 #[no_mangle]
@@ -148,7 +171,7 @@ pub extern "C" fn pozsmeteg_legendre_new(
     answers::number(fields::legendre_new(degree, a, b, scratch))
 }
 
-// The four numbers go into out; an out of another length is refused like any other length.
+// The four numbers go into the four places of out.
 #[no_mangle]
 pub extern "C" fn pozsmeteg_partials(
     degree: usize,
@@ -161,12 +184,11 @@ pub extern "C" fn pozsmeteg_partials(
     out: &mut [f64],
     scratch: &mut [f64],
 ) -> u8
-    ensures { λ z. ⌜ left z (now (out .exit) ∷ []) (now (scratch .exit)) ≡ partialsTold degree
-        (partialsCall degree (now (field .entry)) (now (a .entry)) (now (b .entry)) r lat lon (now (scratch .entry))) (now (out .entry))
-        (now (scratch .entry)) ⌝ }
+    ensures { λ z. ⌜ told z (now (out .exit)) [] (now (scratch .exit)) ≡ partialsTold degree (now (field .entry)) (now (a .entry)) (now (b .entry)) r lat lon
+        (now (out .entry)) (now (scratch .entry)) ⌝ }
 {
     if out.len() != 4 {
-        return answers::length_refusal(degree);
+        return places::partials(degree);
     }
     let answer = fields::partials(degree, field, a, b, r, lat, lon, scratch);
     answers::store_partials(answer, out)
@@ -202,7 +224,7 @@ pub extern "C" fn pozsmeteg_detrend(
     answers::number(detrend::detrend(times, values, firsts, ends, starts, periods, scratch))
 }
 
-// The count goes into the first place of counts.
+// The count goes into the one place of counts.
 #[no_mangle]
 pub extern "C" fn pozsmeteg_revolutions(
     times: &[f64],
@@ -213,15 +235,18 @@ pub extern "C" fn pozsmeteg_revolutions(
     periods: &mut [f64],
     counts: &mut [usize],
 ) -> u8
-    ensures { λ r. ⌜ revolutionsTold r (now (counts .exit)) (now (firsts .exit)) (now (ends .exit)) (now (starts .exit)) (now (periods .exit)) ≡
-        revolutionsLeft (revolutionsCall (now (times .entry)) (now (nodes .entry)) (now (firsts .entry)) (now (ends .entry)) (now (starts .entry))
-        (now (periods .entry))) (now (counts .entry)) ⌝ }
+    ensures { λ r. ⌜ told r (now (counts .exit)) (now (firsts .exit), (now (ends .exit), (now (starts .exit), now (periods .exit)))) [] ≡ revolutionsTold
+        (now (times .entry)) (now (nodes .entry)) (now (firsts .entry)) (now (ends .entry)) (now (starts .entry)) (now (periods .entry))
+        (now (counts .entry)) ⌝ }
 {
+    if counts.len() != 1 {
+        return places::revolutions(times.len(), nodes.len());
+    }
     let answer = detrend::revolutions(times, nodes, firsts, ends, starts, periods);
     answers::store_count(answer, counts)
 }
 
-// The count of kept epochs goes into the first place of counts.
+// The count of kept epochs goes into the one place of counts.
 #[no_mangle]
 pub extern "C" fn pozsmeteg_residuals<'a>(
     degree: usize,
@@ -249,15 +274,26 @@ pub extern "C" fn pozsmeteg_residuals<'a>(
     counts: &mut [usize],
     scratch: &mut [f64],
 ) -> u8
-    ensures { λ r. ⌜ residualsTold r (now (counts .exit))
+    ensures { λ r. ⌜ told r (now (counts .exit))
         (epochColumns (now (outtimes .exit)) (now (outresiduals .exit)) (now (outterms .exit)) (now (outmids .exit)) (now (outvels .exit)))
-        (now (scratch .exit)) ≡ residualsLeft (residualsCall (inputs (modelWith degree (now (field .entry)) (now (a .entry)) (now (b .entry))
-        (now (times .entry)) (now (added .entry))) (pairWith (now (ckeys .entry)) (now (cstates .entry)) (now (dkeys .entry)) (now (dstates .entry)))
+        (now (scratch .exit)) ≡ residualsTold (inputs (modelWith degree (now (field .entry)) (now (a .entry)) (now (b .entry)) (now (times .entry))
+        (now (added .entry))) (pairWith (now (ckeys .entry)) (now (cstates .entry)) (now (dkeys .entry)) (now (dstates .entry)))
         (pairWith (now (cacckeys .entry)) (now (caccs .entry)) (now (dacckeys .entry)) (now (daccs .entry))))
         (observedOf (now (obstimes .entry)) (now (obsvalues .entry)) (now (good .entry)))
         (epochColumns (now (outtimes .entry)) (now (outresiduals .entry)) (now (outterms .entry)) (now (outmids .entry)) (now (outvels .entry)))
-        (now (scratch .entry))) (now (counts .entry)) ⌝ }
+        (now (counts .entry)) (now (scratch .entry)) ⌝ }
 {
+    if counts.len() != 1 {
+        return places::residuals(
+            degree,
+            times.len(),
+            ckeys.len(),
+            dkeys.len(),
+            cacckeys.len(),
+            dacckeys.len(),
+            obstimes.len(),
+        );
+    }
     let answer = residuals::residuals(
         degree,
         [field, a, b, times, added],
@@ -278,7 +314,7 @@ pub extern "C" fn pozsmeteg_residuals<'a>(
     answers::store_count(answer, counts)
 }
 
-// The whole path; the counts of kept and of final epochs go into the first two places of counts.
+// The whole path; the counts of kept and of final epochs go into the two places of counts.
 #[no_mangle]
 pub extern "C" fn pozsmeteg_sheet<'a>(
     degree: usize,
@@ -306,16 +342,28 @@ pub extern "C" fn pozsmeteg_sheet<'a>(
     counts: &mut [usize],
     scratch: &mut [f64],
 ) -> u8
-    ensures { λ r. ⌜ sheetTold r (now (counts .exit)) (now (outtimes .exit) ∷ now (outraws .exit) ∷ now (outdetrended .exit) ∷ now (outpassed .exit) ∷ [])
-        (now (scratch .exit)) ≡ sheetLeft (sheetCall
+    ensures { λ r. ⌜ told r (now (counts .exit)) (now (outtimes .exit) ∷ now (outraws .exit) ∷ now (outdetrended .exit) ∷ now (outpassed .exit) ∷ [])
+        (now (scratch .exit)) ≡ sheetTold
         (modelWith degree (now (field .entry)) (now (a .entry)) (now (b .entry)) (now (times .entry)) (now (added .entry)) .fixed)
         (sheetLists (modelWith degree (now (field .entry)) (now (a .entry)) (now (b .entry)) (now (times .entry)) (now (added .entry)))
         (pairWith (now (ckeys .entry)) (now (cstates .entry)) (now (dkeys .entry)) (now (dstates .entry)))
         (pairWith (now (cacckeys .entry)) (now (caccs .entry)) (now (dacckeys .entry)) (now (daccs .entry))) (now (nodes .entry))
         (observedOf (now (obstimes .entry)) (now (obsvalues .entry)) (now (good .entry))))
-        (now (outtimes .entry) ∷ now (outraws .entry) ∷ now (outdetrended .entry) ∷ now (outpassed .entry) ∷ []) (now (scratch .entry))) (now (counts .entry))
-        ⌝ }
+        (now (outtimes .entry) ∷ now (outraws .entry) ∷ now (outdetrended .entry) ∷ now (outpassed .entry) ∷ []) (now (counts .entry))
+        (now (scratch .entry)) ⌝ }
 {
+    if counts.len() != 2 {
+        return places::sheet(
+            degree,
+            times.len(),
+            ckeys.len(),
+            dkeys.len(),
+            cacckeys.len(),
+            dacckeys.len(),
+            nodes.len(),
+            obstimes.len(),
+        );
+    }
     let answer = sheet::sheet(
         degree,
         [field, a, b, times, added],
@@ -336,7 +384,7 @@ pub extern "C" fn pozsmeteg_sheet<'a>(
     answers::store_counts(answer, counts)
 }
 
-// The horizon's time, −1.0 without one; the lists are those of an accepted submission.
+// The horizon's time, −1.0 without one, goes into the one place of out.
 #[no_mangle]
 pub extern "C" fn pozsmeteg_horizon(
     nodes: &[f64],
@@ -346,23 +394,28 @@ pub extern "C" fn pozsmeteg_horizon(
     daccs: &[i64],
     fields: &[f64],
     observed: &[f64],
-) -> f64
-    ensures { λ r. ⌜ r ≡ horizonTold (horizonOf
-        (endsOf (now (cstates .entry)) (now (dstates .entry)) (now (caccs .entry)) (now (daccs .entry)) (now (fields .entry)) (now (observed .entry)))
-        (now (nodes .entry))) ⌝ }
+    out: &mut [f64],
+) -> u8
+    ensures { λ r. ⌜ toldAlone r (now (out .exit)) ≡ horizonTold (given (now (nodes .entry)) (now (cstates .entry)) (now (dstates .entry)) (now (caccs .entry))
+        (now (daccs .entry)) (now (fields .entry)) (now (observed .entry))) (now (out .entry)) ⌝ }
 {
-    answers::horizon_time(horizon::kernel::horizon(
-        nodes,
-        cstates,
-        dstates,
-        caccs,
-        daccs,
-        fields,
-        observed,
-    ))
+    if out.len() != 1 {
+        return places::horizon(
+            nodes.len(),
+            cstates.len(),
+            dstates.len(),
+            caccs.len(),
+            daccs.len(),
+            fields.len(),
+            observed.len(),
+            0,
+        );
+    }
+    let answer = horizon::horizon(nodes, cstates, dstates, caccs, daccs, fields, observed);
+    answers::store_time(answer, out)
 }
 
-// F, of the kept epochs' times.
+// F, of the kept epochs' times, goes into the one place of counts.
 #[no_mangle]
 pub extern "C" fn pozsmeteg_final_count(
     nodes: &[f64],
@@ -373,12 +426,35 @@ pub extern "C" fn pozsmeteg_final_count(
     fields: &[f64],
     observed: &[f64],
     kept: &[f64],
-) -> usize
-    ensures { λ r. ⌜ r ≡ countTo (horizonOf (endsOf (now (cstates .entry)) (now (dstates .entry)) (now (caccs .entry)) (now (daccs .entry))
-        (now (fields .entry)) (now (observed .entry))) (now (nodes .entry))) (now (kept .entry)) ⌝ }
+    counts: &mut [usize],
+) -> u8
+    ensures { λ r. ⌜ toldAlone r (now (counts .exit)) ≡ finalCountTold
+        (given (now (nodes .entry)) (now (cstates .entry)) (now (dstates .entry)) (now (caccs .entry)) (now (daccs .entry)) (now (fields .entry))
+        (now (observed .entry))) (now (kept .entry)) (now (counts .entry)) ⌝ }
 {
-    let z = horizon::kernel::horizon(nodes, cstates, dstates, caccs, daccs, fields, observed);
-    horizon::kernel::final_count(z, kept)
+    if counts.len() != 1 {
+        return places::horizon(
+            nodes.len(),
+            cstates.len(),
+            dstates.len(),
+            caccs.len(),
+            daccs.len(),
+            fields.len(),
+            observed.len(),
+            kept.len(),
+        );
+    }
+    let answer = horizon::final_count(
+        nodes,
+        cstates,
+        dstates,
+        caccs,
+        daccs,
+        fields,
+        observed,
+        kept,
+    );
+    answers::store_count(answer, counts)
 }
 
 // How many entries the final part of a lent list has; it begins where the list does.

@@ -1,6 +1,6 @@
-use borrow.Author.Needs.{needs}
 use mathlib.Core.Path.{ap}
 use lib.ListN.{length}
+use borrow.Author.Needs.{needs}
 use Rattle.exports.proofs.pozsmeteg_final_entries.Statement.{statement}
 use Rattle.exports.proofs.pozsmeteg_final_entries.Tie as tie
 

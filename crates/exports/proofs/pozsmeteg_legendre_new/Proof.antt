@@ -1,5 +1,5 @@
+use Rattle.exports.proofs.CallsTold.{outcome-left}
 use borrow.Author.Needs.{needs}
-use Rattle.exports.proofs.AnswersTold.{outcome-left}
 use Rattle.exports.proofs.pozsmeteg_legendre_new.Statement.{statement}
 use Rattle.exports.proofs.pozsmeteg_legendre_new.Tie as tie
 

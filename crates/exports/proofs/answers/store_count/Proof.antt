@@ -1,19 +1,24 @@
+-- `exports::answers::store_count`: a count in its place, or what is left there after a refusal. Assumes nothing.
+use mathlib.Core.Path.{refl}
+use Rattle.slices.specs.Answers.{countedNumber}
+use Rattle.slices.specs.declared.Counted.the-variants as answers
+use Rattle.exports.specs.Answers.{countIn}
+use Rattle.exports.proofs.AnswersTold.{told-as}
 use borrow.Author.Needs.{needs}
-use Rattle.exports.proofs.AnswersTold.{count-stored, count-refused}
 use Rattle.exports.proofs.answers.store_count.Statement.{statement}
 use Rattle.exports.proofs.answers.store_count.Tie as tie
 
 returns : tie.Need-returns
 returns c =
-    let at-put = c .before .before in
-    let at-answer = at-put .before .before .before in
-    count-stored (at-answer .before .before .before .args .answer) _ _ _ (at-answer .answer .given .1) (at-put .put .ensures)
+    let at-put-count = c .before .before in
+    let at-answer = at-put-count .before .before .before in
+    told-as countedNumber countIn (at-answer .before .before .before .args .answer) (answers.Counted _) _ _ _ (at-answer .answer .given .1) refl (at-put-count .put-count .ensures)
 
 returns-2 : tie.Need-returns-2
 returns-2 c =
-    let at-put-none = c .before .before in
-    let at-answer2 = at-put-none .before .before .before in
-    count-refused (at-answer2 .before .before .before .args .answer) _ _ _ (at-answer2 .answer2 .given .1) (at-put-none .put-none .ensures)
+    let at-forget-count = c .before .before in
+    let at-answer2 = at-forget-count .before .before .before in
+    told-as countedNumber countIn (at-answer2 .before .before .before .args .answer) (answers.Refused _) _ _ _ (at-answer2 .answer2 .given .1) refl (at-forget-count .forget-count .ensures)
 
 pub store-count-spec : {M : Type 1} → statement M
 store-count-spec =
