@@ -180,8 +180,8 @@ revolutions-unplaced ts ns fs es ss ps cs n k e = misplaced (length cs) 1 _ _ _ 
 
 -- ---- residuals
 
-pub residuals-told : (inp : Inputs) (obs : Observed) (outs₀ : EpochColumns) (cs₀ : List ℕ) (s₀ : List Float) (answer : Counted) (n : ℕ) (cs : List ℕ) (outs : EpochColumns) (s : List Float) → length cs₀ ≡ 1 →
-    (n ≡ countedNumber answer) × (cs ≡ countIn answer cs₀) → columnsLeft answer outs s ≡ residualsCall inp obs outs₀ s₀ → told n cs outs s ≡ residualsTold inp obs outs₀ cs₀ s₀
+pub residuals-told : (inp : Inputs) (obs : Observed) (outs₀ : EpochColumns) (cs₀ : List ℕ) (s₀ : List Float) (answer : Counted) (n : ℕ) (cs : List ℕ) (outs : EpochColumns) (s : List Float) →
+    length cs₀ ≡ 1 → (n ≡ countedNumber answer) × (cs ≡ countIn answer cs₀) → columnsLeft answer outs s ≡ residualsCall inp obs outs₀ s₀ → told n cs outs s ≡ residualsTold inp obs outs₀ cs₀ s₀
 unfolding residualsTold
 residuals-told inp obs outs₀ cs₀ s₀ answer n cs outs s k h e =
     placed (length cs₀) 1 _ _ _ k

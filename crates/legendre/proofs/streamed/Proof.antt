@@ -19,7 +19,8 @@ all-rows-requires c κs =
     let a = start .args in
     let T : Tables = tablesOf (a .a .now) (a .b .now) (a .lower .now) (a .upper .now) (a .heads .now) in
     let g = at-order-rows .order-rows .ensures in
-    (start .pre .0, start .pre .1, start .pre .2, at-unscale-row .unscale-row .ensures, zero-row T (a .point .sine) 0 (omega arith), zero-row T (a .point .sine) 1 (omega arith), refl, refl, g .0, g .1)
+    let t = a .point .sine in
+    (start .pre .0, start .pre .1, start .pre .2, at-unscale-row .unscale-row .ensures, zero-row T t 0 (omega arith), zero-row T t 1 (omega arith), refl, refl, g .0, g .1)
 
 returns : tie.Need-returns
 returns c =
