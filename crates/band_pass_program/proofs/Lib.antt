@@ -1,4 +1,4 @@
 -- What the functions' proofs cite.
 --
---   Laws   the program's text: which lines are refused, columns read, lines and the summary printed
-pub mod Laws
+--   ProgramText   the program's text: which lines are refused, columns read, lines and the summary printed
+pub mod ProgramText

@@ -18,7 +18,7 @@ use Rattle.laws.specs.Bools.{holds, clash}
 use Rattle.laws.specs.Loops.{cleared, filled-front}
 use Rattle.finality.specs.Sheet.{published}
 use Rattle.slices.specs.Slices.{copied}
-use Rattle.slices.proofs.Laws.{copied-all}
+use Rattle.slices.proofs.SliceLoops.{copied-all}
 use Rattle.detrend.specs.Revolutions.{removedOf}
 use Rattle.detrend.specs.Work.{RemovedWithin}
 use Rattle.detrend.proofs.PartsInPlace.{length-mid}

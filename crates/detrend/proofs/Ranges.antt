@@ -19,7 +19,7 @@ use Rattle.slices.specs.Calls.{firstFailed}
 use Rattle.laws.specs.Bools.{by}
 use Rattle.slices.specs.Slices.{copied}
 use Rattle.slices.proofs.Calls.{cond-passes}
-use Rattle.slices.proofs.Laws.{copied-all}
+use Rattle.slices.proofs.SliceLoops.{copied-all}
 use Rattle.detrend.specs.Ranges.{rangesFit, rangeFits}
 use Rattle.detrend.specs.Calls.{detrendNumbers, detrendRefusal}
 use Rattle.detrend.proofs.PartsInPlace.{take-mid, mid-same, length-mid}

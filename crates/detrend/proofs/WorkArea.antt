@@ -7,7 +7,7 @@ use borrow.Rule.Slice.PartMut.{midOf, putMid, same-len-mid}
 use lib.Ieee.{Float}
 use lib.ListN.{length, take}
 use Rattle.slices.specs.Slices.{copied}
-use Rattle.slices.proofs.Laws.{copied-all}
+use Rattle.slices.proofs.SliceLoops.{copied-all}
 use Rattle.detrend.specs.Revolutions.{removedOf}
 use Rattle.detrend.specs.Work.{Removed, RemovedWithin}
 use Rattle.detrend.proofs.PartsInPlace.{take-mid, mid-same, length-mid}

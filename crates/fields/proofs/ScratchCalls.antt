@@ -20,7 +20,7 @@ use Rattle.slices.specs.Calls.{Left, left, settled}
 use Rattle.slices.specs.declared.Outcome.{Outcome}
 use Rattle.slices.specs.declared.Outcome.the-variants.{Accepted, Refused}
 use Rattle.slices.proofs.Calls.{call-refused}
-use Rattle.slices.proofs.Laws.{copied-all}
+use Rattle.slices.proofs.SliceLoops.{copied-all}
 use Rattle.legendre.specs.Arrays.{from}
 use Rattle.legendre.specs.Legendre.{derived}
 use Rattle.legendre.specs.Rows.{legendreBy, derivedBy}

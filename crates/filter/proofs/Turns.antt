@@ -15,7 +15,7 @@ use Rattle.laws.specs.Floats.{_⊖_, _⊗_, two64, zero64}
 use Rattle.laws.specs.Loops.{cleared, head-at, turn, turn-done, fill-turn, fill-done}
 use Rattle.laws.specs.Runs.{splits, grown, runsOf, passRuns, passed}
 use Rattle.slices.specs.Slices.{copied}
-use Rattle.slices.proofs.Laws.{copied-all, take-reverse}
+use Rattle.slices.proofs.SliceLoops.{copied-all, take-reverse}
 use Rattle.filter.specs.Sections.{sectionsOf}
 use Rattle.filter.specs.Calls.{longRuns}
 use Rattle.filter.specs.Filter.{rest, stepOf, throughOne, through, reflected, padBefore, padAfter, padded, bothWays, filtfilt, passBy}

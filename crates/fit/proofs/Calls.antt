@@ -20,7 +20,7 @@ use Rattle.vectors.specs.declared.Vector.{Vector}
 use Rattle.slices.specs.Slices.{copied}
 use Rattle.slices.specs.Calls.{left, settled}
 use Rattle.slices.proofs.Calls.{call-refused, call-failed, call-handed}
-use Rattle.slices.proofs.Laws.{copied-all}
+use Rattle.slices.proofs.SliceLoops.{copied-all}
 use Rattle.inputs.specs.Inputs.{Model, fitRoom, fieldsFine, few, sizesFit, statesFit, modelFine, keyedFine, frontSize, Front}
 use Rattle.inputs.proofs.Passed.{all-pass, degree-passes, states-pass, sizes-room}
 use Rattle.finality.specs.Brackets.{covers}

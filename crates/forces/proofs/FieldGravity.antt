@@ -16,7 +16,7 @@ use Rattle.laws.specs.Bools.{both-true}
 use Rattle.slices.specs.Slices.{copied}
 use Rattle.slices.specs.Calls.{left, settled}
 use Rattle.slices.proofs.Calls.{cond-passes, call-refused}
-use Rattle.slices.proofs.Laws.{copied-all}
+use Rattle.slices.proofs.SliceLoops.{copied-all}
 use Rattle.legendre.specs.Field.{size, Fits}
 use Rattle.legendre.specs.Prepared.{prepared}
 use Rattle.legendre.proofs.Published.{IsPrepared, prepared-prepared, prepared-length}

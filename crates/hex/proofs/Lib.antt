@@ -1,8 +1,8 @@
 -- What the proofs use, and what the definitions mean.
 --
---   Laws       digits, as the loops and tests give their premises
---   Meaning    printing and reading undo each other
---   Printing   printed pieces, as loops and calls give their premises
-pub mod Laws
+--   DigitLoops   digits, as the loops and tests give their premises
+--   Meaning      printing and reading undo each other
+--   Printing     printed pieces, as loops and calls give their premises
+pub mod DigitLoops
 pub mod Meaning
 pub mod Printing

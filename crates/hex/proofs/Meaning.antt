@@ -17,7 +17,7 @@ use Rattle.laws.specs.Bools.{left-true, right-true}
 use Rattle.laws.specs.Signed.{lt-or-ge}
 use Rattle.hex.specs.declared.Parsed.the-variants.{Value}
 use Rattle.hex.specs.Digits.{digitOf, glyphOf, isDigit, valueFrom, valueOf, digitsOf, valued, wordAt, part, written, unpadded, counted, placesIn, placesOf, decimalOf}
-use Rattle.hex.proofs.Laws.{digits-length, places-small, bounded}
+use Rattle.hex.proofs.DigitLoops.{digits-length, places-small, bounded}
 
 -- ---- one digit
 

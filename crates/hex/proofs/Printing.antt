@@ -13,7 +13,7 @@ use Rattle.laws.specs.Lists.{cond-ind}
 use Rattle.laws.specs.Loops.{take-set}
 use Rattle.hex.specs.Digits.{written, placesIn, placesOf, decimalOf, Put}
 use Rattle.hex.specs.Printing.{lineFeed, refusedText, Printed}
-use Rattle.hex.proofs.Laws.{digits-length}
+use Rattle.hex.proofs.DigitLoops.{digits-length}
 
 -- ---- bytes
 

@@ -17,7 +17,7 @@ use Rattle.slices.specs.Slices.{copied}
 use Rattle.slices.specs.Calls.{left}
 use Rattle.slices.specs.declared.Outcome.the-variants.{Accepted, Refused}
 use Rattle.slices.proofs.Calls.{call-refused, call-handed}
-use Rattle.slices.proofs.Laws.{copied-all}
+use Rattle.slices.proofs.SliceLoops.{copied-all}
 use Rattle.inputs.specs.Inputs.{Model, fitRoom, fieldsFine, sizesFit, modelFine, frontSize, Front}
 use Rattle.inputs.proofs.Passed.{all-pass, degree-passes, sizes-room}
 use Rattle.integrate.specs.declared.kernel.Arc.{Arc}

@@ -1,4 +1,4 @@
 -- What the functions' proofs cite.
 --
---   Laws   where the sections of the numbers read begin, lists copied from them, and what is printed
-pub mod Laws
+--   ReadAndPrinted   where the sections of the numbers read begin, lists copied from them, and what is printed
+pub mod ReadAndPrinted

@@ -1,4 +1,4 @@
 -- What the functions' proofs cite.
 --
---   Laws   what a read brought, taken out of its answer
-pub mod Laws
+--   Brought   what a read brought, taken out of its answer
+pub mod Brought

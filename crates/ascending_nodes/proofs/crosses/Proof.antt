@@ -1,5 +1,5 @@
 use borrow.Author.Needs.{needs}
-use Rattle.ascending_nodes.proofs.Laws.{apart-yes, apart-no}
+use Rattle.ascending_nodes.proofs.Crossings.{apart-yes, apart-no}
 use Rattle.ascending_nodes.proofs.crosses.Statement.{statement}
 use Rattle.ascending_nodes.proofs.crosses.Tie as tie
 

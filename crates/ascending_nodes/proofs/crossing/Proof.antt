@@ -1,5 +1,5 @@
 use borrow.Author.Needs.{needs}
-use Rattle.ascending_nodes.proofs.Laws.{crossing-is}
+use Rattle.ascending_nodes.proofs.Crossings.{crossing-is}
 use Rattle.ascending_nodes.proofs.crossing.Statement.{statement}
 use Rattle.ascending_nodes.proofs.crossing.Tie as tie
 

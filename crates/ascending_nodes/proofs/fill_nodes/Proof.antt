@@ -4,7 +4,7 @@ use mathlib.Core.Path.{_≡_}
 use Prim.Native.Nat.{_-_, _≤_}
 use native.Mathlib.Omega.{arith}
 use lib.ListN.{length}
-use Rattle.ascending_nodes.proofs.Laws.{Upto, upto-none, upto-yes, upto-no, upto-all, upto-slot}
+use Rattle.ascending_nodes.proofs.Crossings.{Upto, upto-none, upto-yes, upto-no, upto-all, upto-slot}
 use Rattle.ascending_nodes.proofs.fill_nodes.Statement.{statement}
 use Rattle.ascending_nodes.proofs.fill_nodes.Tie as tie
 

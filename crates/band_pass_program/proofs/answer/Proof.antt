@@ -1,6 +1,6 @@
 -- A refused text prints its refusal; any other prints the numbers of its lines. Assumes nothing.
 use Rattle.hex.proofs.Printing.{printed-counts}
-use Rattle.band_pass_program.proofs.Laws.{text-refused, text-answered}
+use Rattle.band_pass_program.proofs.ProgramText.{text-refused, text-answered}
 use borrow.Author.Needs.{needs}
 use Rattle.band_pass_program.proofs.answer.Statement.{statement}
 use Rattle.band_pass_program.proofs.answer.Tie as tie

@@ -1,4 +1,4 @@
-use Rattle.band_pass_program.proofs.Laws.{lines-print}
+use Rattle.band_pass_program.proofs.ProgramText.{lines-print}
 use borrow.Author.Needs.{needs}
 use Rattle.band_pass_program.proofs.answer_lines.Statement.{statement}
 use Rattle.band_pass_program.proofs.answer_lines.Tie as tie

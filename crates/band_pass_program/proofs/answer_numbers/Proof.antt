@@ -1,5 +1,5 @@
 -- What the filter accepts is printed line by line; what it refuses as a refusal. Assumes nothing.
-use Rattle.band_pass_program.proofs.Laws.{accepted-prints, refused-numbers}
+use Rattle.band_pass_program.proofs.ProgramText.{accepted-prints, refused-numbers}
 use borrow.Author.Needs.{needs}
 use Rattle.band_pass_program.proofs.answer_numbers.Statement.{statement}
 use Rattle.band_pass_program.proofs.answer_numbers.Tie as tie

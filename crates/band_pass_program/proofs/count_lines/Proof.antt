@@ -1,5 +1,5 @@
 use borrow.Author.Needs.{needs}
-use Rattle.band_pass_program.proofs.Laws.{text-lines}
+use Rattle.band_pass_program.proofs.ProgramText.{text-lines}
 use Rattle.band_pass_program.proofs.count_lines.Statement.{statement}
 use Rattle.band_pass_program.proofs.count_lines.Tie as tie
 

@@ -1,5 +1,5 @@
 -- A word gives the float of its bits, and what is no word the float of 0. Assumes nothing.
-use Rattle.band_pass_program.proofs.Laws.{float-value, float-none}
+use Rattle.band_pass_program.proofs.ProgramText.{float-value, float-none}
 use borrow.Author.Needs.{needs}
 use Rattle.band_pass_program.proofs.float_at.Statement.{statement}
 use Rattle.band_pass_program.proofs.float_at.Tie as tie

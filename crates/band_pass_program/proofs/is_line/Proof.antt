@@ -1,5 +1,5 @@
 -- Two words of sixteen digits and a line feed; a text that ends before them is no line. Assumes nothing.
-use Rattle.band_pass_program.proofs.Laws.{line-short, line-tested}
+use Rattle.band_pass_program.proofs.ProgramText.{line-short, line-tested}
 use borrow.Author.Needs.{needs}
 use Rattle.band_pass_program.proofs.is_line.Statement.{statement}
 use Rattle.band_pass_program.proofs.is_line.Tie as tie

@@ -1,6 +1,6 @@
 -- So many bytes as were read lie within the text. Assumes nothing.
 use borrow.Author.Needs.{needs}
-use Rattle.streams.proofs.Laws.{brought}
+use Rattle.streams.proofs.Brought.{brought}
 use Rattle.band_pass_program.proofs.main.Statement.{statement}
 use Rattle.band_pass_program.proofs.main.Tie as tie
 

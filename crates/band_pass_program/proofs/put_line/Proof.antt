@@ -1,6 +1,6 @@
 use native.Mathlib.Omega.{arith}
 use lib.ListN.{length-set}
-use Rattle.band_pass_program.proofs.Laws.{line-prints}
+use Rattle.band_pass_program.proofs.ProgramText.{line-prints}
 use borrow.Author.Needs.{needs}
 use Rattle.band_pass_program.proofs.put_line.Statement.{statement}
 use Rattle.band_pass_program.proofs.put_line.Tie as tie

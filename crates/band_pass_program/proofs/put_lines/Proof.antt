@@ -4,7 +4,7 @@ use mathlib.Core.List.{_++_}
 use Prim.Native.Nat.{_+_, _-_, _*_, _≤_}
 use lib.ListN.{length, take, drop}
 use Rattle.band_pass_program.specs.Text.{linesText}
-use Rattle.band_pass_program.proofs.Laws.{lines-turn, lines-done}
+use Rattle.band_pass_program.proofs.ProgramText.{lines-turn, lines-done}
 use borrow.Author.Needs.{needs}
 use Rattle.band_pass_program.proofs.put_lines.Statement.{statement}
 use Rattle.band_pass_program.proofs.put_lines.Tie as tie

@@ -1,4 +1,4 @@
-use Rattle.band_pass_program.proofs.Laws.{passed-prints}
+use Rattle.band_pass_program.proofs.ProgramText.{passed-prints}
 use borrow.Author.Needs.{needs}
 use Rattle.band_pass_program.proofs.put_passed.Statement.{statement}
 use Rattle.band_pass_program.proofs.put_passed.Tie as tie

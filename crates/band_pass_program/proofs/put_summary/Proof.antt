@@ -1,4 +1,4 @@
-use Rattle.band_pass_program.proofs.Laws.{summary-prints}
+use Rattle.band_pass_program.proofs.ProgramText.{summary-prints}
 use borrow.Author.Needs.{needs}
 use Rattle.band_pass_program.proofs.put_summary.Statement.{statement}
 use Rattle.band_pass_program.proofs.put_summary.Tie as tie

@@ -4,7 +4,7 @@ use mathlib.Core.List.{_++_}
 use Prim.Native.Nat.{_+_, _-_, _*_}
 use lib.ListN.{length, take}
 use Rattle.band_pass_program.specs.Text.{column}
-use Rattle.band_pass_program.proofs.Laws.{column-turn, column-done, column-starts}
+use Rattle.band_pass_program.proofs.ProgramText.{column-turn, column-done, column-starts}
 use borrow.Author.Needs.{needs}
 use Rattle.band_pass_program.proofs.read_column.Statement.{statement}
 use Rattle.band_pass_program.proofs.read_column.Tie as tie

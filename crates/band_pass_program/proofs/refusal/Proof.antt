@@ -2,7 +2,7 @@
 use mathlib.Core.Path.{_≡_, refl}
 use Prim.Native.Nat.{_+_, _*_}
 use Rattle.band_pass_program.specs.Text.{refusalFrom}
-use Rattle.band_pass_program.proofs.Laws.{scan-ends, scan-over, scan-bad, scan-goes}
+use Rattle.band_pass_program.proofs.ProgramText.{scan-ends, scan-over, scan-bad, scan-goes}
 use borrow.Author.Needs.{needs}
 use Rattle.band_pass_program.proofs.refusal.Statement.{statement}
 use Rattle.band_pass_program.proofs.refusal.Tie as tie

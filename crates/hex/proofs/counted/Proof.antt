@@ -1,5 +1,5 @@
 -- `hex::counted` meets its contract. Assumes nothing.
-use Rattle.hex.proofs.Laws.{counted-in, counted-out}
+use Rattle.hex.proofs.DigitLoops.{counted-in, counted-out}
 use borrow.Author.Needs.{needs}
 use Rattle.hex.proofs.counted.Statement.{statement}
 use Rattle.hex.proofs.counted.Tie as tie

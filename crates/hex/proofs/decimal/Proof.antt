@@ -1,5 +1,5 @@
 -- `hex::decimal` meets its contract. Assumes nothing.
-use Rattle.hex.proofs.Laws.{decimal-past, decimal-empty, decimal-in}
+use Rattle.hex.proofs.DigitLoops.{decimal-past, decimal-empty, decimal-in}
 use borrow.Author.Needs.{needs}
 use Rattle.hex.proofs.decimal.Statement.{statement}
 use Rattle.hex.proofs.decimal.Tie as tie

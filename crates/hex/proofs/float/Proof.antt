@@ -1,6 +1,6 @@
 -- `hex::float` meets its contract. Assumes nothing.
 use lib.Ieee.{div, ofBits}
-use Rattle.hex.proofs.Laws.{nan-bits, no-nan-bits}
+use Rattle.hex.proofs.DigitLoops.{nan-bits, no-nan-bits}
 use borrow.Author.Needs.{needs}
 use Rattle.hex.proofs.float.Statement.{statement}
 use Rattle.hex.proofs.float.Tie as tie

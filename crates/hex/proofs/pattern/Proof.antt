@@ -1,5 +1,5 @@
 -- `hex::pattern` meets its contract. Assumes nothing.
-use Rattle.hex.proofs.Laws.{pattern-nan, pattern-no-nan}
+use Rattle.hex.proofs.DigitLoops.{pattern-nan, pattern-no-nan}
 use borrow.Author.Needs.{needs}
 use Rattle.hex.proofs.pattern.Statement.{statement}
 use Rattle.hex.proofs.pattern.Tie as tie

@@ -3,7 +3,7 @@ use mathlib.Core.Path.{_≡_, refl}
 use Prim.Native.Nat.{_+_, _-_, _<_, _≤_}
 use native.Mathlib.Omega.{arith}
 use Rattle.hex.specs.Digits.{placesIn, placesOf}
-use Rattle.hex.proofs.Laws.{places-small, places-more, places-none}
+use Rattle.hex.proofs.DigitLoops.{places-small, places-more, places-none}
 use borrow.Author.Needs.{needs}
 use Rattle.hex.proofs.places.Statement.{statement}
 use Rattle.hex.proofs.places.Tie as tie

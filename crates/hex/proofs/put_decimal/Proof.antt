@@ -1,6 +1,6 @@
 -- `hex::put_decimal` meets its contract. Assumes nothing.
 use native.Mathlib.Omega.{arith}
-use Rattle.hex.proofs.Laws.{printed-in, printed-out}
+use Rattle.hex.proofs.DigitLoops.{printed-in, printed-out}
 use borrow.Author.Needs.{needs}
 use Rattle.hex.proofs.put_decimal.Statement.{statement}
 use Rattle.hex.proofs.put_decimal.Tie as tie

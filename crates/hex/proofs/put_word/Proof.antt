@@ -1,6 +1,6 @@
 -- `hex::put_word` meets its contract. Assumes nothing.
 use native.Mathlib.Omega.{arith}
-use Rattle.hex.proofs.Laws.{put-in, put-out}
+use Rattle.hex.proofs.DigitLoops.{put-in, put-out}
 use borrow.Author.Needs.{needs}
 use Rattle.hex.proofs.put_word.Statement.{statement}
 use Rattle.hex.proofs.put_word.Tie as tie

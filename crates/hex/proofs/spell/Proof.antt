@@ -6,7 +6,7 @@ use native.Mathlib.Nat.{mod-lt}
 use native.Mathlib.Omega.{arith}
 use lib.ListN.{length, drop, length-set}
 use Rattle.hex.specs.Digits.{digitsOf}
-use Rattle.hex.proofs.Laws.{write-starts, write-on, write-done}
+use Rattle.hex.proofs.DigitLoops.{write-starts, write-on, write-done}
 use borrow.Author.Needs.{needs}
 use Rattle.hex.proofs.spell.Statement.{statement}
 use Rattle.hex.proofs.spell.Tie as tie

@@ -4,7 +4,7 @@ use Prim.Native.Nat.{_-_, _<_, _≤_}
 use native.Mathlib.Omega.{arith}
 use lib.ListN.{length, drop}
 use Rattle.hex.specs.Digits.{spelledIn}
-use Rattle.hex.proofs.Laws.{limit, stands, room, read-starts, read-on, read-bad, read-over, read-done}
+use Rattle.hex.proofs.DigitLoops.{limit, stands, room, read-starts, read-on, read-bad, read-over, read-done}
 use borrow.Author.Needs.{needs}
 use Rattle.hex.proofs.spelled.Statement.{statement}
 use Rattle.hex.proofs.spelled.Tie as tie

@@ -1,5 +1,5 @@
 -- `hex::unpadded` meets its contract. Assumes nothing.
-use Rattle.hex.proofs.Laws.{unpadded-none, unpadded-one, unpadded-more}
+use Rattle.hex.proofs.DigitLoops.{unpadded-none, unpadded-one, unpadded-more}
 use borrow.Author.Needs.{needs}
 use Rattle.hex.proofs.unpadded.Statement.{statement}
 use Rattle.hex.proofs.unpadded.Tie as tie

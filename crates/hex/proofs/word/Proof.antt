@@ -1,6 +1,6 @@
 -- `hex::word` meets its contract. Assumes nothing.
 use native.Mathlib.Omega.{arith}
-use Rattle.hex.proofs.Laws.{word-in, word-out}
+use Rattle.hex.proofs.DigitLoops.{word-in, word-out}
 use borrow.Author.Needs.{needs}
 use Rattle.hex.proofs.word.Statement.{statement}
 use Rattle.hex.proofs.word.Tie as tie

@@ -4,7 +4,7 @@ use Prim.Native.Nat.{ℕ, _<_}
 use native.Mathlib.Omega.{arith}
 use borrow.Fn.Kinds.{In}
 use borrow.Fn.PlainCycle.{Measures, is, falls, and}
-use Rattle.numbers.proofs.Laws.{carried-stop, carried-even, carried-one, carried-odd}
+use Rattle.numbers.proofs.CodeForms.{carried-stop, carried-even, carried-one, carried-odd}
 use Rattle.numbers.proofs.carried.Reads as carried
 use Rattle.numbers.proofs.carried.Kinds as carried-kinds
 use Rattle.numbers.proofs.+carried.Lts-carried as carried-lts

@@ -4,7 +4,7 @@ use lib.Ieee.{eq}
 use Rattle.laws.specs.Floats.{zero64}
 use mathlib.Core.Path.{_≡_, _∙_}
 use mathlib.Core.Logic.{⊎-elim}
-use Rattle.numbers.proofs.Laws.{nan-made, arctangent-nan-y, arctangent-nan-x, arctangent-origin, arctangent-open}
+use Rattle.numbers.proofs.CodeForms.{nan-made, arctangent-nan-y, arctangent-nan-x, arctangent-origin, arctangent-open}
 use borrow.Author.Needs.{needs}
 use Rattle.numbers.proofs.arctangent.Statement.{statement}
 use Rattle.numbers.proofs.arctangent.Tie as tie

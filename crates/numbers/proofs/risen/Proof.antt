@@ -1,5 +1,5 @@
 -- `numbers::risen` meets its contract. Assumes nothing.
-use Rattle.numbers.proofs.Laws.{steep-flat, steep-bent, gentle-bent, gentle-flat}
+use Rattle.numbers.proofs.CodeForms.{steep-flat, steep-bent, gentle-bent, gentle-flat}
 use borrow.Author.Needs.{needs}
 use Rattle.numbers.proofs.risen.Statement.{statement}
 use Rattle.numbers.proofs.risen.Tie as tie

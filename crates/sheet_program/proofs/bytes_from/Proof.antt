@@ -1,5 +1,5 @@
 -- What is copied, followed by the bytes that are left, is the whole list: the loop's invariant. Assumes nothing.
-use Rattle.sheet_program.proofs.Laws.{bytes-of-start, bytes-of-turn, bytes-of-done}
+use Rattle.sheet_program.proofs.ReadAndPrinted.{bytes-of-start, bytes-of-turn, bytes-of-done}
 use mathlib.Core.Path.{_≡_, refl}
 use mathlib.Core.List.{_++_}
 use Prim.Native.Nat.{_+_, _-_}

@@ -1,4 +1,4 @@
-use Rattle.sheet_program.proofs.Laws.{counted-part}
+use Rattle.sheet_program.proofs.ReadAndPrinted.{counted-part}
 use borrow.Author.Needs.{needs}
 use Rattle.sheet_program.proofs.bytes_in.Statement.{statement}
 use Rattle.sheet_program.proofs.bytes_in.Tie as tie

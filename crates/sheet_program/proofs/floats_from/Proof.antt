@@ -1,5 +1,5 @@
 -- What is copied, followed by the floats that are left, is the whole list: the loop's invariant. Assumes nothing.
-use Rattle.sheet_program.proofs.Laws.{floats-start, floats-turn, floats-done}
+use Rattle.sheet_program.proofs.ReadAndPrinted.{floats-start, floats-turn, floats-done}
 use mathlib.Core.Path.{_≡_, refl}
 use mathlib.Core.List.{_++_}
 use Prim.Native.Nat.{_+_, _-_}

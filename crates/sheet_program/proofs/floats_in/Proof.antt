@@ -1,4 +1,4 @@
-use Rattle.sheet_program.proofs.Laws.{lines-part}
+use Rattle.sheet_program.proofs.ReadAndPrinted.{lines-part}
 use borrow.Author.Needs.{needs}
 use Rattle.sheet_program.proofs.floats_in.Statement.{statement}
 use Rattle.sheet_program.proofs.floats_in.Tie as tie

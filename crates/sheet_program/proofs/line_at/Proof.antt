@@ -1,4 +1,4 @@
-use Rattle.sheet_program.proofs.Laws.{step-far}
+use Rattle.sheet_program.proofs.ReadAndPrinted.{step-far}
 use native.Mathlib.Omega.{arith}
 use borrow.Author.Needs.{needs}
 use Rattle.sheet_program.proofs.line_at.Statement.{statement}

@@ -1,6 +1,6 @@
 -- The sum does not wrap: a section has at most 12,000 lines of at most 185 words. Assumes nothing.
 use native.Mathlib.Omega.{arith}
-use Rattle.sheet_program.proofs.Laws.{far, next-is}
+use Rattle.sheet_program.proofs.ReadAndPrinted.{far, next-is}
 use borrow.Author.Needs.{needs}
 use Rattle.sheet_program.proofs.next_at.Statement.{statement}
 use Rattle.sheet_program.proofs.next_at.Tie as tie

@@ -1,6 +1,6 @@
 -- Past the end of the list a number is NaN, as the definition reads it. Assumes nothing.
 use lib.Ieee.{div, ofBits}
-use Rattle.sheet_program.proofs.Laws.{number-there, number-behind}
+use Rattle.sheet_program.proofs.ReadAndPrinted.{number-there, number-behind}
 use borrow.Author.Needs.{needs}
 use Rattle.sheet_program.proofs.number_at.Statement.{statement}
 use Rattle.sheet_program.proofs.number_at.Tie as tie

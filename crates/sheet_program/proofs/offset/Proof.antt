@@ -1,5 +1,5 @@
 -- Neither product nor sum wraps, by the bounds on the place, the step and the width. Assumes nothing.
-use Rattle.sheet_program.proofs.Laws.{lines-far}
+use Rattle.sheet_program.proofs.ReadAndPrinted.{lines-far}
 use native.Mathlib.Omega.{arith}
 use native.Mathlib.Nat.{mod-lt}
 use borrow.Author.Needs.{needs}

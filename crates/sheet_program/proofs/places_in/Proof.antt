@@ -1,4 +1,4 @@
-use Rattle.sheet_program.proofs.Laws.{places-are}
+use Rattle.sheet_program.proofs.ReadAndPrinted.{places-are}
 use borrow.Author.Needs.{needs}
 use Rattle.sheet_program.proofs.places_in.Statement.{statement}
 use Rattle.sheet_program.proofs.places_in.Tie as tie

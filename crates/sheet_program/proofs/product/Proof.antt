@@ -1,4 +1,4 @@
-use Rattle.sheet_program.proofs.Laws.{far}
+use Rattle.sheet_program.proofs.ReadAndPrinted.{far}
 use native.Mathlib.Omega.{arith}
 use borrow.Author.Needs.{needs}
 use Rattle.sheet_program.proofs.product.Statement.{statement}

@@ -1,4 +1,4 @@
-use Rattle.sheet_program.proofs.Laws.{head-prints, head-few}
+use Rattle.sheet_program.proofs.ReadAndPrinted.{head-prints, head-few}
 use borrow.Author.Needs.{needs}
 use Rattle.sheet_program.proofs.put_head.Statement.{statement}
 use Rattle.sheet_program.proofs.put_head.Tie as tie

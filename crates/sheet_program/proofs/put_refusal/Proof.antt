@@ -1,5 +1,5 @@
 use Rattle.hex.proofs.Printing.{refused-prints}
-use Rattle.sheet_program.proofs.Laws.{refused-counts}
+use Rattle.sheet_program.proofs.ReadAndPrinted.{refused-counts}
 use borrow.Author.Needs.{needs}
 use Rattle.sheet_program.proofs.put_refusal.Statement.{statement}
 use Rattle.sheet_program.proofs.put_refusal.Tie as tie

@@ -1,4 +1,4 @@
-use Rattle.sheet_program.proofs.Laws.{row-prints}
+use Rattle.sheet_program.proofs.ReadAndPrinted.{row-prints}
 use borrow.Author.Needs.{needs}
 use Rattle.sheet_program.proofs.put_row.Statement.{statement}
 use Rattle.sheet_program.proofs.put_row.Tie as tie

@@ -1,5 +1,5 @@
 -- What is printed, followed by the text of the rows that are left, is the text of all: the loop's invariant. Assumes nothing.
-use Rattle.sheet_program.proofs.Laws.{rows-start, rows-turn, rows-done, rows-count}
+use Rattle.sheet_program.proofs.ReadAndPrinted.{rows-start, rows-turn, rows-done, rows-count}
 use mathlib.Core.Path.{_≡_, refl}
 use mathlib.Core.List.{_++_}
 use Prim.Native.Nat.{_+_, _-_, _*_, _≤_}

@@ -1,4 +1,4 @@
-use Rattle.sheet_program.proofs.Laws.{term-prints}
+use Rattle.sheet_program.proofs.ReadAndPrinted.{term-prints}
 use borrow.Author.Needs.{needs}
 use Rattle.sheet_program.proofs.put_term.Statement.{statement}
 use Rattle.sheet_program.proofs.put_term.Tie as tie

@@ -3,7 +3,7 @@ use mathlib.Core.Path.{_≡_, refl}
 use Prim.Native.Nat.{_-_}
 use lib.ListN.{length}
 use borrow.Author.Needs.{needs}
-use Rattle.streams.proofs.Laws.{brought}
+use Rattle.streams.proofs.Brought.{brought}
 use Rattle.sheet_program.proofs.read_all.Statement.{statement}
 use Rattle.sheet_program.proofs.read_all.Tie as tie
 

@@ -1,5 +1,5 @@
 -- The line keeps its length, and what is read of it ends before the last place or in it: the loop's invariant. Assumes nothing.
-use Rattle.sheet_program.proofs.Laws.{counts, set-counts}
+use Rattle.sheet_program.proofs.ReadAndPrinted.{counts, set-counts}
 use mathlib.Core.Path.{_≡_, refl}
 use Prim.Native.Nat.{_≤_, _<_}
 use lib.ListN.{length}

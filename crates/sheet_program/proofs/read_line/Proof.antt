@@ -1,4 +1,4 @@
-use Rattle.sheet_program.proofs.Laws.{within-mid}
+use Rattle.sheet_program.proofs.ReadAndPrinted.{within-mid}
 use borrow.Author.Needs.{needs}
 use Rattle.sheet_program.proofs.read_line.Statement.{statement}
 use Rattle.sheet_program.proofs.read_line.Tie as tie

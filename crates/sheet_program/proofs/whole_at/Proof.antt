@@ -1,4 +1,4 @@
-use Rattle.sheet_program.proofs.Laws.{whole-below, whole-most}
+use Rattle.sheet_program.proofs.ReadAndPrinted.{whole-below, whole-most}
 use borrow.Author.Needs.{needs}
 use Rattle.sheet_program.proofs.whole_at.Statement.{statement}
 use Rattle.sheet_program.proofs.whole_at.Tie as tie

@@ -5,7 +5,7 @@ use Prim.Native.Nat.{_-_, _≤_}
 use native.Mathlib.Omega.{arith}
 use borrow.Author.Needs.{needs}
 use lib.ListN.{length, length-set}
-use Rattle.slices.proofs.Laws.{halfway, halfway-start, reversing, reversed-now}
+use Rattle.slices.proofs.SliceLoops.{halfway, halfway-start, reversing, reversed-now}
 use Rattle.slices.proofs.reverse.Statement.{statement}
 use Rattle.slices.proofs.reverse.Tie as tie
 use Rattle.slices.proofs.reverse.Reads as reads

@@ -13,7 +13,7 @@ use Rattle.hex.specs.Digits.{wordAt, digitsOf, written, decimalOf, isWord, bits
 use Rattle.hex.specs.declared.Parsed.{Parsed}
 use Rattle.hex.specs.declared.Parsed.the-variants.{Value, Malformed}
 use Rattle.hex.proofs.Printing.{then, written-prints}
-use Rattle.hex.proofs.Laws.{digits-length}
+use Rattle.hex.proofs.DigitLoops.{digits-length}
 use Rattle.hex.specs.Printing.{lineFeed, refusedText, Printed}
 use lib.Ieee.Scale.{finite}
 use borrow.Author.Tests.{eq-eqb}

@@ -13,7 +13,7 @@ use lib.Ieee.{Float, nan, binary64, toBits}
 use Rattle.laws.specs.Loops.{fill-turn, fill-done, take-set}
 use Rattle.hex.specs.Digits.{digitsOf, written, decimalOf}
 use Rattle.hex.proofs.Printing.{then, written-prints, refused-prints, printed-counts}
-use Rattle.hex.proofs.Laws.{digits-length}
+use Rattle.hex.proofs.DigitLoops.{digits-length}
 use Rattle.hex.specs.Printing.{lineFeed, refusedText, Printed}
 use Rattle.io.specs.Counts.{Counts}
 use Rattle.streams.specs.Got.{Within}
