@@ -14,7 +14,6 @@ use Rattle.laws.specs.Floats.{zero64}
 use Rattle.laws.specs.Loops.{cleared}
 use Rattle.legendre.specs.declared.Partials.{Partials}
 use Rattle.fields.specs.Calls.{finitePartials, judgedPartials, partialsNumber}
-use Rattle.fields.specs.declared.PartialsAnswer.{PartialsAnswer}
 use Rattle.fields.specs.declared.PartialsAnswer.the-variants as partials
 use Rattle.exports.specs.Answers.{four, partialsIn}
 

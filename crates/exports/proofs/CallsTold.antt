@@ -17,13 +17,12 @@ use Rattle.slices.specs.Calls.{Left, left, firstFailed}
 use Rattle.slices.specs.declared.Outcome.{Outcome}
 use Rattle.slices.specs.declared.Counted.{Counted}
 use Rattle.slices.proofs.Calls.{cond-passes}
-use Rattle.inputs.specs.Inputs.{Model, Inputs, Observed, Fixed, Lists, firstOf, fieldsFine, few, inputsCounted, countsFine}
+use Rattle.inputs.specs.Inputs.{Model, Inputs, Observed, Fixed, Lists, firstOf, fieldsFine, few, inputsCounted}
 use Rattle.legendre.specs.Field.{size, partialsWith}
 use Rattle.legendre.specs.Prepared.{prepared}
 use Rattle.legendre.specs.declared.Partials.{Partials}
 use Rattle.fields.specs.Calls.{refusalOf as fieldRefusal, twoTables, partialsCall, partialsNumber, judgedPartials}
 use Rattle.fields.specs.declared.PartialsAnswer.{PartialsAnswer}
-use Rattle.fields.specs.declared.PartialsAnswer.the-variants as partials
 use Rattle.integrate.specs.declared.kernel.Arc.{Arc}
 use Rattle.fit.specs.Calls.{fitCall}
 use Rattle.fit.specs.declared.kernel.Fitted.{Fitted as Fit}
@@ -34,7 +33,7 @@ use Rattle.sheet.specs.declared.SheetAnswer.{SheetAnswer}
 use Rattle.horizon.specs.Calls.{Given, givenCounted, horizonCall, finalCountCall, horizonNumber}
 use Rattle.horizon.specs.declared.HorizonAnswer.{HorizonAnswer}
 use Rattle.exports.specs.Answers.{fitNumber, countIn, countsIn, rmsIn, partialsIn, timeIn}
-use Rattle.exports.specs.Calls.{outcomeLeft, Told, told, toldAlone, prepareUnless, prepareTold, partialsTold, placeFine, judgedUnless, preparedAnswer, preparedTold}
+use Rattle.exports.specs.Calls.{outcomeLeft, told, toldAlone, prepareUnless, prepareTold, partialsTold, placeFine, judgedUnless, preparedAnswer, preparedTold}
 use Rattle.exports.specs.Calls.{fitTold, revolutionsTold, residualsTold, sheetTold, horizonTold, finalCountTold}
 use Rattle.exports.proofs.AnswersTold.{kept-before}
 use Rattle.exports.proofs.Misplaced.{fit-misplaced, residuals-misplaced, sheet-misplaced}
