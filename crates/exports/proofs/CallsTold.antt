@@ -24,7 +24,7 @@ use Rattle.legendre.specs.declared.Partials.{Partials}
 use Rattle.fields.specs.Calls.{refusalOf as fieldRefusal, twoTables, partialsCall, partialsNumber, judgedPartials}
 use Rattle.fields.specs.declared.PartialsAnswer.{PartialsAnswer}
 use Rattle.integrate.specs.declared.kernel.Arc.{Arc}
-use Rattle.fit.specs.Calls.{fitCall}
+use Rattle.fit.specs.Calls.{fitNumber, fitCall}
 use Rattle.fit.specs.declared.kernel.Fitted.{Fitted as Fit}
 use Rattle.detrend.specs.Calls.{LeftLists, listed, revolutionsCall}
 use Rattle.residuals.specs.Calls.{EpochColumns, ColumnsLeft, columnsLeft, residualsCall}
@@ -32,7 +32,7 @@ use Rattle.sheet.specs.Calls.{sheetCall, sheetNumber, listsCounted}
 use Rattle.sheet.specs.declared.SheetAnswer.{SheetAnswer}
 use Rattle.horizon.specs.Calls.{Given, givenCounted, horizonCall, finalCountCall, horizonNumber}
 use Rattle.horizon.specs.declared.HorizonAnswer.{HorizonAnswer}
-use Rattle.exports.specs.Answers.{fitNumber, countIn, countsIn, rmsIn, partialsIn, timeIn}
+use Rattle.exports.specs.Answers.{countIn, countsIn, rmsIn, partialsIn, timeIn}
 use Rattle.exports.specs.Calls.{outcomeLeft, told, toldAlone, prepareUnless, prepareTold, partialsTold, placeFine, judgedUnless, preparedAnswer, preparedTold}
 use Rattle.exports.specs.Calls.{fitTold, revolutionsTold, residualsTold, sheetTold, horizonTold, finalCountTold}
 use Rattle.exports.proofs.AnswersTold.{kept-before}

@@ -12,21 +12,12 @@ use Rattle.slices.specs.declared.Counted.{Counted}
 use Rattle.legendre.specs.declared.Partials.{Partials}
 use Rattle.fields.specs.Calls.{partialsNumber, partialsValue}
 use Rattle.fields.specs.declared.PartialsAnswer.{PartialsAnswer}
+use Rattle.fit.specs.Calls.{fitNumber, fitValue}
 use Rattle.fit.specs.declared.kernel.Fitted.{Fitted as Fit}
-use Rattle.fit.specs.declared.kernel.Fitted.the-variants.{Fitted, Refused}
 use Rattle.sheet.specs.Calls.{sheetNumber, sheetValues}
 use Rattle.sheet.specs.declared.SheetAnswer.{SheetAnswer}
 use Rattle.horizon.specs.Calls.{horizonNumber, horizonValue}
 use Rattle.horizon.specs.declared.HorizonAnswer.{HorizonAnswer}
-
--- a fit that was handed out: document 01's number, 0 for acceptance, and its rms
-abbrev pub fitNumber : Fit → ℕ
-fitNumber (Fitted x) = 0
-fitNumber (Refused n) = n
-
-abbrev pub fitValue : Fit → Option Float
-fitValue (Fitted x) = some x
-fitValue (Refused n) = none
 
 -- what a list that is lent for the values holds after an answer of number n: these where there are any; else, like every output,
 -- what it held after 1 to 5, and 0 in each place after 6 to 10

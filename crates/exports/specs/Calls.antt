@@ -19,12 +19,12 @@ use Rattle.fields.specs.declared.PartialsAnswer.{PartialsAnswer}
 use Rattle.fields.specs.declared.PartialsAnswer.the-variants as partials
 use Rattle.inputs.specs.Inputs.{Model, Inputs, Observed, Fixed, Lists}
 use Rattle.integrate.specs.declared.kernel.Arc.{Arc}
-use Rattle.fit.specs.Calls.{fitCall, refusal as fitRefusal}
+use Rattle.fit.specs.Calls.{fitNumber, fitCall, refusal as fitRefusal}
 use Rattle.detrend.specs.Calls.{revolutionsCall}
 use Rattle.residuals.specs.Calls.{EpochColumns, residualsCall, residualsRefusal}
 use Rattle.sheet.specs.Calls.{sheetCall, sheetNumber, refusalOf as sheetRefusal}
 use Rattle.horizon.specs.Calls.{Given, horizonCall, finalCountCall, horizonNumber, refusalOf as horizonRefusal}
-use Rattle.exports.specs.Answers.{fitNumber, countIn, countsIn, rmsIn, partialsIn, timeIn}
+use Rattle.exports.specs.Answers.{countIn, countsIn, rmsIn, partialsIn, timeIn}
 
 -- ---- calls that only fill their outputs
 

@@ -6,9 +6,10 @@ ghost use lib.ListN.{length, replicate};
 ghost use Rattle.laws.specs.Loops.{cleared};
 ghost use Rattle.slices.specs.Answers.{outcomeNumber, countedNumber};
 ghost use Rattle.fields.specs.Calls.{partialsNumber, judgedPartials};
+ghost use Rattle.fit.specs.Calls.{fitNumber};
 ghost use Rattle.sheet.specs.Calls.{sheetNumber};
 ghost use Rattle.horizon.specs.Calls.{horizonNumber};
-ghost use Rattle.exports.specs.Answers.{fitNumber, one, two, four, countIn, countsIn, rmsIn, partialsIn, timeIn};
+ghost use Rattle.exports.specs.Answers.{one, two, four, countIn, countsIn, rmsIn, partialsIn, timeIn};
 
 pub fn number(outcome: slices::Outcome) -> u8
     ensures { λ r. ⌜ r ≡ outcomeNumber outcome ⌝ }

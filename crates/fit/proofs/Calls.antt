@@ -36,7 +36,7 @@ use Rattle.fit.specs.declared.kernel.Fitted.the-variants.{Fitted, Refuse
 use Rattle.fit.specs.Fit.{Observed, stateFor, fitOf, fitFrom, fittedFrom, orbitOf, observed, startOf, improved, regular}
 use Rattle.fit.specs.Contracts.{Fits, arcServes, ArcFit}
 use Rattle.fit.specs.Handing.{Handed}
-use Rattle.fit.specs.Calls.{numberOf, rmsIn, refusal, fitCall}
+use Rattle.fit.specs.Calls.{during, refusal, fitCall}
 use Rattle.fit.specs.Room.{workSize}
 
 -- ---- the tests
@@ -173,7 +173,7 @@ module _ (M : Model) (ks : List ℤ) (ss : List Float) (arc : Arc) (out scratch 
     fit-failed k e out' s2 eo es =
         let ek : fitOf (covers (M .fields .fieldTimes)) (fullForce M) (stateFor ks ss) arc ≡ Refused k = sym (fitted .said) ∙ e in
         (λ i. left (Refused k) (eo i ∷ []) ((es ∙ same-cleared s1 scratch fit-long) i))
-        ∙ call-failed _ Refused _ (out ∷ []) scratch k _ _ (sym h ∙ en) (sym (ap numberOf ek)) (subst Late ek (fit-late (covers (M .fields .fieldTimes)) (fullForce M) (stateFor ks ss) arc))
+        ∙ call-failed _ Refused _ (out ∷ []) scratch k _ _ (sym h ∙ en) (sym (ap during ek)) (subst Late ek (fit-late (covers (M .fields .fieldTimes)) (fullForce M) (stateFor ks ss) arc))
 
     pub fit-handed : (x : Float) → answer ≡ Fitted x → (r : Fit) (out' s2 : List Float) → Handed x (take (6 * (arc .steps + 1)) (drop (frontSize (M .fixed .degree)) s1)) out s1 r out' s2 →
         left r (out' ∷ []) s2 ≡ fitCall M ks ss arc out scratch
@@ -185,4 +185,4 @@ module _ (M : Model) (ks : List ℤ) (ss : List Float) (arc : Arc) (out scratch 
         flat-part s1 (frontSize (M .fixed .degree)) run (arc .steps + 1) (fitted .states x e) (omega (arith, fit-long, fit-passed h .room, fit-passed h .few)) in
         hd .is
         ∙ settled-scratch x (cond (finite x) 0 10) _ (out ∷ []) s1 scratch (same-cleared s1 scratch fit-long)
-        ∙ (λ i. settled (Fitted (rmsIn (sym ex i))) Refused ((sym h ∙ en) i) (numberOf (sym ex i)) (new i ∷ []) (out ∷ []) scratch)
+        ∙ (λ i. settled (sym ex i) Refused ((sym h ∙ en) i) (during (sym ex i)) (new i ∷ []) (out ∷ []) scratch)

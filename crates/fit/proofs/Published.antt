@@ -22,7 +22,7 @@ use Rattle.integrate.specs.Calls.{outFits, arcFits}
 use Rattle.integrate.proofs.Published.{Sized, Published, publishedAt, full-published, by-acceptance}
 use Rattle.fit.specs.declared.kernel.Fitted.the-variants.{Fitted, Refused}
 use Rattle.fit.specs.Fit.{stateFor, fitOf, orbitOf}
-use Rattle.fit.specs.Calls.{numberOf, rmsIn, refusal, fitBy, fitCall}
+use Rattle.fit.specs.Calls.{during, refusal, fitBy, fitCall}
 
 -- acceptance gives the lengths
 accepted-sized : (M : Model) (keys : List ℤ) (states : List Float) (arc : Arc) (out scratch : ℕ) → refusal M keys states arc out scratch ≡ 0 → Sized M
@@ -41,7 +41,7 @@ pub fit-published : (M : Model) → Published M → (keys : List ℤ) (states : 
 unfolding fitCall
 fit-published M tables keys states arc out scratch =
     by-acceptance (λ (n : ℕ) (full : Float → Vector → Vector).
-    settled (Fitted (rmsIn (fitOf (covers (M .fields .fieldTimes)) full (stateFor keys states) arc))) Refused n (numberOf (fitOf (covers (M .fields .fieldTimes)) full (stateFor keys states) arc))
+    settled (fitOf (covers (M .fields .fieldTimes)) full (stateFor keys states) arc) Refused n (during (fitOf (covers (M .fields .fieldTimes)) full (stateFor keys states) arc))
     (flat (orbitOf full (stateFor keys states) arc) (arc .steps + 1) ∷ []) (out ∷ []) scratch)
     (refusal M keys states arc (length out) (length scratch)) (fullForce M) (fullBy (publishedAt M)) (λ k. refl)
     (λ h. full-published M (accepted-sized M keys states arc (length out) (length scratch) h) tables)

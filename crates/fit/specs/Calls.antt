@@ -2,9 +2,10 @@
 use Prim.Native.Nat.{ℕ, _+_}
 use mathlib.Core.Bool.{cond, _&&_}
 use mathlib.Core.List.{List, [], _∷_}
+use mathlib.Core.Option.{Option, none, some}
 use lib.Dec.{leb}
 use lib.IntN.{ℤ}
-use lib.Ieee.{Float, nan}
+use lib.Ieee.{Float}
 use lib.Ieee.Scale.{finite}
 use lib.ListN.{length}
 use Rattle.laws.specs.Checks.{rising, risingSeconds, degreeFine}
@@ -20,14 +21,22 @@ use Rattle.fit.specs.declared.kernel.Fitted.{Fitted as Fit}
 use Rattle.fit.specs.declared.kernel.Fitted.the-variants.{Fitted, Refused}
 use Rattle.fit.specs.Fit.{stateFor, fitOf, orbitOf}
 
--- document 01's number of an answer, 10 for an rms that is not finite, and its rms
-abbrev pub numberOf : Fit → ℕ
-numberOf (Fitted x) = cond (finite x) 0 10
-numberOf (Refused n) = n
+-- ---- an answer: document 01's number, 0 for acceptance, and the rms
 
-abbrev pub rmsIn : Fit → Float
-rmsIn (Fitted x) = x
-rmsIn (Refused n) = nan
+abbrev pub fitNumber : Fit → ℕ
+fitNumber (Fitted x) = 0
+fitNumber (Refused n) = n
+
+abbrev pub fitValue : Fit → Option Float
+fitValue (Fitted x) = some x
+fitValue (Refused n) = none
+
+-- ---- which refusal
+
+-- during the work: the fit's own, 10 for an rms that is not finite, or 0
+abbrev pub during : Fit → ℕ
+during (Fitted x) = cond (finite x) 0 10
+during (Refused n) = n
 
 -- which of 1 to 5 the arguments call for, or 0
 unfoldable pub refusal : Model → List ℤ → List Float → Arc → ℕ → ℕ → ℕ
@@ -41,7 +50,7 @@ abbrev pub fitBy : (Float → Vector → Vector) → Model → List ℤ → List
 fitBy full M keys states arc out scratch =
     let look = stateFor keys states in
     let answer = fitOf (covers (M .fields .fieldTimes)) full look arc in
-    settled (Fitted (rmsIn answer)) Refused (refusal M keys states arc (length out) (length scratch)) (numberOf answer)
+    settled answer Refused (refusal M keys states arc (length out) (length scratch)) (during answer)
     (flat (orbitOf full look arc) (arc .steps + 1) ∷ []) (out ∷ []) scratch
 
 -- `fit_orbit`

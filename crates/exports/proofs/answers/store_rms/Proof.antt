@@ -1,7 +1,8 @@
 -- `exports::answers::store_rms`: an rms in its place, or what is left there after a refusal. Assumes nothing.
 use mathlib.Core.Path.{refl}
 use Rattle.fit.specs.declared.kernel.Fitted.the-variants as answers
-use Rattle.exports.specs.Answers.{fitNumber, rmsIn}
+use Rattle.fit.specs.Calls.{fitNumber}
+use Rattle.exports.specs.Answers.{rmsIn}
 use Rattle.exports.proofs.AnswersTold.{told-as}
 use borrow.Author.Needs.{needs}
 use Rattle.exports.proofs.answers.store_rms.Statement.{statement}
