@@ -3,9 +3,9 @@
 -- bits at each of the other's places; degree and static field are equal by bits, and so are any Legendre tables lent to the two calls; the published lists are those of 8. What the lent
 -- outputs and scratch held before makes no difference."
 --
--- So let two calls with one setting S be accepted, the first with k kept and f final epochs, the second with k' and f', and let each list of the second begin with the whole of the first's.
--- Then the first f entries of each column are the same, f' is not below f, and f and f' are the F of their calls (`FinalSheet`). What outputs and scratch held before plays no part
--- (`same-sheet`). Assumes nothing.
+-- So let two calls with one setting S be accepted (`sheetValues`), the first with k kept and f final epochs, the second with k' and f', and let each list of the second begin with the
+-- whole of the first's. Then the first f entries of each column are the same, f' is not below f, and f and f' are the F of their calls (`FinalSheet`). What outputs and scratch held
+-- before plays no part (`same-sheet`). Assumes nothing.
 use mathlib.Core.Path.{_≡_, sym, _∙_}
 use mathlib.Core.Option.{Option, none, some}
 use mathlib.Core.List.{List, map}
@@ -17,8 +17,7 @@ use Rattle.inputs.specs.Inputs.{Fixed, Lists}
 use Rattle.laws.specs.Runs.{runsOf}
 use Rattle.finality.specs.Sheet.{times, horizon, countRuns}
 use Rattle.sheet.specs.Submission.{stages, submissionOf, ListsGrow}
-use Rattle.sheet.specs.Calls.{columnsOf, keptCount, finalCount, sheetCall}
-use Rattle.sheet.specs.declared.SheetAnswer.the-variants.{Accepted}
+use Rattle.sheet.specs.Calls.{sheetValues, columnsOf, keptCount, finalCount, sheetCall}
 use Rattle.sheet.proofs.Final.{final-entries, counted, none-counted, within-kept}
 use Rattle.sheet.proofs.AcceptedCalls.{Answered, answered}
 
@@ -52,8 +51,8 @@ counts S l outputs scratch k f a =
     }
 
 pub final-sheet : (S : Fixed) (l l' : Lists) (outputs outputs' : List (List Float)) (scratch scratch' : List Float) (k f k' f' : ℕ) →
-    sheetCall S l outputs scratch .answer ≡ Accepted k f →
-    sheetCall S l' outputs' scratch' .answer ≡ Accepted k' f' →
+    sheetValues (sheetCall S l outputs scratch .answer) ≡ some (k, f) →
+    sheetValues (sheetCall S l' outputs' scratch' .answer) ≡ some (k', f') →
     ListsGrow l l' →
     FinalSheet S l l' (sheetCall S l outputs scratch .outputs) (sheetCall S l' outputs' scratch' .outputs) k f k' f'
 unfolding columnsOf finalCount
@@ -70,8 +69,8 @@ final-sheet S l l' outputs outputs' scratch scratch' k f k' f' h h' g =
 
 -- what outputs and scratch held before
 pub same-sheet : (S : Fixed) (l : Lists) (outputs outputs' : List (List Float)) (scratch scratch' : List Float) (k f k' f' : ℕ) →
-    sheetCall S l outputs scratch .answer ≡ Accepted k f →
-    sheetCall S l outputs' scratch' .answer ≡ Accepted k' f' →
+    sheetValues (sheetCall S l outputs scratch .answer) ≡ some (k, f) →
+    sheetValues (sheetCall S l outputs' scratch' .answer) ≡ some (k', f') →
     (k ≡ k') × (f ≡ f') × (sheetCall S l outputs scratch .outputs ≡ sheetCall S l outputs' scratch' .outputs)
 same-sheet S l outputs outputs' scratch scratch' k f k' f' h h' =
     let a = answered S l outputs scratch k f h in
