@@ -1,6 +1,6 @@
 // The horizon, F, and the arc of a window. Horizon and F by `whole`, from document 01's module 9: the source has neither. The arc by the source's two lines
 // (`arc_of`, which extract.py takes out of `fitted_orbits`); two numbers that are no window shorter than 7,000 s have the arc of no steps.
-use crate::fieldlists::{LAST, WILD, is_time, rising, with};
+use crate::fieldlists::{LAST, WILD, are_keys, are_times, is_time, rising, with};
 use crate::generate::unit;
 use crate::list::{List, step};
 use crate::source::{Rng, arc_of};
@@ -24,9 +24,24 @@ impl Asked {
         Asked { nodes: nodes.to_vec(), keys: std::array::from_fn(|_| keys.clone()), times: [times.clone(), times], kept: kept.to_vec() }
     }
 
-    /// Asks it, and says the horizon and F that are answered.
+    /// Document 01's number for these lists and the kept times.
+    fn refusal(&self, kept: &[f64]) -> u64 {
+        let [fields, observed] = &self.times;
+        let times: [&[f64]; 4] = [&self.nodes, fields, observed, kept];
+        let many = times.iter().zip([64, 32, 100_000, 100_000]).any(|(l, most)| l.len() > most) || self.keys.iter().any(|k| k.len() > 200_000);
+        if many {
+            2
+        } else if !times.iter().all(|l| are_times(l)) || !self.keys.iter().all(|k| are_keys(k)) {
+            4
+        } else if !times.iter().all(|l| rising(l)) || !self.keys.iter().all(|k| rising(k)) {
+            5
+        } else {
+            0
+        }
+    }
+
+    /// Asks it, and says the horizon and F that are answered, or would be.
     fn call(&self, list: &mut List) -> (Option<f64>, usize) {
-        assert!(rising(&self.nodes) && rising(&self.kept) && self.nodes.len() <= 64 && self.kept.len() <= 64);
         list.call(FINAL);
         list.ask_list(&self.nodes);
         for keys in &self.keys {
@@ -39,9 +54,15 @@ impl Asked {
         let [e, f] = self.times.each_ref().map(|t| t.last().copied());
         let z = last_reached(&self.nodes, [a, b, c, d, e, f]);
         let count = final_count(&self.kept, z);
-        list.tell(z.is_some() as u64);
-        z.iter().for_each(|z| list.tell_float(*z));
-        list.tell(count as u64);
+        list.tell(self.refusal(&[]));
+        if self.refusal(&[]) == 0 {
+            list.tell(z.is_some() as u64);
+            z.iter().for_each(|z| list.tell_float(*z));
+        }
+        list.tell(self.refusal(&self.kept));
+        if self.refusal(&self.kept) == 0 {
+            list.tell(count as u64);
+        }
         (z, count)
     }
 }
@@ -71,6 +92,40 @@ fn ends(list: &mut List) {
     }
     for second in [0, 1804, 1805, LAST as i64] {
         Asked::until(second, &[-0.0, 1.0, LAST - 1804.0, LAST], &[0.0]).call(list);
+    }
+}
+
+/// Each cause of 2, 4 and 5 that fits the list, in each of its places, and two causes at once; one field, and none.
+fn refused(list: &mut List) {
+    let base = Asked::until(16804, &[10_000.0, 15_000.0], &[14_990.0, 14_992.0]);
+    let many = |n: usize| (0..n).map(|k| k as f64).collect::<Vec<f64>>();
+    let mut said = |number: u64, change: &dyn Fn(&mut Asked)| {
+        let asked = with(&base, |a| change(a));
+        assert!(asked.refusal(&asked.kept) == number);
+        asked.call(list);
+    };
+    said(0, &|a| a.nodes = many(64));
+    said(2, &|a| a.nodes = many(65));
+    said(0, &|a| a.times[0] = many(32));
+    said(2, &|a| a.times[0] = many(33));
+    said(0, &|a| a.times[0] = many(1));
+    said(0, &|a| a.times[0] = vec![]);
+    for w in WILD.into_iter().chain([-1.0, -5e-324, step(LAST, 1)]) {
+        said(4, &|a| a.nodes[1] = w);
+        said(4, &|a| a.kept[0] = w);
+        (0..2).for_each(|k| said(4, &|a| a.times[k][1] = w));
+        said(2, &|a| { a.nodes = many(65); a.nodes[3] = w });
+    }
+    for key in [-1, LAST as i64 + 1, i64::MIN, i64::MAX] {
+        (0..4).for_each(|k| said(4, &|a| a.keys[k][1] = key));
+    }
+    for equal in [true, false] {
+        let before = |t: f64| if equal { t } else { t - 1.0 };
+        said(5, &|a| a.nodes[1] = before(a.nodes[0]));
+        said(5, &|a| a.kept[1] = before(a.kept[0]));
+        (0..2).for_each(|k| said(5, &|a| a.times[k][1] = before(a.times[k][0])));
+        (0..4).for_each(|k| said(5, &|a| a.keys[k][1] = before(a.keys[k][0] as f64) as i64));
+        said(4, &|a| { a.nodes[1] = before(a.nodes[0]); a.kept[1] = f64::NAN });
     }
 }
 
@@ -138,6 +193,7 @@ fn arcs(list: &mut List, random: &mut Rng) {
 pub fn make(list: &mut List, seed: u64) {
     let mut random = Rng::new(seed);
     ends(list);
+    refused(list);
     runs(list, &mut random);
     arcs(list, &mut random);
 }

@@ -1,28 +1,43 @@
 // Replays the oracle's list of horizons, final counts and arcs: each call is its number and its arguments, a word a line; a list is its length and its numbers.
-// Printed are 1 and the horizon, or 0, then F; of a window the start, the steps, the node and the period of its arc.
-use horizon::kernel::HorizonNode;
+// Printed are the number of the horizon's refusal, or 0 with 1 and the horizon, or with 0; then the number of F's, or 0 and F. Of a window the start, the
+// steps, the node and the period of its arc.
+use horizon::HorizonAnswer;
 use replay::Item;
+use slices::Counted;
 
-fn say_horizon(z: HorizonNode) {
-    match z {
-        HorizonNode::At(node) => {
+fn say_horizon(answer: HorizonAnswer) {
+    match answer {
+        HorizonAnswer::At(node) => {
+            replay::say(0);
             replay::say(1);
             replay::say_float(node);
         }
-        HorizonNode::Nothing => {
+        HorizonAnswer::Nothing => {
+            replay::say(0);
             replay::say(0);
         }
+        HorizonAnswer::Refused(n) => replay::say(n as u64),
+    }
+}
+
+fn say_count(answer: Counted) {
+    match answer {
+        Counted::Counted(k) => {
+            replay::say(0);
+            replay::say(k as u64);
+        }
+        Counted::Refused(n) => replay::say(n as u64),
     }
 }
 
 // The horizon of nodes, keys of states and of accelerometer values, times of fields and observations; F of the kept times that come last.
 fn final_count() {
-    let mut u = [0.0; 64];
+    let mut u = [0.0; 65];
     let mut c = [0i64; 4];
     let mut d = [0i64; 4];
     let mut e = [0i64; 4];
     let mut f = [0i64; 4];
-    let mut v = [0.0; 4];
+    let mut v = [0.0; 33];
     let mut w = [0.0; 4];
     let mut t = [0.0; 64];
     let nodes = replay::full_list(&mut u);
@@ -33,9 +48,19 @@ fn final_count() {
     let fields = replay::full_list(&mut v);
     let observed = replay::full_list(&mut w);
     let kept = replay::full_list(&mut t);
-    let z = horizon::kernel::horizon(nodes, cstates, dstates, caccs, daccs, fields, observed);
+    let z = horizon::horizon(nodes, cstates, dstates, caccs, daccs, fields, observed);
     say_horizon(z);
-    replay::say(horizon::kernel::final_count(z, kept) as u64);
+    let f = horizon::final_count(
+        nodes,
+        cstates,
+        dstates,
+        caccs,
+        daccs,
+        fields,
+        observed,
+        kept,
+    );
+    say_count(f);
 }
 
 fn arc() {
