@@ -1,7 +1,9 @@
 // Each safe function once accepted, and once refused with each number that it can answer: the lengths that this crate makes itself are right.
+mod orbits;
+
+use orbits::{GM, orbit};
 use pozsmeteg::*;
 
-const GM: f64 = 3.986_004_415e14;
 const RADIUS: f64 = 6_378_136.3;
 
 /// A point mass with J2, as a field of a degree.
@@ -18,18 +20,6 @@ fn nothing(degree: usize) -> Vec<f64> {
     let mut out = vec![0.0; 2 + 2 * places(degree)];
     out[..2].copy_from_slice(&[GM, RADIUS]);
     out
-}
-
-/// Earth-fixed states of a circular polar orbit, so many seconds ahead of the first satellite.
-fn orbit(keys: &[i64], ahead: f64) -> Vec<f64> {
-    let (radius, turn) = (6.871e6_f64, 7.292_115e-5);
-    let rate = (GM / radius.powi(3)).sqrt();
-    keys.iter().flat_map(|k| {
-        let (s, c) = (rate * (*k as f64 + ahead)).sin_cos();
-        let (sine, cosine) = (turn * *k as f64).sin_cos();
-        let (x, y, speed) = (radius * c * cosine, -radius * c * sine, -radius * rate * s);
-        [x, y, radius * s, speed * cosine + turn * y, -speed * sine - turn * x, radius * rate * c]
-    }).collect()
 }
 
 #[test]

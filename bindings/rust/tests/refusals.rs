@@ -1,4 +1,7 @@
 // Each call of the library, refused once with every number that it can answer: a good call, and what is spoiled of it.
+mod orbits;
+
+use orbits::{GM, orbit};
 use pozsmeteg::raw::{self, Arc, Keyed, Model, Observations, Pair, Published, Reach, Records};
 
 const NAN: f64 = f64::NAN;
@@ -31,21 +34,9 @@ fn tables() -> (Vec<f64>, Vec<f64>) {
 /// A point mass with J2, as a field of degree 2.
 fn earth() -> Vec<f64> {
     let mut out = vec![0.0; 14];
-    out[..3].copy_from_slice(&[3.986_004_415e14, 6_378_136.3, 1.0]);
+    out[..3].copy_from_slice(&[GM, 6_378_136.3, 1.0]);
     out[5] = -4.841_65e-4;
     out
-}
-
-/// Earth-fixed states of a circular polar orbit, so many seconds ahead of the first satellite.
-fn orbit(keys: &[i64], ahead: f64) -> Vec<f64> {
-    let (radius, turn) = (6.871e6_f64, 7.292_115e-5);
-    let rate = (3.986_004_415e14 / radius.powi(3)).sqrt();
-    keys.iter().flat_map(|k| {
-        let (s, c) = (rate * (*k as f64 + ahead)).sin_cos();
-        let (sine, cosine) = (turn * *k as f64).sin_cos();
-        let (x, y, speed) = (radius * c * cosine, -radius * c * sine, -radius * rate * s);
-        [x, y, radius * s, speed * cosine + turn * y, -speed * sine - turn * x, radius * rate * c]
-    }).collect()
 }
 
 #[derive(Clone)]
