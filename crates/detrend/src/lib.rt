@@ -1,4 +1,5 @@
 // Detrending by revolutions.
+#![tactic(auto)]
 pub mod kernel;
 mod work;
 

@@ -1,4 +1,5 @@
 // One epoch from what was found at its second: the field at its time, and its record (document 01, module 5).
+#![tactic(auto)]
 pub mod kernel;
 
 ghost use Rattle.std.specs.Prelude.{◌≡◌, true, ◌&&◌, ◌≤◌, length};
@@ -14,20 +15,20 @@ ghost use Rattle.epoch.specs.Kept.{is_good, observation, record_at};
 ghost use Rattle.epoch.specs.Work.{given_state, given_number, sighting_from, made_of, Recorded, Tried, Opened};
 
 // What stands at a key, and +0.0 where nothing does.
-#[derive(Drop)]
+#[derive(Clone, Copy)]
 pub struct StateFound {
     pub there: bool,
     pub state: integrate::kernel::State,
 }
 
-#[derive(Drop)]
+#[derive(Clone, Copy)]
 pub struct NumberFound {
     pub there: bool,
     pub value: f64,
 }
 
 // What four look-ups found.
-#[derive(Drop)]
+#[derive(Clone, Copy)]
 pub struct Sighting {
     pub all: bool,
     pub c: integrate::kernel::State,
@@ -37,7 +38,7 @@ pub struct Sighting {
 }
 
 // An epoch's record, +0.0 unless kept.
-#[derive(Drop)]
+#[derive(Clone, Copy)]
 pub struct Made {
     pub kept: bool,
     pub epoch: epoch_record::Epoch,

@@ -1,4 +1,5 @@
 // Module 1 of document 01, fields: the public calls. The crate `legendre` and `kernel` do the work.
+#![tactic(auto)]
 pub mod kernel;
 
 ghost use Rattle.std.specs.Prelude.{◌≡◌, [], ◌∷◌, ◌++◌, ℕ, ◌+◌, ◌*◌, ◌≤◌, ◌<◌, length, take};
@@ -13,26 +14,26 @@ use legendre;
 use numbers;
 use slices;
 
-#[derive(Drop)]
+#[derive(Clone, Copy)]
 pub enum Index {
     At(usize),
     Refused(u8),
 }
 
-#[derive(Drop)]
+#[derive(Clone, Copy)]
 pub enum PartialsAnswer {
     Value(legendre::Partials),
     Refused(u8),
 }
 
-#[derive(Drop)]
+#[derive(Clone, Copy)]
 pub struct NorthEastUp {
     pub north: f64,
     pub east: f64,
     pub up: f64,
 }
 
-#[derive(Drop)]
+#[derive(Clone, Copy)]
 pub enum AccelerationAnswer {
     Value(NorthEastUp),
     Refused(u8),

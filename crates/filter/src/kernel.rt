@@ -24,7 +24,7 @@ pub fn band_pass(times: &[f64], x: &[f64], out: &mut [f64], scratch: &mut [f64])
 }
 
 // How many runs there are, and how many of them are longer than 64 samples.
-#[derive(Drop)]
+#[derive(Clone, Copy)]
 pub struct RunCounts {
     pub runs: usize,
     pub long: usize,

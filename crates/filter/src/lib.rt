@@ -1,4 +1,5 @@
 // Module 7 of document 01: the zero-phase band-pass filter. Each call here tests its arguments and its answer; `work` does the work.
+#![tactic(auto)]
 ghost use Rattle.std.specs.Prelude.{◌≡◌, [], ◌∷◌, length};
 ghost use Rattle.slices.specs.Calls.{left};
 ghost use Rattle.filter.specs.Filter.{rest, step_of};
@@ -11,7 +12,7 @@ pub mod kernel;
 mod work;
 
 // A biquad section, normalised by a0.
-#[derive(Drop)]
+#[derive(Clone, Copy)]
 pub struct Biquad {
     pub b0: f64,
     pub b1: f64,
@@ -21,7 +22,7 @@ pub struct Biquad {
 }
 
 // What a section remembers: the last two samples in and out.
-#[derive(Drop)]
+#[derive(Clone, Copy)]
 pub struct BiquadMemory {
     pub x1: f64,
     pub x2: f64,
@@ -29,14 +30,14 @@ pub struct BiquadMemory {
     pub y2: f64,
 }
 
-#[derive(Drop)]
+#[derive(Clone, Copy)]
 pub struct Step {
     pub memory: BiquadMemory,
     pub sample: f64,
 }
 
 // Four sections, five numbers each; +0.0 unless accepted.
-#[derive(Drop)]
+#[derive(Clone, Copy)]
 pub struct Band {
     pub outcome: slices::Outcome,
     pub sections: [f64; 20],

@@ -31,14 +31,14 @@ const DESIGN: usize = 42_428;
 const WORK: usize = 90_173;
 
 // The state at a second, if there is one.
-#[derive(Drop)]
+#[derive(Clone, Copy)]
 pub enum Held {
     Known(integrate::kernel::State),
     Missing,
 }
 
 // An arc's fit: the rms of its misfits, or the number of its refusal. The states stay in scratch.
-#[derive(Drop)]
+#[derive(Clone, Copy)]
 pub enum Fitted {
     Fitted(f64),
     Refused(u8),

@@ -1,4 +1,5 @@
 // Orbits fitted to observed positions.
+#![tactic(auto)]
 pub mod kernel;
 
 ghost use Rattle.std.specs.Prelude.{◌≡◌, ◌+◌, ◌*◌, ◌≤◌, [], ◌∷◌, length, take, drop};

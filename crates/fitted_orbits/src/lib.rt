@@ -1,4 +1,5 @@
 // Fitted orbits of one satellite (document 01, module 4).
+#![tactic(auto)]
 mod work;
 
 ghost use Rattle.std.specs.Prelude.{◌≡◌, ◌&&◌, ◌-◌, ◌*◌, eqb, length};
@@ -6,7 +7,7 @@ ghost use Rattle.inputs.specs.Inputs.{model_of, model_sized, whole_scratch_fits}
 ghost use Rattle.fitted_orbits.specs.Calls.{given, outputs, places_fit, refusal as refusal_of, left, orbits_call};
 
 // How many states and how many windows were fitted, or the number of the refusal.
-#[derive(Drop)]
+#[derive(Clone, Copy)]
 pub enum FittedOrbits {
     Counted(usize, usize),
     Refused(u8),

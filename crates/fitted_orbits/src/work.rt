@@ -17,7 +17,7 @@ ghost use Rattle.fitted_orbits.specs.Calls.{outputs, listed};
 ghost use Rattle.fitted_orbits.specs.Work.{put_six, read_run, Kept, Joins, SoFar, Room, Adds, Usable, Short};
 
 // How many states and how many windows stand in the outputs.
-#[derive(Drop)]
+#[derive(Clone, Copy)]
 pub struct Done {
     pub states: usize,
     pub windows: usize,

@@ -1,5 +1,6 @@
 // Numbers as text: a u64 as 16 uppercase hexadecimal digits, the most significant first; a count in decimal; and the
 // bit patterns of doubles.
+#![tactic(auto)]
 ghost use Rattle.std.specs.Prelude.{◌≡◌, ◌<◌, ◌≤◌, length};
 ghost use Rattle.std.specs.Float.{binary64};
 ghost use Rattle.std.specs.Float.Ieee.{of_bits as Ieee·ofBits, to_bits as Ieee·toBits};
@@ -8,7 +9,7 @@ ghost use Rattle.hexadecimal.specs.Digits.{digit_of, glyph_of, digits_of, writte
 const MOST: u64 = 18446744073709551615;
 
 // What a text says: a number, or none.
-#[derive(Drop)]
+#[derive(Clone, Copy)]
 pub enum Parsed {
     Value(u64),
     Malformed,

@@ -5,7 +5,7 @@ ghost use Rattle.finality.specs.Stages.{reach, other_reach};
 ghost use Rattle.finality.specs.Sheet.{reached_by, horizon_of, count_to, count as count_of};
 ghost use Rattle.horizon.specs.Horizon.{ends_of, horizon_answer, horizon_at, end_at, counted as counted_by};
 
-#[derive(Drop)]
+#[derive(Clone, Copy)]
 pub enum HorizonNode {
     At(f64),
     Nothing,

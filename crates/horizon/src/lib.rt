@@ -1,4 +1,5 @@
 // Document 01, module 9: the horizon, how many entries are final, and those entries of the caller's own list.
+#![tactic(auto)]
 ghost use Rattle.std.specs.Prelude.{◌≡◌, true};
 ghost use Rattle.horizon.specs.Horizon.{final_entries};
 ghost use Rattle.horizon.specs.Calls.{given, counts_within, given_fine, given_rise, refusal_of, horizon_call, final_count_call};
@@ -6,7 +7,7 @@ ghost use Rattle.horizon.specs.Calls.{given, counts_within, given_fine, given_ri
 pub mod kernel;
 
 // The largest node that every list reaches far enough beyond, where there is one, or a refusal's number.
-#[derive(Drop)]
+#[derive(Clone, Copy)]
 pub enum HorizonAnswer {
     At(f64),
     Nothing,

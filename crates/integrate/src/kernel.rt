@@ -13,14 +13,14 @@ ghost use Rattle.integrate.specs.Force.{attraction_of, argument_of, acceleration
 ghost use Rattle.integrate.specs.Room.{run_size, state_in, Only};
 ghost use Rattle.integrate.specs.Work.{Ready, Refreshed, Pulled, Pushed, Moved, Placed, Stored, Advanced, Begun, Flown, Fitting, Ran};
 
-#[derive(Drop)]
+#[derive(Clone, Copy)]
 pub struct State {
     pub position: vectors::Vector,
     pub velocity: vectors::Vector,
 }
 
 // Start time, number of steps, and the revolution's node time and period.
-#[derive(Drop)]
+#[derive(Clone, Copy)]
 pub struct Arc {
     pub t0: f64,
     pub steps: usize,
@@ -29,26 +29,26 @@ pub struct Arc {
 }
 
 // The attraction that a run integrates: the full model with tides, or point mass and J2.
-#[derive(Drop)]
+#[derive(Clone, Copy)]
 pub enum Force {
     Full,
     J2,
 }
 
 // A time, with what the tides take from it.
-#[derive(Drop)]
+#[derive(Clone, Copy)]
 pub struct Instant {
     pub time: f64,
     pub moment: forces::kernel::Moment,
 }
 
-#[derive(Drop)]
+#[derive(Clone, Copy)]
 pub struct Push {
     pub known: Instant,
     pub pull: vectors::Vector,
 }
 
-#[derive(Drop)]
+#[derive(Clone, Copy)]
 pub struct Stepped {
     pub known: Instant,
     pub state: State,

@@ -1,4 +1,5 @@
 // Orbits by the classical Runge-Kutta rule, and the force chosen by an enum.
+#![tactic(auto)]
 pub mod kernel;
 
 ghost use Rattle.std.specs.Prelude.{◌≡◌, ◌+◌, ◌*◌, ◌≤◌, [], ◌∷◌, length};

@@ -191,7 +191,7 @@ pub fn coefficients(rows: &[f64], y: &[f64], p: usize, beta: &mut [f64]) -> bool
 }
 
 // Fifteen coefficients, or none where a pivot was too small.
-#[derive(Drop)]
+#[derive(Clone, Copy)]
 pub struct Estimate {
     pub fine: bool,
     pub beta: [f64; 15],

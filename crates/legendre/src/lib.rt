@@ -1,4 +1,5 @@
 // The spherical harmonic series of a field: its tables, and one evaluation streamed by rows, with no square root and no work slice.
+#![tactic(auto)]
 ghost use Rattle.std.specs.Prelude.{◌≡◌, ◌++◌, ℕ, suc, ◌+◌, ◌*◌, ◌-◌, ◌≤◌, ◌<◌, length, take};
 ghost use Rattle.std.specs.Float.{binary64};
 ghost use Rattle.root.specs.Root.{sqrt};
@@ -88,7 +89,7 @@ fn upper_of(n: usize, m: usize) -> f64
 }
 
 // The factors that stand in tables.
-#[derive(Drop)]
+#[derive(Clone, Copy)]
 pub enum Factor {
     RecursionA,
     RecursionB,
@@ -271,7 +272,7 @@ fn derived_row(n: usize, k: usize, lower: &[f64], upper: &[f64], p: &[f64; 184],
     d[n] = -0.5 * (lower[k + n] * p[n - 1] - 0.0);
 }
 
-#[derive(Drop)]
+#[derive(Clone, Copy)]
 pub struct Sums {
     pub v: f64,
     pub lat: f64,
@@ -320,7 +321,7 @@ fn row_sums(
 }
 
 // The sums so far, and the ratio's power.
-#[derive(Drop)]
+#[derive(Clone, Copy)]
 pub struct Running {
     pub v: f64,
     pub r: f64,
@@ -330,7 +331,7 @@ pub struct Running {
 }
 
 // Where the series is summed: the ratio of the field's radius to the distance, sine and cosine of the latitude, the longitude.
-#[derive(Drop)]
+#[derive(Clone, Copy)]
 pub struct Point {
     pub ratio: f64,
     pub sine: f64,
@@ -451,7 +452,7 @@ fn all_rows(
 }
 
 // The four sums, before the last factors.
-#[derive(Drop)]
+#[derive(Clone, Copy)]
 pub struct Totals {
     pub v: f64,
     pub r: f64,
@@ -498,7 +499,7 @@ fn streamed(
 }
 
 // The potential and its derivatives by radius, latitude and longitude.
-#[derive(Drop)]
+#[derive(Clone, Copy)]
 pub struct Partials {
     pub v: f64,
     pub dr: f64,

@@ -1,4 +1,5 @@
 // The time-variable gravity model (module 3 of document 01): the static field with each added field, blended linearly in time.
+#![tactic(auto)]
 pub mod kernel;
 
 ghost use Rattle.std.specs.Prelude.{◌≡◌, [], ◌∷◌, ℕ, ◌+◌, ◌*◌, ◌-◌, ◌≤◌, ◌<◌, length};
@@ -13,7 +14,7 @@ ghost use Rattle.fields.specs.Calls.{handed_two};
 use fields;
 use slices;
 
-#[derive(Drop)]
+#[derive(Clone, Copy)]
 pub enum Cover {
     Covered,
     Uncovered,

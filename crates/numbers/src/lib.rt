@@ -1,4 +1,5 @@
 // The elementary numbers of document 01, each equal to a definition of specs/.
+#![tactic(auto)]
 ghost use Rattle.std.specs.Prelude.{◌≡◌, suc, ◌/◌, ◌<◌, ◌≤◌, true, false, T, length};
 ghost use Rattle.std.specs.Int.Signed.{mag};
 ghost use Rattle.std.specs.Float.Ieee.{lt};
@@ -164,7 +165,7 @@ pub fn cosine(x: f64) -> f64
     0.0 / 0.0
 }
 
-#[derive(Drop)]
+#[derive(Clone, Copy)]
 pub struct SineCosine {
     pub sine: f64,
     pub cosine: f64,
@@ -347,11 +348,11 @@ pub fn is_finite(x: f64) -> bool
 }
 
 // A whole GPS second, which keys a list.
-#[derive(Drop)]
+#[derive(Clone, Copy)]
 pub struct GpsSecond(pub i64);
 
 // GPS seconds with a fraction.
-#[derive(Drop)]
+#[derive(Clone, Copy)]
 pub struct GpsTime(pub f64);
 
 // The one step from a time to its second; 0 where no i64 holds it.

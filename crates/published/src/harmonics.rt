@@ -29,7 +29,7 @@ fn closed(s: f64, c: f64) -> [f64; 10] {
 }
 
 // What the engine gives to degree 3.
-#[derive(Drop)]
+#[derive(Clone, Copy)]
 struct Functions {
     outcome: slices::Outcome,
     p: [f64; 10],

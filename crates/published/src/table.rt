@@ -7,14 +7,14 @@ use io;
 use slices;
 
 // What the engine gives: a number, or a refusal.
-#[derive(Drop)]
+#[derive(Clone, Copy)]
 pub enum Ours {
     Value(f64),
     Refused(u8),
 }
 
 // How many values were shown, and how many of them lie within the source's accuracy.
-#[derive(Drop)]
+#[derive(Clone, Copy)]
 pub struct Tally {
     pub shown: u32,
     pub within: u32,

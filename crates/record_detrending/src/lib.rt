@@ -1,4 +1,5 @@
 // Detrending of a list of epoch records: times and residuals go into the scratch, are detrended there, and the residuals come back.
+#![tactic(auto)]
 ghost use Rattle.std.specs.Prelude.{◌≡◌, ◌+◌, ◌*◌, ◌≤◌, ◌<◌, length, take};
 ghost use borrow.Rule.Slice.PartMut.{mid_of};
 ghost use Rattle.epoch_record.specs.EpochRecord.{epoch_fits, put_back};
@@ -21,7 +22,7 @@ fn epoch_fits(e: Epoch) -> bool
 }
 
 // What a scan of the records has seen: none yet, fit records in order up to a time, fit ones out of order, or an unfit one.
-#[derive(Drop)]
+#[derive(Clone, Copy)]
 enum Seen {
     Nothing,
     Upto(f64),

@@ -3,6 +3,7 @@
 // itself, a key in two's complement, a double by its bits. A NaN is printed as 7FF8000000000000, and each pattern of a
 // NaN is read as one. The expected output is the oracle's answers in the same form (oracle/README.md). Where the input
 // ends, or a line is malformed, there is no more to read.
+#![tactic(auto)]
 ghost use Rattle.std.specs.Prelude.{◌≡◌, ◌<◌, ◌≤◌, eqb, length, drop};
 ghost use Rattle.std.specs.Float.{binary64};
 ghost use Rattle.std.specs.Float.Ieee.{to_bits};
@@ -10,7 +11,7 @@ ghost use Rattle.std.specs.Int.{w64};
 ghost use Rattle.std.proofs.Common.{to_z, of_z};
 ghost use Rattle.laws.specs.Checks.{all};
 
-#[derive(Drop)]
+#[derive(Clone, Copy)]
 pub enum Item {
     Value(u64),
     End,

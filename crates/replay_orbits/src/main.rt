@@ -1,6 +1,7 @@
 // Replays the oracle's list of least squares, fits and fitted windows: each call is its number and its arguments, a word a line. A slice is its length,
 // how many of its numbers are given, and these; the others are 0. Outputs stand at 3.0 or 3 and scratch at 7.0 before a call; of an output some numbers
 // are told, and the sum of all patterns.
+#![tactic(auto)]
 ghost use Rattle.std.specs.Prelude.{◌≡◌, nat_eq};
 ghost use Rattle.std.specs.Int.{w64};
 ghost use Rattle.std.proofs.Common.{of_z};
@@ -106,7 +107,7 @@ fn fit_orbit<'a>(degree: usize, model: inputs::Model<'a>, keys: &[i64], states: 
 }
 
 // The sum of all words, and the sum of its values after each word, modulo 2^64.
-#[derive(Drop)]
+#[derive(Clone, Copy)]
 struct Sums {
     sum: u64,
     sums: u64,

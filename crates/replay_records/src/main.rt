@@ -1,6 +1,7 @@
 // Replays the oracle's list of `remove_per_revolution` over records: each call is the number of records and these, the number of nodes and these, and the
 // length of the scratch, which holds 7.0 before the call. A record is its time, residual, five terms, midpoint and velocity. Printed are the answer, each
 // record whole, and what became of the scratch.
+#![tactic(auto)]
 ghost use Rattle.std.specs.Prelude.{◌≡◌, ◌≤◌, take};
 ghost use Rattle.record_detrending.specs.Calls.{left_records, remove_call};
 
@@ -8,7 +9,7 @@ use epoch_record::Epoch;
 use replay::Item;
 
 // What the call answered, and the records after it.
-#[derive(Drop)]
+#[derive(Clone, Copy)]
 struct Left {
     answer: slices::Outcome,
     epochs: [Epoch; 128],

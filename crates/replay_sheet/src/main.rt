@@ -1,5 +1,6 @@
 // Replays the oracle's list of the whole path: each call is its number and its arguments, a word a line. A slice is its length, how many of its numbers
 // are given, and these; the others are 0. Outputs stand at 3.0 and scratch at 7.0 before a call.
+#![tactic(auto)]
 ghost use Rattle.std.specs.Prelude.{◌≤◌, ◌-◌, length};
 
 use replay::Item;
@@ -25,7 +26,7 @@ fn key_list(out: &mut [i64], from: usize) -> usize
 }
 
 // Where the keys of C and those of D end in one array, as each list may be long.
-#[derive(Drop)]
+#[derive(Clone, Copy)]
 struct Ends {
     first: usize,
     both: usize,

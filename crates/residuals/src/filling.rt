@@ -6,7 +6,7 @@ ghost use Rattle.residuals.specs.Calls.{epoch_columns};
 ghost use Rattle.residuals.specs.Filling.{zeros, blank, Long, Added, SoFar, Begun, Done};
 
 // How many records are stored, and whether all their numbers are finite.
-#[derive(Drop)]
+#[derive(Clone, Copy)]
 pub struct Filled {
     pub count: usize,
     pub fine: bool,

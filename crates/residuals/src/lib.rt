@@ -1,4 +1,5 @@
 // Module 5 of document 01: range-acceleration residuals of the satellites C and D.
+#![tactic(auto)]
 mod filling;
 mod work;
 
@@ -11,7 +12,7 @@ ghost use Rattle.residuals.specs.Work.{Ready};
 ghost use Rattle.residuals.specs.Calls.{epoch_refusal, epoch_finite, refused as refused_of, answered, told, epoch_call, samples_fit, residuals_refusal};
 ghost use Rattle.residuals.specs.Calls.{epoch_columns, columns_left, residuals_call};
 
-#[derive(Drop)]
+#[derive(Clone, Copy)]
 pub enum Verdict {
     Kept,
     NotKept,
@@ -19,7 +20,7 @@ pub enum Verdict {
 }
 
 // The record is +0.0 in each place unless kept.
-#[derive(Drop)]
+#[derive(Clone, Copy)]
 pub struct EpochAnswer {
     pub verdict: Verdict,
     pub epoch: epoch_record::Epoch,

@@ -1,4 +1,5 @@
 // Module 8 of document 01, the whole path: one call from a submission to the columns of its sheet, with the number of kept epochs and of final ones.
+#![tactic(auto)]
 mod tests;
 mod work;
 
@@ -11,7 +12,7 @@ ghost use Rattle.inputs.specs.Inputs.{model_of, pair_of, observed_of, lists};
 ghost use Rattle.sheet.specs.Calls.{sheet_call};
 
 // How many epochs are kept and how many of them are final, or a refusal's number.
-#[derive(Drop)]
+#[derive(Clone, Copy)]
 pub enum SheetAnswer {
     Accepted(usize, usize),
     Refused(u8),

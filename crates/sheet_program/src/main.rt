@@ -1,5 +1,6 @@
 // The sheet of one submission: its text on standard input, line by line (crate `submission_text`), and the sheet on standard output. `answer` decides what
 // is printed.
+#![tactic(auto)]
 ghost use Rattle.std.specs.Prelude.{◌≡◌, ◌++◌, ◌∷◌, [], ◌+◌, ◌*◌, ◌/◌, ◌%◌, ◌≤◌, ◌<◌, min, length, take, pos};
 ghost use Rattle.std.specs.Float.{nan};
 ghost use Rattle.io.specs.Counts.{IsPrefixLen};
@@ -284,7 +285,7 @@ fn least(a: usize, b: usize) -> usize
 // ---- a submission's lists
 
 // Where each section's count stands among the numbers.
-#[derive(Drop)]
+#[derive(Clone, Copy)]
 struct Places {
     held: usize,
     fields: usize,
@@ -580,7 +581,7 @@ fn read_line(bytes: usize, line: &mut [u8]) -> streams::Got
 }
 
 // What the input was: a text, read to its end or to its first fault; or a read failed.
-#[derive(Drop)]
+#[derive(Clone, Copy)]
 enum Input {
     Text(submission_text::Reading),
     Failed,

@@ -1,4 +1,5 @@
 // What is done to lent slices, and what every public call shares.
+#![tactic(auto)]
 ghost use Rattle.std.specs.Prelude.{◌≡◌, true, cond, ◌&&◌, reverse as reversed, length};
 ghost use Rattle.std.specs.Float.Ieee.Scale.{finite};
 ghost use Rattle.laws.specs.Checks.{all, is_key, is_time, rising as rising_of, rising_seconds};
@@ -6,21 +7,21 @@ ghost use Rattle.laws.specs.Loops.{cleared};
 ghost use Rattle.slices.specs.Slices.{copied, lookup};
 
 // Where a key stands in a list.
-#[derive(Drop)]
+#[derive(Clone, Copy)]
 pub enum Found {
     At(usize),
     Nothing,
 }
 
 // The answer of a call that only fills its outputs.
-#[derive(Drop)]
+#[derive(Clone, Copy)]
 pub enum Outcome {
     Accepted,
     Refused(u8),
 }
 
 // The answer of a call that fills the first places of its outputs.
-#[derive(Drop)]
+#[derive(Clone, Copy)]
 pub enum Counted {
     Counted(usize),
     Refused(u8),

@@ -12,7 +12,7 @@ const GM_E: f64 = 3.986_004_418e14;
 const R_E: f64 = 6_378_136.3;
 
 // The coefficients, P(n, m) and its latitude derivative, cos mλ and sin mλ.
-#[derive(Drop)]
+#[derive(Clone, Copy)]
 pub struct Tables {
     pub c: [f64; 10],
     pub s: [f64; 10],
@@ -23,7 +23,7 @@ pub struct Tables {
 }
 
 // The sums of one degree: of the potential and of its derivatives by latitude and longitude.
-#[derive(Drop)]
+#[derive(Clone, Copy)]
 pub struct Sums {
     pub v: f64,
     pub lat: f64,
@@ -31,7 +31,7 @@ pub struct Sums {
 }
 
 // (R / r)^n, and the derivatives' sums over the degrees so far.
-#[derive(Drop)]
+#[derive(Clone, Copy)]
 pub struct Totals {
     pub power: f64,
     pub r: f64,

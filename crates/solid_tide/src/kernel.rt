@@ -84,7 +84,7 @@ const LOVE: [f64; 10] = [
 ];
 
 // Distance, geocentric latitude and longitude.
-#[derive(Drop)]
+#[derive(Clone, Copy)]
 pub struct Place {
     pub r: f64,
     pub lat: f64,
@@ -92,14 +92,14 @@ pub struct Place {
 }
 
 // cos mλ and sin mλ for m = 0 to 3.
-#[derive(Drop)]
+#[derive(Clone, Copy)]
 pub struct Orders {
     pub cos: [f64; 4],
     pub sin: [f64; 4],
 }
 
 // What one body raises: by degree and order, before cos mλ and sin mλ.
-#[derive(Drop)]
+#[derive(Clone, Copy)]
 pub struct Raised {
     pub weight: [f64; 10],
     pub cos: [f64; 4],

@@ -1,12 +1,13 @@
 // Standard input and standard output of a program, with their failures: a read that fails is no end of the input, and a text that cannot be written whole
 // is told of on standard error. A call that a signal interrupts counts as failed. No contract can say what is read and written.
+#![tactic(auto)]
 ghost use Rattle.streams.specs.Got.{Within};
 
 use io;
 use libc;
 
 // What reading brought: so many bytes at the head of the buffer, fewer than it holds only where the input ended; or a read failed.
-#[derive(Drop)]
+#[derive(Clone, Copy)]
 pub enum Got {
     Bytes(usize),
     Failed,

@@ -1,5 +1,6 @@
 // A submission as text, taken line by line: sections `NAME COUNT`, each followed by COUNT lines of hexadecimal words. What was read is a `Reading` and
 // the numbers of the lines in order: of each section its count, and then its words as the doubles of those bits.
+#![tactic(auto)]
 ghost use Rattle.std.specs.Prelude.{◌≡◌, ◌+◌, ◌*◌, ◌≤◌, ◌<◌, length, leb};
 ghost use Rattle.hexadecimal.specs.Digits.{is_digit, word_at, is_word, bits_of, float_at};
 ghost use Rattle.laws.specs.Checks.{all};
@@ -13,7 +14,7 @@ use slices;
 
 // How far a text has been read: in which section (9 where all are read, 10 where the text then ended), how many of its lines are still to come (none: its
 // header), how many numbers were read, the degree, and the refusal, 0 for none.
-#[derive(Drop)]
+#[derive(Clone, Copy)]
 pub struct Reading {
     pub section: usize,
     pub left: usize,

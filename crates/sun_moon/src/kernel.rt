@@ -47,7 +47,7 @@ const DISTANCE: [[f64; 5]; 8] = [
 ];
 
 // The fundamental arguments L₀, l, l', F and D, radians.
-#[derive(Drop)]
+#[derive(Clone, Copy)]
 pub struct Arguments {
     pub l0: f64,
     pub l: f64,
