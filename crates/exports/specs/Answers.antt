@@ -36,7 +36,7 @@ four p = p.v ∷ p.dr ∷ p.dlat ∷ p.dlon ∷ []
 -- the horizon's time, −1.0 without one
 abbrev pub time : Option Float → List Float
 time (some z) = z ∷ []
-time none = bits 0x_bFF0000000000000 ∷ []
+time none = bits 0xBFF0000000000000 ∷ []
 
 -- ---- the answers' values in a lent list
 
