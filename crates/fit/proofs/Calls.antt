@@ -26,7 +26,7 @@ use Rattle.fit.specs.declared.kernel.Held.TheVariants.{Known, Missing}
 use Rattle.fit.specs.declared.kernel.Fitted.{Fitted as Fit}
 use Rattle.fit.specs.declared.kernel.Fitted.TheVariants.{Fitted, Refused}
 use Rattle.fit.specs.Fit.{Observed, state_for, fit_of, fit_from, fitted_from, orbit_of, observed, start_of, improved, regular}
-use Rattle.fit.specs.Contracts.{Fits, arc_serves, ArcFit}
+use Rattle.fit.specs.WorkLeaves.{Fits, arc_serves, ArcFit}
 use Rattle.fit.specs.Handing.{Handed}
 use Rattle.fit.specs.Calls.{during, refusal, fit_call}
 use Rattle.fit.specs.Room.{work_size}

@@ -5,7 +5,7 @@ use borrow.Author.Tests.{eqb-false}
 use Rattle.vectors.specs.declared.Vector.{Vector}
 use Rattle.fit.specs.Fit.{axis}
 use Rattle.fit.specs.Room.{observed_part, base_part, misfit_part, design_part, step_number, step_at, place_at, run_at}
-use Rattle.fit.specs.Contracts.{Measured, Based, Columned, Apart, Differentiated, Designed, Linearised}
+use Rattle.fit.specs.WorkLeaves.{Measured, Based, Columned, Apart, Differentiated, Designed, Linearised}
 use Rattle.fit.proofs.Rows.{step_kept}
 use Rattle.integrate.specs.Room.{Holds3, Only, Orbit, Run}
 use Rattle.laws.specs.Floats.{◌⊖◌}

@@ -13,7 +13,7 @@ use Rattle.laws.specs.Checks.{rising_seconds}
 use Rattle.fit.specs.declared.kernel.Held.{Held}
 use Rattle.fit.specs.declared.kernel.Fitted.{Fitted as Fit}
 use Rattle.fit.specs.declared.kernel.Fitted.TheVariants.{Refused}
-use Rattle.fit.specs.Contracts.{Fits, arc_serves, Serving, ArcFit}
+use Rattle.fit.specs.WorkLeaves.{Fits, arc_serves, Serving, ArcFit}
 use Rattle.fit.specs.Room.{work_size}
 
 fits_here : (N steps room : ℕ) → N ≤ 180 → steps ≤ 5302 → front_size N + run_size ≤ room → run_fits N steps room ≡ true

@@ -8,7 +8,7 @@ use Rattle.fit.specs.declared.kernel.Held.{Held}
 use Rattle.fit.specs.declared.kernel.Held.TheVariants.{Known, Missing}
 use Rattle.fit.specs.declared.kernel.Fitted.{Fitted as Fit}
 use Rattle.fit.specs.Fit.{Observed, axis, nth, seen, observed_to, observed, start_of, misfit_at, misfits_of, design_at, misfits_at, improved, regular, rms_at, fitted_from, fit_from, fit_of, held, orbit_of}
-use Rattle.fit.specs.Contracts.{Within}
+use Rattle.fit.specs.WorkLeaves.{Within}
 use Rattle.fit.proofs.Steps.{within}
 use Rattle.forces.specs.Forces.{empirical_of, fictitious_of}
 use Rattle.integrate.specs.Force.{acceleration_of, argument_of, run_of, strengths_of}

@@ -11,7 +11,7 @@ use Rattle.fit.specs.declared.kernel.Held.{Held}
 use Rattle.fit.specs.declared.kernel.Held.TheVariants.{Known, Missing}
 use Rattle.fit.specs.Fit.{Observed, nth, seen, observed_to, observed}
 use Rattle.fit.specs.Room.{observed_part, base_part, Observes}
-use Rattle.fit.specs.Contracts.{Stored, Noted, Observing}
+use Rattle.fit.specs.WorkLeaves.{Stored, Noted, Observing}
 use Rattle.fit.proofs.Rows.{set_only}
 use Rattle.integrate.proofs.Places.{only_same, only_then, stays3}
 use Rattle.integrate.specs.Room.{Holds3, Only}

@@ -8,7 +8,7 @@ use Rattle.integrate.specs.declared.kernel.Force.TheVariants.{Full, J2}
 use Rattle.fit.specs.declared.kernel.Fitted.{Fitted as Fit}
 use Rattle.fit.specs.Fit.{Observed, axis, nth, moved_of, updated_of, misfit_at, misfits_of, partial_at, design_of, design_at, misfits_at, improved, regular}
 use Rattle.fit.specs.Room.{observed_part, misfit_part, design_part, work_size, Observes, step_number, step_at, place_at}
-use Rattle.fit.specs.Contracts.{Linearised, Within, Rounded}
+use Rattle.fit.specs.WorkLeaves.{Linearised, Within, Rounded}
 use Rattle.fit.proofs.Columns.{axis_of}
 use Rattle.forces.specs.Forces.{j2_of}
 use Rattle.inputs.specs.Inputs.{Model}

@@ -3,7 +3,7 @@ use Rattle.std.proofs.Common.{◌≡◌, ℕ, ◌+◌, ◌*◌, ◌/◌, ◌%◌
 use lib.Ieee.{Float, nan, fin, lt, to_unsigned}
 use borrow.Author.Tests.{eqb-false}
 use Rattle.fit.specs.Room.{observed_part, base_part, misfit_part, design_part, work_size, step_number, step_at, place_at, run_at}
-use Rattle.fit.specs.Contracts.{Measured, Based, Columned}
+use Rattle.fit.specs.WorkLeaves.{Measured, Based, Columned}
 use Rattle.integrate.proofs.Places.{only_same, only_then}
 use Rattle.integrate.specs.Room.{Only}
 use Rattle.laws.specs.Floats.{◌⊖◌}

@@ -9,7 +9,7 @@ use Rattle.fit.specs.declared.kernel.Held.{Held}
 use Rattle.fit.specs.declared.kernel.Held.TheVariants.{Known, Missing}
 use Rattle.fit.specs.Fit.{Observed, nth, seen, observed_to, observed}
 use Rattle.fit.specs.Room.{step_number}
-use Rattle.fit.specs.Contracts.{Within}
+use Rattle.fit.specs.WorkLeaves.{Within}
 use Rattle.laws.specs.WholeNumbers.{number}
 use Rattle.laws.specs.Bools.{by, left_true, right_true}
 use Rattle.laws.specs.Times.{step_time}

@@ -12,7 +12,7 @@ use Rattle.fit.specs.declared.kernel.Fitted.{Fitted as Fit}
 use Rattle.fit.specs.declared.kernel.Fitted.TheVariants.{Fitted, Refused}
 use Rattle.fit.specs.Fit.{Observed, axis, observed, start_of, misfits_of, misfits_at, improved, regular, rms_of, rms_at, fitted_from, fit_of, orbit_of}
 use Rattle.fit.specs.Room.{observed_part, base_part, misfit_part, design_part, work_size, Observes, step_at, place_at, run_at}
-use Rattle.fit.specs.Contracts.{Measured, Apart, Within, Rounded, Finished, FitFrom, Fits, Observing}
+use Rattle.fit.specs.WorkLeaves.{Measured, Apart, Within, Rounded, Finished, FitFrom, Fits, Observing}
 use Rattle.fit.proofs.Columns.{run_reads, step_past, place_past, apart_then}
 use Rattle.fit.proofs.Rounds.{misfit_list, full_is}
 use Rattle.fit.proofs.Steps.{within}

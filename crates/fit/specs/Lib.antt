@@ -1,5 +1,5 @@
 pub mod Fit
 pub mod Room
-pub mod Contracts
+pub mod WorkLeaves
 pub mod Calls
 pub mod Handing

@@ -13,8 +13,8 @@ ghost use Rattle.integrate.specs.Force.{full_force, attraction_of, run_of};
 ghost use Rattle.integrate.specs.declared.kernel.Force.TheVariants.{Full, J2};
 ghost use Rattle.fit.specs.Fit.{state_for, seen, observed, start_of, scale_of, moved_of, updated_of, rms_of};
 ghost use Rattle.fit.specs.Room.{base_part, work_size, step_number, step_at, place_at, run_at};
-ghost use Rattle.fit.specs.Contracts.{Measured, Based, Columned, Stored, Noted, Observing, Designed, Differentiated, Linearised, Rounded};
-ghost use Rattle.fit.specs.Contracts.{Finished, FitFrom, Fits, arc_serves, Serving, ArcFit};
+ghost use Rattle.fit.specs.WorkLeaves.{Measured, Based, Columned, Stored, Noted, Observing, Designed, Differentiated, Linearised, Rounded};
+ghost use Rattle.fit.specs.WorkLeaves.{Finished, FitFrom, Fits, arc_serves, Serving, ArcFit};
 
 // Observed steps: step, x, y, z.
 const OBSERVED: usize = 31_818;

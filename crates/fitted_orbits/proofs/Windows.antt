@@ -25,7 +25,7 @@ use Rattle.integrate.specs.Room.{Run}
 use Rattle.integrate.specs.declared.kernel.State.{State}
 use Rattle.integrate.specs.declared.kernel.Arc.{Arc as ArcStruct}
 use Rattle.fit.specs.Fit.{fit_of, orbit_of}
-use Rattle.fit.specs.Contracts.{arc_serves, Fits, ArcFit}
+use Rattle.fit.specs.WorkLeaves.{arc_serves, Fits, ArcFit}
 use Rattle.fit.specs.declared.kernel.Held.{Held}
 use Rattle.fit.specs.declared.kernel.Fitted.{Fitted}
 use Rattle.fit.specs.declared.kernel.Fitted.TheVariants.{Fitted as Rms, Refused}

@@ -1,6 +1,6 @@
 -- `fit::kernel::column`: in the first r rows column i is the run less the base; the other columns, and all before the design, are unchanged. Assumes nothing.
 use Rattle.fit.proofs.Rows.{columned_none, columned_more}
-use Rattle.fit.specs.Contracts.{Columned}
+use Rattle.fit.specs.WorkLeaves.{Columned}
 use Rattle.std.proofs.Common.{◌≡◌, ◌-◌, ◌*◌, ◌≤◌, arith, rules}
 use Rattle.fit.proofs.kernel.column.Statement.{statement}
 use Rattle.fit.proofs.kernel.column.Tie as tie

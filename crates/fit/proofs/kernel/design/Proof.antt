@@ -1,7 +1,7 @@
 -- `fit::kernel::design`: the first i columns are those of the runs with their parameter moved; from the observations on only the design changes. Assumes nothing.
 use Rattle.fit.proofs.Columns.{designed_none, designed_more}
 use Rattle.fit.specs.Fit.{moved_of}
-use Rattle.fit.specs.Contracts.{Designed}
+use Rattle.fit.specs.WorkLeaves.{Designed}
 use Rattle.integrate.specs.Force.{run_of, attraction_of}
 use Rattle.integrate.specs.declared.kernel.Force.TheVariants.{J2}
 use Rattle.std.proofs.Common.{◌≡◌, ℕ, ◌-◌, ◌*◌, ◌≤◌, arith, rules}

@@ -1,6 +1,6 @@
 -- `fit::kernel::misfits`: the first r misfits are observed less run coordinate, and nothing outside their part has moved. Assumes nothing.
 use Rattle.fit.proofs.Rows.{measured_none, measured_more}
-use Rattle.fit.specs.Contracts.{Measured}
+use Rattle.fit.specs.WorkLeaves.{Measured}
 use Rattle.std.proofs.Common.{◌≡◌, ◌-◌, ◌*◌, ◌≤◌, arith, rules}
 use Rattle.fit.proofs.kernel.misfits.Statement.{statement}
 use Rattle.fit.proofs.kernel.misfits.Tie as tie
