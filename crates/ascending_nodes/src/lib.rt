@@ -1,5 +1,6 @@
 // The times at which an orbit crosses the equator northward.
 #![tactic(auto)]
+
 ghost use Rattle.std.specs.Prelude.{◌≡◌, ◌+◌, ◌-◌, ◌*◌, ◌<◌, ◌≤◌, [], ◌∷◌, length};
 ghost use Rattle.slices.specs.Calls.{left};
 ghost use Rattle.ascending_nodes.specs.Nodes.{second_at, height_at, rises_of, crosses_at, crossing_at, NodesIn};

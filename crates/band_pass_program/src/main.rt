@@ -1,5 +1,6 @@
 // The band-pass program of document 01: samples on standard input, a line each, and their passed values on standard output. `answer` decides all of it.
 #![tactic(auto)]
+
 ghost use Rattle.std.specs.Prelude.{◌≡◌, ◌++◌, ◌+◌, ◌*◌, ◌/◌, ◌≤◌, ◌<◌, length, take};
 ghost use Rattle.io.specs.Counts.{IsPrefixLen};
 ghost use Rattle.hexadecimal.specs.Digits.{word_at, decimal_of, is_word, float_at};

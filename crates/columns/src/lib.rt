@@ -1,5 +1,6 @@
 // The detrended and the passed column of a sheet, from the times and raw values of its first entries.
 #![tactic(auto)]
+
 ghost use Rattle.std.specs.Prelude.{◌≡◌, [], ◌∷◌, map, ◌*◌, ◌≤◌, length, take};
 ghost use Rattle.finality.specs.Sheet.{published};
 ghost use Rattle.detrend.specs.Revolutions.{removed_of};

@@ -1,5 +1,6 @@
 // Detrending by revolutions.
 #![tactic(auto)]
+
 pub mod kernel;
 mod work;
 

@@ -1,5 +1,6 @@
 // One epoch from what was found at its second: the field at its time, and its record (document 01, module 5).
 #![tactic(auto)]
+
 pub mod kernel;
 
 ghost use Rattle.std.specs.Prelude.{◌≡◌, true, ◌&&◌, ◌≤◌, length};

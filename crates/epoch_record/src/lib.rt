@@ -1,5 +1,6 @@
 // One epoch's record (document 01, module 5).
 #![tactic(auto)]
+
 #[derive(Clone, Copy)]
 pub struct Epoch {
     pub t: f64,

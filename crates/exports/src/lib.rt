@@ -5,6 +5,7 @@
 //   go into a lent list that has a place for each, else 3. NaN never leaves them. `prepare` and `partials_prepared` are such calls over the kernel of
 //   `partials`, for many evaluations at one degree: they do not look at the numbers in the tables and in the work slice.
 #![tactic(auto)]
+
 mod answers;
 mod places;
 mod prepared;

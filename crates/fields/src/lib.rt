@@ -1,5 +1,6 @@
 // Module 1 of document 01, fields: the public calls. The crate `legendre` and `kernel` do the work.
 #![tactic(auto)]
+
 pub mod kernel;
 
 ghost use Rattle.std.specs.Prelude.{◌≡◌, [], ◌∷◌, ◌++◌, ℕ, ◌+◌, ◌*◌, ◌≤◌, ◌<◌, length, take};

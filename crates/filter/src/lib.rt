@@ -1,5 +1,6 @@
 // Module 7 of document 01: the zero-phase band-pass filter. Each call here tests its arguments and its answer; `work` does the work.
 #![tactic(auto)]
+
 ghost use Rattle.std.specs.Prelude.{◌≡◌, [], ◌∷◌, length};
 ghost use Rattle.slices.specs.Calls.{left};
 ghost use Rattle.filter.specs.Filter.{rest, step_of};

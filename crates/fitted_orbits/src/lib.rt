@@ -1,5 +1,6 @@
 // Fitted orbits of one satellite (document 01, module 4).
 #![tactic(auto)]
+
 mod work;
 
 ghost use Rattle.std.specs.Prelude.{◌≡◌, ◌&&◌, ◌-◌, ◌*◌, eqb, length};

@@ -1,6 +1,7 @@
 // Numbers as text: a u64 as 16 uppercase hexadecimal digits, the most significant first; a count in decimal; and the
 // bit patterns of doubles.
 #![tactic(auto)]
+
 ghost use Rattle.std.specs.Prelude.{◌≡◌, ◌<◌, ◌≤◌, length};
 ghost use Rattle.std.specs.Float.{binary64};
 ghost use Rattle.std.specs.Float.Ieee.{of_bits as Ieee·ofBits, to_bits as Ieee·toBits};

@@ -1,5 +1,6 @@
 // Document 01, module 9: the horizon, how many entries are final, and those entries of the caller's own list.
 #![tactic(auto)]
+
 ghost use Rattle.std.specs.Prelude.{◌≡◌, true};
 ghost use Rattle.horizon.specs.Horizon.{final_entries};
 ghost use Rattle.horizon.specs.Calls.{given, counts_within, given_fine, given_rise, refusal_of, horizon_call, final_count_call};

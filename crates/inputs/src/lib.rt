@@ -1,5 +1,6 @@
 // Tests of the lists that the calls of modules 3 to 5 and the whole path are lent.
 #![tactic(auto)]
+
 ghost use Rattle.std.specs.Prelude.{◌≡◌, ◌&&◌, ℕ, ◌+◌, ◌-◌, ◌*◌, ◌≤◌, ◌<◌, length, leb, eqb};
 ghost use Rattle.laws.specs.Checks.{degree_fine};
 ghost use Rattle.inputs.specs.Inputs.{lent_list, model_of, pair_of, inputs, inputs_fit, inputs_fine, pair_fine, model_sized, sizes_fit, window_room, kind};

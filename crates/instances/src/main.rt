@@ -1,6 +1,7 @@
 // What the compiled code gives at document 01's instances, a word a line in the order of the list; the expected output has the document's bits. The last
 // two lines are counts.
 #![tactic(auto)]
+
 ghost use Rattle.std.specs.Prelude.{◌≡◌, ◌+◌, ◌≤◌, length};
 
 fn roots() {

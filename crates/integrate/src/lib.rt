@@ -1,5 +1,6 @@
 // Orbits by the classical Runge-Kutta rule, and the force chosen by an enum.
 #![tactic(auto)]
+
 pub mod kernel;
 
 ghost use Rattle.std.specs.Prelude.{◌≡◌, ◌+◌, ◌*◌, ◌≤◌, [], ◌∷◌, length};

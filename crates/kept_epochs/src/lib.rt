@@ -1,5 +1,6 @@
 // The kept epochs of the whole path (document 01, modules 5 and 8): their times and residuals, from the fitted states in the slots of both satellites.
 #![tactic(auto)]
+
 ghost use Rattle.std.specs.Prelude.{◌≡◌, true, List, ◌+◌, ◌≤◌, ◌<◌, Float, length};
 ghost use Rattle.laws.specs.Checks.{rising_seconds};
 ghost use Rattle.inputs.specs.Inputs.{model_of, front_size, lent_list, pair_of, observed_of};

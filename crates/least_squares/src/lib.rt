@@ -1,5 +1,6 @@
 // Least squares by normal equations and Gauss-Jordan elimination with partial pivoting.
 #![tactic(auto)]
+
 pub mod kernel;
 
 ghost use Rattle.std.specs.Prelude.{◌≡◌, [], ◌∷◌, ◌+◌, ◌*◌, ◌≤◌, ◌<◌, eqb, length};

@@ -1,5 +1,6 @@
 // The time-variable gravity model (module 3 of document 01): the static field with each added field, blended linearly in time.
 #![tactic(auto)]
+
 pub mod kernel;
 
 ghost use Rattle.std.specs.Prelude.{◌≡◌, [], ◌∷◌, ℕ, ◌+◌, ◌*◌, ◌-◌, ◌≤◌, ◌<◌, length};

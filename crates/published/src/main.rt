@@ -1,6 +1,7 @@
 // The engine beside published values of the series that it cites: for each the published value, the engine's own, the difference, and whether that lies
 // within the source's accuracy. The last line counts those that do; a refused answer never does (specs/Judged.antt).
 #![tactic(auto)]
+
 use table::Tally;
 
 mod band;

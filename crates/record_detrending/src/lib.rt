@@ -1,5 +1,6 @@
 // Detrending of a list of epoch records: times and residuals go into the scratch, are detrended there, and the residuals come back.
 #![tactic(auto)]
+
 ghost use Rattle.std.specs.Prelude.{◌≡◌, ◌+◌, ◌*◌, ◌≤◌, ◌<◌, length, take};
 ghost use borrow.Rule.Slice.PartMut.{mid_of};
 ghost use Rattle.epoch_record.specs.EpochRecord.{epoch_fits, put_back};

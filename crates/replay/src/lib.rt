@@ -4,6 +4,7 @@
 // NaN is read as one. The expected output is the oracle's answers in the same form (oracle/README.md). Where the input
 // ends, or a line is malformed, there is no more to read.
 #![tactic(auto)]
+
 ghost use Rattle.std.specs.Prelude.{◌≡◌, ◌<◌, ◌≤◌, eqb, length, drop};
 ghost use Rattle.std.specs.Float.{binary64};
 ghost use Rattle.std.specs.Float.Ieee.{to_bits};

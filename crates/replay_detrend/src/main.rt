@@ -1,6 +1,7 @@
 // Replays the oracle's list of revolutions, detrending and nodes: each call is its number and its arguments, a word a line. A slice is its length, how many of
 // its numbers are given, and these; the others are 0. Outputs and scratch hold 7 before a call.
 #![tactic(auto)]
+
 use replay::Item;
 
 fn fill_counts(out: &mut [usize], given: usize) {

@@ -1,6 +1,7 @@
 // Replays the oracle's list of module 1: each call is its number and its arguments, a word a line; a slice is preceded by its
 // length. Outputs stand at 3.0 and scratch at 7.0 before a call; of long tables every so many numbers are told.
 #![tactic(auto)]
+
 use replay::Item;
 
 // 0 where the scratch is +0.0, 1 where it is unchanged, 2 otherwise.

@@ -2,6 +2,7 @@
 // these; behind them stands +0.0. An output or a scratch is its length alone, and 7.0 stands in each place. A call's answer is its refusal or 0, what it
 // handed out or else the state of the output, and the state of the scratch.
 #![tactic(auto)]
+
 use replay::Item;
 
 // What the call handed out, or the state of the output after a refusal; and the state of the scratch.

@@ -1,6 +1,7 @@
 // Replays the oracle's list of forces: each call is its number and its arguments, a word a line. An answer is 0 or the
 // refusal's number, and then the numbers handed out.
 #![tactic(auto)]
+
 use replay::Item;
 
 fn vector() -> vectors::Vector {

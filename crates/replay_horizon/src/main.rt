@@ -2,6 +2,7 @@
 // Printed are the number of the horizon's refusal, or 0 with 1 and the horizon, or with 0; then the number of F's, or 0 and F. Of a window the start, the
 // steps, the node and the period of its arc.
 #![tactic(auto)]
+
 use horizon::HorizonAnswer;
 use replay::Item;
 use slices::Counted;

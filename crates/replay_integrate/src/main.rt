@@ -1,6 +1,7 @@
 // Replays the oracle's list of `integrate`: each call is its number and its arguments, a word a line; a slice is preceded by
 // its length. The output stands at 3.0 and the scratch at 7.0 before a call.
 #![tactic(auto)]
+
 use replay::Item;
 
 fn arc_of() -> integrate::kernel::Arc {

@@ -1,6 +1,7 @@
 // Replays the oracle's list of the model: each call is its number and its arguments, a word a line; a slice is preceded by
 // its length. Outputs stand at 3.0 and scratch at 7.0 before a call.
 #![tactic(auto)]
+
 use replay::Item;
 
 fn covers() {

@@ -1,5 +1,6 @@
 // Replays the oracle's list of elementary numbers: each call is its number and its arguments, a word a line.
 #![tactic(auto)]
+
 use replay::Item;
 
 // Calls 0 to 3 and 5, 7 take one double.

@@ -2,6 +2,7 @@
 // how many of its numbers are given, and these; the others are 0. Outputs stand at 3.0 or 3 and scratch at 7.0 before a call; of an output some numbers
 // are told, and the sum of all patterns.
 #![tactic(auto)]
+
 ghost use Rattle.std.specs.Prelude.{◌≡◌, nat_eq};
 ghost use Rattle.std.specs.Int.{w64};
 ghost use Rattle.std.proofs.Common.{of_z};

@@ -2,6 +2,7 @@
 // length of the scratch, which holds 7.0 before the call. A record is its time, residual, five terms, midpoint and velocity. Printed are the answer, each
 // record whole, and what became of the scratch.
 #![tactic(auto)]
+
 ghost use Rattle.std.specs.Prelude.{◌≡◌, ◌≤◌, take};
 ghost use Rattle.record_detrending.specs.Calls.{left_records, remove_call};
 

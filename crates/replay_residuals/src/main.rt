@@ -1,6 +1,7 @@
 // Replays the oracle's list of module 5: each call is its number and its arguments, a word a line; a slice is preceded by
 // its length. Scratch and outputs stand at 7.0 before a call.
 #![tactic(auto)]
+
 use replay::Item;
 
 // The refusal's number, whether it is kept, and the record.

@@ -1,6 +1,7 @@
 // Replays the oracle's list of the whole path: each call is its number and its arguments, a word a line. A slice is its length, how many of its numbers
 // are given, and these; the others are 0. Outputs stand at 3.0 and scratch at 7.0 before a call.
 #![tactic(auto)]
+
 ghost use Rattle.std.specs.Prelude.{◌≤◌, ◌-◌, length};
 
 use replay::Item;

@@ -1,5 +1,6 @@
 // Module 5 of document 01: range-acceleration residuals of the satellites C and D.
 #![tactic(auto)]
+
 mod filling;
 mod work;
 

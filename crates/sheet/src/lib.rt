@@ -1,5 +1,6 @@
 // Module 8 of document 01, the whole path: one call from a submission to the columns of its sheet, with the number of kept epochs and of final ones.
 #![tactic(auto)]
+
 mod tests;
 mod work;
 

@@ -1,6 +1,7 @@
 // The sheet of one submission: its text on standard input, line by line (crate `submission_text`), and the sheet on standard output. `answer` decides what
 // is printed.
 #![tactic(auto)]
+
 ghost use Rattle.std.specs.Prelude.{◌≡◌, ◌++◌, ◌∷◌, [], ◌+◌, ◌*◌, ◌/◌, ◌%◌, ◌≤◌, ◌<◌, min, length, take, pos};
 ghost use Rattle.std.specs.Float.{nan};
 ghost use Rattle.io.specs.Counts.{IsPrefixLen};
@@ -535,7 +536,11 @@ fn answer(at: submission_text::Reading, scratch: &mut [f64]) {
 
 // Whether a header ends with a byte: a line feed, or in the last place any but a digit.
 fn ends(b: u8, full: bool) -> bool {
-    if full { 10 <= hexadecimal::digit(b) } else { b == 10 }
+    if full {
+        10 <= hexadecimal::digit(b)
+    } else {
+        b == 10
+    }
 }
 
 // Reads a header, to its line feed. The last place takes each digit of a count for which there is no more room: of a count that long any digits may be left

@@ -1,5 +1,6 @@
 // What is done to lent slices, and what every public call shares.
 #![tactic(auto)]
+
 ghost use Rattle.std.specs.Prelude.{◌≡◌, true, cond, ◌&&◌, reverse as reversed, length};
 ghost use Rattle.std.specs.Float.Ieee.Scale.{finite};
 ghost use Rattle.laws.specs.Checks.{all, is_key, is_time, rising as rising_of, rising_seconds};

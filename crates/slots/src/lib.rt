@@ -1,5 +1,6 @@
 // The fitted states of both satellites in one lent slice, and the look-up of a second over all windows.
 #![tactic(auto)]
+
 ghost use Rattle.std.specs.Prelude.{◌≡◌, ℕ, ◌+◌, ◌*◌, ◌≤◌, ◌&&◌, length};
 ghost use Rattle.laws.specs.WholeNumbers.{number};
 ghost use Rattle.finality.specs.Brackets.{covers};

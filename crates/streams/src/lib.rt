@@ -1,6 +1,7 @@
 // Standard input and standard output of a program, with their failures: a read that fails is no end of the input, and a text that cannot be written whole
 // is told of on standard error. A call that a signal interrupts counts as failed. No contract can say what is read and written.
 #![tactic(auto)]
+
 ghost use Rattle.streams.specs.Got.{Within};
 
 use io;

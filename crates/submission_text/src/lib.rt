@@ -1,6 +1,7 @@
 // A submission as text, taken line by line: sections `NAME COUNT`, each followed by COUNT lines of hexadecimal words. What was read is a `Reading` and
 // the numbers of the lines in order: of each section its count, and then its words as the doubles of those bits.
 #![tactic(auto)]
+
 ghost use Rattle.std.specs.Prelude.{◌≡◌, ◌+◌, ◌*◌, ◌≤◌, ◌<◌, length, leb};
 ghost use Rattle.hexadecimal.specs.Digits.{is_digit, word_at, is_word, bits_of, float_at};
 ghost use Rattle.laws.specs.Checks.{all};

@@ -1,5 +1,6 @@
 // The places of the Sun and the Moon (module 2 of document 01). Crate `forces` has the call that tests its argument.
 #![tactic(auto)]
+
 use vectors;
 
 pub mod kernel;

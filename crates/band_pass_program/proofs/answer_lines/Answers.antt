@@ -1,0 +1,6 @@
+use Rattle.band_pass_program.proofs.ProgramText.{lines_print}
+use borrow.Author.Rules.{rules}
+use Rattle.band_pass_program.proofs.answer_lines.Goals as goal
+
+pub returns : goal.returns
+returns c = search (rules, lines_print)

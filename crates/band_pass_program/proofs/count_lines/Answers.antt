@@ -1,0 +1,6 @@
+use borrow.Author.Rules.{rules}
+use Rattle.band_pass_program.proofs.ProgramText.{text_lines}
+use Rattle.band_pass_program.proofs.count_lines.Goals as goal
+
+pub returns : goal.returns
+returns c = (search rules, search (rules, text_lines))

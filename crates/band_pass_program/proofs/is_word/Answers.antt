@@ -1,0 +1,9 @@
+use Rattle.hexadecimal.proofs.DigitLoops.{word-true, word-false}
+use borrow.Author.Rules.{rules}
+use Rattle.band_pass_program.proofs.is_word.Goals as goal
+
+pub returns-in-Value : goal.returns-in-Value
+returns-in-Value c = search (rules, word-true)
+
+pub returns-in-Malformed : goal.returns-in-Malformed
+returns-in-Malformed c = search (rules, word-false)

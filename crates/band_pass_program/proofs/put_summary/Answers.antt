@@ -1,0 +1,6 @@
+use Rattle.band_pass_program.proofs.ProgramText.{summary_prints}
+use borrow.Author.Rules.{rules}
+use Rattle.band_pass_program.proofs.put_summary.Goals as goal
+
+pub returns : goal.returns
+returns c = search (rules, summary_prints)

@@ -1,0 +1,15 @@
+-- `detrend::clear_counts`: the zeros written, with the zeros to come, are as many as the list is long. Assumes nothing.
+use mathlib.Core.Path.{◌≡◌, refl}
+use mathlib.Core.List.{◌++◌}
+use Prim.Native.Nat.{◌+◌, ◌-◌}
+use borrow.Author.Rules.{rules}
+use lib.ListN.{length, take, replicate}
+use native.Mathlib.Nat.{sub-zero}
+use Rattle.laws.specs.Loops.{clear_turn, clear_done}
+use Rattle.detrend.proofs.clear_counts.Given as goal
+
+abbrev pub invariant-loop-i : goal.invariant-loop-i
+invariant-loop-i l = (length l.a ≡ length l.initial.a) × (take l.i l.a ++ replicate (length l.initial.a - l.i) 0 ≡ replicate (length l.initial.a) 0)
+
+abbrev pub decreases-loop-i : goal.decreases-loop-i
+decreases-loop-i l = length l.initial.a - l.i

@@ -1,0 +1,31 @@
+-- `detrend::work::remove_all`: what is done, with the revolutions left on the rest, is the removal over all nodes. Assumes nothing.
+use mathlib.Core.Path.{◌≡◌, refl}
+use mathlib.Core.List.{◌++◌}
+use Prim.Native.Nat.{◌+◌, ◌-◌, ◌<◌, ◌≤◌}
+use native.Mathlib.Omega.{arith}
+use borrow.Author.Rules.{rules}
+use borrow.Rule.Slice.PartMut.{mid_of}
+use lib.Ieee.{nan}
+use lib.ListN.{length, take, drop, get_or}
+use Rattle.detrend.specs.Revolutions.{windows_of, removed_of}
+use Rattle.detrend.proofs.RevolutionWalk.{removed_starts, removed_turn, removed_done, starts_inside, ends_inside, times_kept}
+use Rattle.detrend.proofs.work.remove_all.Goals as goal
+
+pub loop-k-init : goal.loop-k-init
+loop-k-init c = (omega arith, omega arith, search (rules, starts_inside), refl, refl, search (rules, removed_starts))
+
+pub loop-k-preserved : goal.loop-k-preserved
+loop-k-preserved c =
+    let s = c.args in
+    let l = c.loop-k in
+    let w = c.window-first in (
+      omega arith,
+      omega arith,
+      search (rules, ends_inside),
+      search rules,
+      search (rules, times_kept),
+      removed_turn s.n l.first l.k w.result s.nodes.now l.s s.s.now w.new.0 (omega arith) (omega arith) (omega arith) l.invariant.3 l.invariant.4 w.ensures l.invariant.5,
+    )
+
+pub returns : goal.returns
+returns c = search (rules, removed_done)

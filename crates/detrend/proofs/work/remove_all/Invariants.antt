@@ -1,0 +1,20 @@
+-- `detrend::work::remove_all`: what is done, with the revolutions left on the rest, is the removal over all nodes. Assumes nothing.
+use mathlib.Core.Path.{◌≡◌, refl}
+use mathlib.Core.List.{◌++◌}
+use Prim.Native.Nat.{◌+◌, ◌-◌, ◌<◌, ◌≤◌}
+use native.Mathlib.Omega.{arith}
+use borrow.Author.Rules.{rules}
+use borrow.Rule.Slice.PartMut.{mid_of}
+use lib.Ieee.{nan}
+use lib.ListN.{length, take, drop, get_or}
+use Rattle.detrend.specs.Revolutions.{windows_of, removed_of}
+use Rattle.detrend.proofs.RevolutionWalk.{removed_starts, removed_turn, removed_done, starts_inside, ends_inside, times_kept}
+use Rattle.detrend.proofs.work.remove_all.Given as goal
+
+abbrev pub invariant-loop-k : goal.invariant-loop-k
+invariant-loop-k l =
+    (0 < l.k) × (l.k ≤ length l.initial.s) × (l.first ≤ l.nodes) × (length l.s ≡ length l.n) × (take l.nodes l.s ≡ take l.nodes l.n) ×
+    (take l.first (mid_of l.nodes l.nodes l.s) ++ windows_of (get_or l.initial.s (l.k - 1) nan) (drop l.k l.initial.s) (drop l.first (take l.nodes l.n)) (drop l.first (mid_of l.nodes l.nodes l.s)) ≡ removed_of l.initial.s (take l.nodes l.n) (mid_of l.nodes l.nodes l.n))
+
+abbrev pub decreases-loop-k : goal.decreases-loop-k
+decreases-loop-k l = length l.initial.s - l.k

@@ -1,0 +1,17 @@
+-- `detrend::work::subtract_fit`: the first i values are less their fit, the others unchanged. Assumes nothing.
+use mathlib.Core.Path.{◌≡◌, refl}
+use Prim.Native.Nat.{◌-◌, ◌*◌, ◌≤◌}
+use native.Mathlib.Omega.{arith}
+use borrow.Author.Rules.{rules}
+use borrow.Rule.Slice.PartMut.{mid_of, put_mid}
+use lib.ListN.{length, take}
+use Rattle.detrend.specs.Work.{less_rows}
+use Rattle.detrend.proofs.RevolutionFit.{less_none, less_turn, less_done}
+use Rattle.detrend.proofs.work.subtract_fit.Given as goal
+
+abbrev pub invariant-loop-i : goal.invariant-loop-i
+invariant-loop-i l =
+    (l.i ≤ l.rows) × (length l.s ≡ length l.from) × (l.s ≡ put_mid l.count l.i l.from (take l.i (less_rows l.initial.s (mid_of l.beta (6 * l.rows) l.from) (mid_of l.count l.rows l.from))))
+
+abbrev pub decreases-loop-i : goal.decreases-loop-i
+decreases-loop-i l = l.rows - l.i

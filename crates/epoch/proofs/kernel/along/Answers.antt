@@ -1,0 +1,11 @@
+use Rattle.epoch.specs.Epoch.{along_of}
+use borrow.Author.Rules.{rules}
+use Rattle.epoch.proofs.kernel.along.Goals as goal
+
+pub returns : goal.returns
+unfolding along_of
+returns c =
+    simp (
+      c.dot.ensures,
+      c.sub.ensures,
+    )

@@ -1,0 +1,12 @@
+use Rattle.epoch.specs.Epoch.{middle_of}
+use lib.Ieee.{of_bits, round}
+use borrow.Author.Rules.{rules}
+use Rattle.epoch.proofs.kernel.middle.Goals as goal
+
+pub returns : goal.returns
+unfolding middle_of of_bits round
+returns c =
+    simp (
+      c.scale.ensures,
+      c.add.ensures,
+    )

@@ -1,0 +1,21 @@
+-- `filter::work::both_ways`: padded, run, reversed, run again and reversed again, from what each call ensures, by one law. Assumes nothing.
+use mathlib.Core.Path.{◌∙◌}
+use Rattle.filter.specs.Sections.{sections_of}
+use Rattle.filter.proofs.Turns.{both_law}
+use borrow.Author.Rules.{rules}
+use Rattle.filter.proofs.work.both_ways.Goals as goal
+
+pub returns : goal.returns
+returns c =
+    let s = c.args in
+    let q = c.requires in
+    let padded = c.pad_oddly in
+    let forth = c.run_sections in
+    let turned = c.reverse in
+    let back = c.run_sections-2 in
+    let again = c.reverse-2 in
+    let part = c.copy in
+    both_law (sections_of s.sections.now) s.x.now s.out.now padded.new.1.1.0 forth.new.1.0 turned.new.0 back.new.1.0 again.new.0 part.new.1.0 s.p
+    q.2
+    (again.auto.0 ∙ back.auto.1.0 ∙ turned.auto.0 ∙ forth.auto.1.0 ∙ padded.auto.1.1.0 ∙ q.1)
+    padded.ensures forth.ensures turned.ensures back.ensures again.ensures part.ensures

@@ -1,0 +1,11 @@
+-- `fit::kernel::column`: in the first r rows column i is the run less the base; the other columns, and all before the design, are unchanged. Assumes nothing.
+use Rattle.fit.proofs.Rows.{columned_none, columned_more}
+use Rattle.fit.specs.WorkLeaves.{Columned}
+use Rattle.std.proofs.Common.{◌≡◌, ◌-◌, ◌*◌, ◌≤◌, arith, rules}
+use Rattle.fit.proofs.kernel.column.Given as goal
+
+abbrev pub invariant-loop-r : goal.invariant-loop-r
+invariant-loop-r l = (l.r ≤ 3 * l.i) × Columned l.base l.s l.n l.r l.r-end
+
+abbrev pub decreases-loop-r : goal.decreases-loop-r
+decreases-loop-r l = 3 * l.i - l.r

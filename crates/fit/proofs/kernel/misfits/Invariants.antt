@@ -1,0 +1,11 @@
+-- `fit::kernel::misfits`: the first r misfits are observed less run coordinate, and nothing outside their part has moved. Assumes nothing.
+use Rattle.fit.proofs.Rows.{measured_none, measured_more}
+use Rattle.fit.specs.WorkLeaves.{Measured}
+use Rattle.std.proofs.Common.{◌≡◌, ◌-◌, ◌*◌, ◌≤◌, arith, rules}
+use Rattle.fit.proofs.kernel.misfits.Given as goal
+
+abbrev pub invariant-loop-r : goal.invariant-loop-r
+invariant-loop-r l = (l.r ≤ 3 * l.r-end) × Measured l.base l.s l.n l.r
+
+abbrev pub decreases-loop-r : goal.decreases-loop-r
+decreases-loop-r l = 3 * l.r-end - l.r

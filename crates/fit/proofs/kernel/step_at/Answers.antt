@@ -1,0 +1,7 @@
+use Rattle.fit.specs.Room.{step_at}
+use Rattle.std.proofs.Common.{rules}
+use Rattle.fit.proofs.kernel.step_at.Goals as goal
+
+pub returns : goal.returns
+unfolding step_at
+returns c = c.step_of_lem.ensures

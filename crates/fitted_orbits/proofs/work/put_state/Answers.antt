@@ -1,0 +1,29 @@
+use mathlib.Core.Path.{refl}
+use lib.ListN.{length-set}
+use native.Mathlib.Omega.{arith}
+use Rattle.integrate.specs.Room.{state_in}
+use Rattle.fitted_orbits.specs.Work.{put_six}
+use borrow.Author.Rules.{rules}
+use Rattle.fitted_orbits.proofs.work.put_state.Goals as goal
+
+pub bounds-out-at-2 : goal.bounds-out-at-2
+bounds-out-at-2 c = simp length-set (omega arith)
+
+pub bounds-out-at-3 : goal.bounds-out-at-3
+bounds-out-at-3 c = simp length-set (omega arith)
+
+pub bounds-out-at-4 : goal.bounds-out-at-4
+bounds-out-at-4 c = simp length-set (omega arith)
+
+pub bounds-out-at-5 : goal.bounds-out-at-5
+bounds-out-at-5 c = simp length-set (omega arith)
+
+pub bounds-out-at-6 : goal.bounds-out-at-6
+bounds-out-at-6 c = simp length-set (omega arith)
+
+pub shape_of-out : goal.shape_of-out
+shape_of-out c = simp length-set
+
+pub returns : goal.returns
+unfolding put_six state_in
+returns c = refl

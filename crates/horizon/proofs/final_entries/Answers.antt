@@ -1,0 +1,15 @@
+use Rattle.std.proofs.Common.{sym, refl, length-take-le, rules, le-leb}
+use borrow.Author.Tests.{lt-leb}
+use Rattle.horizon.specs.Horizon.{final_entries}
+use Rattle.horizon.proofs.final_entries.Goals as goal
+
+pub slice_bounds-result-end : goal.slice_bounds-result-end
+slice_bounds-result-end c = sym (length-take-le c.args.count c.args.list.now c.if-count-list.true)
+
+pub returns-then-count-list : goal.returns-then-count-list
+unfolding final_entries
+returns-then-count-list c = (simp (le-leb _ _ c.if-count-list.true), refl)
+
+pub returns : goal.returns
+unfolding final_entries
+returns c = (simp (lt-leb _ _ c.if-count-list.false), refl)

@@ -1,0 +1,5 @@
+use borrow.Author.Rules.{rules}
+use Rattle.inputs.proofs.fields_fine.Goals as goal
+
+pub returns : goal.returns
+returns c = c.both.ensures

@@ -1,0 +1,5 @@
+use borrow.Author.Rules.{rules}
+use Rattle.inputs.proofs.inputs_counted.Goals as goal
+
+pub returns : goal.returns
+returns c = c.counts_fine.ensures

@@ -1,0 +1,6 @@
+use borrow.Author.Rules.{rules}
+use Rattle.inputs.proofs.inputs_fit.Goals as goal
+
+pub returns : goal.returns
+returns c =
+    simp (c.both.ensures, c.tables_fit-tables.ensures, c.model_sized-lists.ensures)

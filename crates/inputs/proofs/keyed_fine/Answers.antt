@@ -1,0 +1,8 @@
+use Rattle.inputs.specs.Inputs.{keyed_fine}
+use borrow.Author.Rules.{rules}
+use Rattle.inputs.proofs.keyed_fine.Goals as goal
+
+pub returns : goal.returns
+unfolding keyed_fine
+returns c =
+    simp (c.both.ensures, c.all_finite.ensures, c.all_keys.ensures)

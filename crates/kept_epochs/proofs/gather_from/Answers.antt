@@ -1,0 +1,45 @@
+-- `kept_epochs::gather_from`: after i observations the kept ones among them are listed and counted, and only the front of the work slice has changed. Assumes nothing.
+use mathlib.Core.Path.{sym, ◌∙◌}
+use Prim.Native.Nat.{◌≤◌, ◌-◌}
+use native.Mathlib.Omega.{arith}
+use lib.ListN.{length}
+use Rattle.inputs.specs.Inputs.{model_of, pair_of, observed_of}
+use Rattle.kept_epochs.specs.KeptEpochs.{given}
+use Rattle.kept_epochs.specs.KeptEpochs.{SoFar}
+use Rattle.kept_epochs.proofs.Turns.{ends}
+use Rattle.kept_epochs.proofs.gather_from.Goals as goal
+
+pub loop-i-init : goal.loop-i-init
+loop-i-init c = (omega arith, c.requires)
+
+pub turn-count-requires : goal.turn-count-requires
+turn-count-requires c =
+    (c.loop-i.invariant.1.able, c.loop-i-test.true, c.loop-i.invariant.1.few)
+
+pub overflow_add-i : goal.overflow_add-i
+overflow_add-i c =
+    omega (arith, c.loop-i-test.true, c.well-formed.1.1.1.1.1.0.0)
+
+pub loop-i-smaller : goal.loop-i-smaller
+loop-i-smaller c =
+    omega (arith, c.loop-i-test.true)
+
+pub loop-i-preserved : goal.loop-i-preserved
+loop-i-preserved c =
+    (omega (arith, c.loop-i-test.true), c.turn-count.ensures _ c.loop-i.invariant.1)
+
+pub shape_of-outtimes : goal.shape_of-outtimes
+shape_of-outtimes c = c.loop-i.invariant.1.able.outtimes ∙ sym c.requires.able.outtimes
+
+pub shape_of-outraws : goal.shape_of-outraws
+shape_of-outraws c = c.loop-i.invariant.1.able.outraws ∙ sym c.requires.able.outraws
+
+pub shape_of-s : goal.shape_of-s
+shape_of-s c = c.loop-i.invariant.1.only.long
+
+pub returns : goal.returns
+returns c =
+    let s = c.args in
+    let l = c.loop-i in
+    ends (given (model_of s.degree s.model) (pair_of s.acckeys s.accs) s.windows (observed_of s.obstimes.now s.obsvalues.now s.good.now)) s.base l.i s.s.now
+    l.outtimes l.outraws l.s l.count l.invariant.0 c.loop-i-test.false l.invariant.1

@@ -1,0 +1,34 @@
+-- `least_squares::kernel::swap_rows`: after k columns the array holds the matrix with the two rows swapped in these columns. Assumes nothing.
+use Rattle.least_squares.proofs.MatrixLoops.{holds_same, store_put, swapped_none, swapped_col, swapped_more}
+use mathlib.Core.Path.{◌≡◌, refl, ◌∙◌}
+use Prim.Native.Nat.{◌+◌, ◌-◌, ◌≤◌}
+use native.Mathlib.Omega.{arith}
+use Rattle.least_squares.proofs.MatrixLoops.{Holds, as_it_is, whole}
+use Rattle.least_squares.specs.Flat.{swapped_to, view}
+use Rattle.least_squares.proofs.kernel.swap_rows.Goals as goal
+
+pub loop-k-init : goal.loop-k-init
+loop-k-init c =
+    let s = c.args in
+    (omega arith, refl, holds_same _ _ _ (as_it_is s.a.now c.requires.3) (λ i j a b. swapped_none s.c s.q 0 (view s.a.now) i j))
+
+pub loop-k-preserved : goal.loop-k-preserved
+loop-k-preserved c =
+    let s = c.args in
+    let loop = c.loop-k in
+    let m = view s.a.now in
+    let h = loop.invariant.2 in
+    let u = h.at s.c loop.k (omega arith) (omega arith) ∙ swapped_col s.c s.q loop.k m s.c in
+    let v = h.at s.q loop.k (omega arith) (omega arith) ∙ swapped_col s.c s.q loop.k m s.q in (
+      omega arith,
+      refl,
+      rw (u, v)
+          (holds_same _ _ _
+          (store_put _ _ s.q loop.k _ (omega arith) (omega arith) (store_put loop.a _ s.c loop.k _ (omega arith) (omega arith) h))
+          (λ i j a b. swapped_more s.c s.q loop.k m i j)),
+    )
+
+pub returns : goal.returns
+returns c =
+    let end : c.loop-k.k ≡ c.args.p + 1 = omega arith in
+    whole _ _ (rw end at c.loop-k.invariant.2)

@@ -1,0 +1,13 @@
+use Rattle.legendre.specs.Legendre.{a_of}
+use Prim.Native.Nat.{◌-◌}
+use borrow.Author.Rules.{rules}
+use borrow.Author.Tests.{eq-eqb, ne_eqb}
+use Rattle.legendre.proofs.a_of.Goals as goal
+
+pub returns-then-m-n : goal.returns-then-m-n
+unfolding a_of
+returns-then-m-n c = rw (eq-eqb _ _ c.if-m-n.true)
+
+pub returns : goal.returns
+unfolding a_of
+returns c = rw (ne_eqb _ _ c.if-m-n.false) (cc)

@@ -1,0 +1,20 @@
+-- `legendre::compute_rows`: before degree n both tables hold the rows below n, and the two arrays what the next rows start from. Assumes nothing.
+use borrow.Author.Rules.{rules}
+use Prim.Native.Nat.{ℕ, suc, ◌+◌, ◌-◌, ◌≤◌}
+use mathlib.Core.Path.{◌≡◌, refl}
+use native.Mathlib.Omega.{arith}
+use lib.ListN.{length, take}
+use lib.Ieee.{Float}
+use Rattle.laws.specs.Tables.{tri, rows, tri_next, tri_mono}
+use Rattle.legendre.specs.Rows.{Tables, tables_of, legendre_by, derived_by, Holds}
+use Rattle.legendre.proofs.Recur.{holds_at, room_less, has_less}
+use Rattle.legendre.proofs.Filling.{rows_none, rows_more, rows_full, rows_to}
+use Rattle.legendre.proofs.compute_rows.Given as goal
+
+abbrev pub invariant-loop-n : goal.invariant-loop-n
+invariant-loop-n l =
+    (l.n ≤ l.degree + 1) × Holds (tables_of l.a l.b l.lower l.upper l.heads) l.t l.n l.qa × Holds (tables_of l.a l.b l.lower l.upper l.heads) l.t (suc l.n) l.qb × (length l.x ≡ 184) × (length l.d ≡ 184) × (length l.p ≡ length l.initial.p)
+    × (length l.dp ≡ length l.initial.dp) × (take (tri l.n) l.p ≡ rows (legendre_by (tables_of l.a l.b l.lower l.upper l.heads) l.t l.u) l.n) × (take (tri l.n) l.dp ≡ rows (derived_by (tables_of l.a l.b l.lower l.upper l.heads) l.t l.u) l.n)
+
+abbrev pub decreases-loop-n : goal.decreases-loop-n
+decreases-loop-n l = l.degree + 1 - l.n

@@ -1,0 +1,19 @@
+-- `legendre::derived_row`: the first m places hold the row of the definition, whose first, middle and last places differ. Assumes nothing.
+use Rattle.laws.specs.Floats.{◌⊗◌}
+use Rattle.legendre.specs.Legendre.{derived_row}
+use Rattle.legendre.specs.Arrays.{from, at, Has}
+use Rattle.legendre.proofs.Rows.{der_none, der_first, der_mid, der_last}
+use Prim.Native.Nat.{ℕ, ◌+◌, ◌-◌, ◌≤◌}
+use mathlib.Core.Path.{◌≡◌, ap, ◌∙◌}
+use mathlib.Core.List.{List}
+use native.Mathlib.Omega.{arith}
+use lib.ListN.{get_or}
+use lib.Ieee.{Float, nan}
+use Rattle.legendre.proofs.FilledArrays.{has_more, has_one, has_first}
+use Rattle.legendre.proofs.derived_row.Given as goal
+
+abbrev pub invariant-loop-m : goal.invariant-loop-m
+invariant-loop-m l = (1 ≤ l.m) × (l.m ≤ l.n) × Has l.m (derived_row l.n (from l.lower l.k) (from l.upper l.k) (at l.p)) l.d
+
+abbrev pub decreases-loop-m : goal.decreases-loop-m
+decreases-loop-m l = l.n - l.m

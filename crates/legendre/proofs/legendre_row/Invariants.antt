@@ -1,0 +1,18 @@
+-- `legendre::legendre_row`: the first m places are the next row in the place of the row before last, and p has its products with r. Assumes nothing.
+use Rattle.laws.specs.Floats.{◌⊗◌}
+use Rattle.legendre.specs.Rows.{next_row}
+use Rattle.legendre.specs.Arrays.{at, Begins, Has}
+use Rattle.legendre.proofs.Rows.{next_mid, next_last}
+use Prim.Native.Nat.{ℕ, ◌-◌, ◌≤◌}
+use mathlib.Core.Path.{◌≡◌, ap}
+use native.Mathlib.Omega.{arith}
+use lib.ListN.{get_or}
+use lib.Ieee.{Float, nan}
+use Rattle.legendre.proofs.FilledArrays.{pre_none, pre_more, has_none, has_more}
+use Rattle.legendre.proofs.legendre_row.Given as goal
+
+abbrev pub invariant-loop-m : goal.invariant-loop-m
+invariant-loop-m l = (l.m ≤ l.n) × Begins l.m (next_row l.n l.k l.t l.head l.a l.b (at l.q1) (at l.initial.q2)) l.initial.q2 l.q2 × Has l.m (λ (i : ℕ). next_row l.n l.k l.t l.head l.a l.b (at l.q1) (at l.initial.q2) i ⊗ at l.r i) l.p
+
+abbrev pub decreases-loop-m : goal.decreases-loop-m
+decreases-loop-m l = l.n - l.m

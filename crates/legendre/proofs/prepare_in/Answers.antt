@@ -1,0 +1,15 @@
+-- `legendre::prepare_in`: two tables of factors and the diagonal, each in its part, are the prepared slice, by `prepared_is` of proofs/Kernel.antt. Assumes nothing.
+use borrow.Author.Rules.{rules}
+use Rattle.legendre.proofs.Filling.{heads_in}
+use Rattle.legendre.proofs.Kernel.{prepared_is}
+use Rattle.legendre.proofs.prepare_in.Goals as goal
+
+pub slice_bounds-diagonal_row-end : goal.slice_bounds-diagonal_row-end
+slice_bounds-diagonal_row-end c =
+    let k = heads_in c.args.degree in search rules
+
+pub returns : goal.returns
+returns c =
+    let t = c.tri_of-l in
+    prepared_is c.args.degree t.result c.args.work.now _ _ _ c.requires.0 c.requires.1 t.ensures.0 c.factor_rows.ensures
+    c.factor_rows-2.ensures c.diagonal_row.ensures

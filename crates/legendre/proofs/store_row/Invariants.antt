@@ -1,0 +1,17 @@
+-- `legendre::store_row`: behind the first k places stand the first m numbers of the array. Assumes nothing.
+use borrow.Author.Rules.{rules}
+use Prim.Native.Nat.{◌+◌, ◌-◌, ◌≤◌}
+use mathlib.Core.Path.{◌≡◌, refl}
+use mathlib.Core.List.{◌++◌}
+use native.Mathlib.Omega.{arith}
+use lib.ListN.{length, take}
+use Rattle.laws.specs.Tables.{row, row_turn, row_none}
+use Rattle.legendre.specs.Arrays.{at}
+use Rattle.legendre.proofs.Filling.{row_full}
+use Rattle.legendre.proofs.store_row.Given as goal
+
+abbrev pub invariant-loop-m : goal.invariant-loop-m
+invariant-loop-m l = (l.m ≤ l.n + 1) × (length l.out ≡ length l.initial.out) × (take (l.k + l.m) l.out ≡ take l.k l.initial.out ++ row (at l.x) l.m)
+
+abbrev pub decreases-loop-m : goal.decreases-loop-m
+decreases-loop-m l = l.n + 1 - l.m

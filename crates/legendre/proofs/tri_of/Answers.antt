@@ -1,0 +1,13 @@
+use Rattle.laws.specs.Tables.{square_small, tri, tri_small}
+use Prim.Native.Nat.{◌-◌}
+use mathlib.Core.Path.{refl}
+use native.Mathlib.Omega.{arith}
+use borrow.Author.Rules.{rules}
+use Rattle.legendre.proofs.tri_of.Goals as goal
+
+pub overflow_mul-result : goal.overflow_mul-result
+overflow_mul-result c = omega (arith, square_small c.args.n (omega arith))
+
+pub returns : goal.returns
+unfolding tri
+returns c = (refl, tri_small c.args.n (omega arith))

@@ -1,0 +1,16 @@
+-- `model::kernel::high_row` meets its contract. Assumes nothing.
+use mathlib.Core.Path.{◌≡◌, refl}
+use mathlib.Core.List.{◌++◌}
+use Prim.Native.Nat.{◌+◌, ◌-◌, ◌≤◌}
+use native.Mathlib.Omega.{arith}
+use lib.ListN.{length, take}
+use Rattle.laws.specs.Tables.{row, row_none}
+use Rattle.model.proofs.Blend.{high_at, high_turn, high_done}
+use borrow.Author.Rules.{rules}
+use Rattle.model.proofs.kernel.high_row.Given as goal
+
+abbrev pub invariant-loop-m : goal.invariant-loop-m
+invariant-loop-m l = (l.m ≤ l.initial.out) × (length l.out ≡ length l.fa) × (take (l.k + l.m) l.out ≡ take l.k l.fa ++ row (high_at l.start l.k l.w l.field l.a l.b l.fb l.end) l.m)
+
+abbrev pub decreases-loop-m : goal.decreases-loop-m
+decreases-loop-m l = l.initial.out - l.m

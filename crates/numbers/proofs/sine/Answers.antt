@@ -1,0 +1,25 @@
+-- `numbers::sine` meets its contract. Assumes nothing.
+use Rattle.std.proofs.Common.{◌∙◌, ⊎_elim, w64, rules}
+use mir.ValLaws.{to_z-of_z}
+use Rattle.numbers.specs.Numbers.{near, sine}
+use Rattle.numbers.proofs.CodeForms.{nan_made}
+use Rattle.numbers.proofs.sine.Goals as goal
+
+pub turns-requires : goal.turns-requires
+unfolding near
+turns-requires c = rw (c.if-x.true, c.if-x-2.true) tt
+
+pub returns-then-x-2 : goal.returns-then-x-2
+unfolding sine near
+returns-then-x-2 c =
+    rw (
+      c.sine_at.ensures,
+      to_z-of_z w64 c.turns.result (record { sfits = c.turns.type-inv }),
+      c.turns.ensures,
+      c.if-x.true,
+      c.if-x-2.true,
+    )
+
+pub returns : goal.returns
+unfolding sine near
+returns c = ⊎_elim (λ w. nan_made ∙ rw (w.0.taken, w.1.left)) (λ w. nan_made ∙ rw w.left) c.else-x.branch

@@ -1,0 +1,6 @@
+-- `published::table::row` counts by what it judges. Assumes nothing.
+use Rattle.std.proofs.Common.{rules}
+use Rattle.published.proofs.table.row.Goals as goal
+
+pub returns : goal.returns
+returns c = simp (c.count.ensures, c.is_Within.ensures)

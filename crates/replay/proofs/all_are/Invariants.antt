@@ -1,0 +1,16 @@
+-- `replay::all_are` meets its contract. Assumes nothing.
+use mathlib.Core.Path.{◌≡◌, refl}
+use Prim.Native.Nat.{◌-◌, ◌≤◌}
+use borrow.Author.Rules.{rules}
+use lib.Dec.{eqb}
+use lib.ListN.{length, drop}
+use lib.Ieee.{Float, nan, binary64, to_bits}
+use Rattle.laws.specs.Checks.{all}
+use Rattle.laws.specs.Loops.{all_goes, all_stops, all_done}
+use Rattle.replay.proofs.all_are.Given as goal
+
+abbrev pub invariant-loop-i : goal.invariant-loop-i
+invariant-loop-i l = (l.i ≤ length l.values) × (all (λ x. eqb (to_bits binary64 x) l.bits) (drop l.i l.values) ≡ all (λ x. eqb (to_bits binary64 x) l.bits) l.values)
+
+abbrev pub decreases-loop-i : goal.decreases-loop-i
+decreases-loop-i l = length l.values - l.i

@@ -1,0 +1,14 @@
+-- `replay::say_some` is safe and ends. Assumes nothing.
+use borrow.Author.Rules.{rules}
+use Prim.Native.Nat.{◌-◌}
+use lib.ListN.{length}
+use Rattle.replay.proofs.say_some.Goals as goal
+
+pub loop-i-init : goal.loop-i-init
+loop-i-init c = tt
+
+pub loop-i-preserved : goal.loop-i-preserved
+loop-i-preserved c = tt
+
+pub returns : goal.returns
+returns c = tt

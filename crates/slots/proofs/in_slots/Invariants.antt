@@ -1,0 +1,10 @@
+-- `slots::in_slots`: no slot before w has the second, so the first that has it gives the answer. Assumes nothing.
+use Rattle.std.proofs.Common.{◌-◌, ◌≤◌, arith, rules}
+use Rattle.slots.proofs.Looking.{Empty, empty_none, empty_next, slot_found, none_found}
+use Rattle.slots.proofs.in_slots.Given as goal
+
+abbrev pub invariant-loop-w : goal.invariant-loop-w
+invariant-loop-w l = (l.w ≤ l.windows) × Empty l.s l.first l.windows l.second l.w
+
+abbrev pub decreases-loop-w : goal.decreases-loop-w
+decreases-loop-w l = l.windows - l.w
