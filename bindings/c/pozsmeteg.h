@@ -1,4 +1,4 @@
-/* Range-acceleration residuals of a satellite pair: the calls of libexports.a (rt staticlib exports; x86-64). A version, the lengths of
+/* Range-acceleration residuals of a satellite pair: the calls of libexports.a (tools/staticlib; x86-64). A version, the lengths of
  * scratch as functions and a struct of a submission's lists are in pozsmeteg_submission.h, units too; example.c uses them.
  *
  * A list is a pointer and its length; a pointer is never null, also for an empty list, and is aligned for its type. Lists that a

@@ -6,7 +6,7 @@ use std::path::Path;
 fn missing(library: &Path) -> String {
     let kit = env::split_paths(&env::var_os("PATH").unwrap_or_default()).any(|folder| folder.join("rt").is_file());
     let without = if kit { "" } else { ", for which the Rattle kit's `rt` has to be on the PATH, and it is not" };
-    let made = format!("`rt staticlib exports` makes target/staticlib/libexports.a{without}");
+    let made = format!("`tools/staticlib` makes target/staticlib/libexports.a{without}");
     format!("there is no static library {}: {made}; POZSMETEG_LIB may name another folder that has one", library.display())
 }
 

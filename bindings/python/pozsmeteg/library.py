@@ -66,7 +66,7 @@ def found():
         if os.path.isfile(path):
             return path
     raise LibraryMissing(
-        f"there is no {NAME} at {' or '.join(candidates())}; `rt staticlib exports` and then `bindings/python/build` make it, or {VARIABLE} names its folder")
+        f"there is no {NAME} at {' or '.join(candidates())}; `tools/staticlib` and then `bindings/python/build` make it, or {VARIABLE} names its folder")
 
 
 def declared(library, path):

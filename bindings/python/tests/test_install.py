@@ -64,7 +64,7 @@ class Installed(InFolder):
         shutil.copytree(HERE, self.path("bindings/python"), ignore=shutil.ignore_patterns("tests", "__pycache__"))
         status, out, errors = ran([sys.executable, "-c", "import backend; backend.build_wheel('.')"], FOLDER=self.path("bindings/python"), POZSMETEG_LIB=None)
         self.assertEqual((status, out, errors.count("\n")), (1, "", 1))
-        self.assertRegex(errors, "^pozsmeteg: there is no static library .*/target/staticlib/libexports.a: `rt staticlib exports` makes")
+        self.assertRegex(errors, "^pozsmeteg: there is no static library .*/target/staticlib/libexports.a: `tools/staticlib` makes")
 
     def test_wheel(self):
         sys.path.insert(0, HERE)
@@ -135,7 +135,7 @@ class Found(InFolder):
     def test_missing(self):
         out, said = self.used()
         self.assertEqual(out, "")
-        self.assertRegex(said, "LibraryMissing: there is no libpozsmeteg.so at .*`rt staticlib exports` and then `bindings/python/build` make it")
+        self.assertRegex(said, "LibraryMissing: there is no libpozsmeteg.so at .*`tools/staticlib` and then `bindings/python/build` make it")
         out, said = self.used(POZSMETEG_LIB=self.folder)
         self.assertEqual(out, "")
         self.assertRegex(said, f"LibraryMissing: POZSMETEG_LIB is {self.folder}, but there is no {self.folder}/libpozsmeteg.so; .*unset POZSMETEG_LIB")
@@ -191,7 +191,7 @@ class Build(InFolder):
     def test_no_static_library(self):
         for words, variables in (((), {}), (("nowhere.a",), {}), ((), {"POZSMETEG_LIB": self.folder}), ((), {"PATH": self.folder})):
             errors = self.said(*words, **variables)
-            self.assertRegex(errors, "^build: there is no static library .*`rt staticlib exports` makes target/staticlib/libexports.a")
+            self.assertRegex(errors, "^build: there is no static library .*`tools/staticlib` makes target/staticlib/libexports.a")
             self.assertEqual(("`rt` has to be on the PATH" in errors), shutil.which("rt", path=variables.get("PATH")) is None)
             self.assertEqual(errors.count("\n"), 1)
 

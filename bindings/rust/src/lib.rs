@@ -1,4 +1,4 @@
-//! Range-acceleration residuals of a satellite pair, over the proved static library (`rt staticlib exports`).
+//! Range-acceleration residuals of a satellite pair, over the proved static library (`tools/staticlib`).
 //!
 //! Each function here allocates outputs and scratch, makes one call of [`raw`], and answers what it handed out or why it refused.
 //! L is (N + 1)(N + 2)/2 for the degree N. A field is one list of 2 + 2·L numbers: GM, radius, all C, all S, by degree and then order.
