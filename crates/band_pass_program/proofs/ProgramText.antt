@@ -9,12 +9,12 @@ use lib.Dec.{ltb, eqb}
 use lib.ListN.{length, take, drop, get_or, set, length-append, drop_of_length-le, get_or-eq_default}
 use lib.Ieee.{Float, nan, binary64, of_bits, to_bits}
 use Rattle.laws.specs.Loops.{head_at, fill_turn, fill_done, take_set}
-use Rattle.hexadecimal.specs.Digits.{word_at, digitsOf, written, decimalOf, isWord, bits_of, float_at}
+use Rattle.hexadecimal.specs.Digits.{word_at, digits_of, written, decimal_of, is_word, bits_of, float_at}
 use Rattle.hexadecimal.specs.declared.Parsed.{Parsed}
 use Rattle.hexadecimal.specs.declared.Parsed.TheVariants.{Value, Malformed}
-use Rattle.hexadecimal.proofs.Printing.{then, written-prints}
-use Rattle.hexadecimal.proofs.DigitLoops.{digits-length}
-use Rattle.hexadecimal.specs.Printing.{lineFeed, refusedText, Printed}
+use Rattle.hexadecimal.proofs.Printing.{then, written_prints}
+use Rattle.hexadecimal.proofs.DigitLoops.{digits_length}
+use Rattle.hexadecimal.specs.Printing.{line_feed, refused_text, Printed}
 use lib.Ieee.Scale.{finite}
 use borrow.Author.Tests.{eq-eqb}
 use borrow.Rule.Slice.PartMut.{mid_of, mid_len}
@@ -47,9 +47,9 @@ never false b = refl
 
 pub line_short : (text : List ℕ) (at : ℕ) → length text ≤ at + 32 → false ≡ is_line text at
 unfolding is_line
-line_short text at h = rw (get_or-eq_default text 0 {n = at + 32} h) (never (isWord (word_at text at)) (isWord (word_at text (at + 16))))
+line_short text at h = rw (get_or-eq_default text 0 {n = at + 32} h) (never (is_word (word_at text at)) (is_word (word_at text (at + 16))))
 
-pub line_tested : (text : List ℕ) (at : ℕ) (b1 b2 b3 r : Bool) → b1 ≡ isWord (word_at text at) → b2 ≡ isWord (word_at text (at + 16)) →
+pub line_tested : (text : List ℕ) (at : ℕ) (b1 b2 b3 r : Bool) → b1 ≡ is_word (word_at text at) → b2 ≡ is_word (word_at text (at + 16)) →
     b3 ≡ (b2 && eqb (get_or text (at + 32) 0) 10) → r ≡ (b1 && b3) → r ≡ is_line text at
 unfolding is_line
 line_tested text at b1 b2 b3 r e1 e2 e3 er = er ∙ (λ i. e1 i && (e3 ∙ ap (λ (b : Bool). b && eqb (get_or text (at + 32) 0) 10) e2) i)
@@ -126,18 +126,18 @@ column_done text from out out₀ k l h inv =
 -- ---- a line
 
 pub line_prints : (t v : Float) (a b at : ℕ) (o o1 o2 : List ℕ) → at + 33 ≤ length o → a ≡ to_bits binary64 t → b ≡ to_bits binary64 v →
-    o1 ≡ written o at (digitsOf 16 16 a) → length o1 ≡ length o → o2 ≡ written o1 (at + 16) (digitsOf 16 16 b) → length o2 ≡ length o1 →
+    o1 ≡ written o at (digits_of 16 16 a) → length o1 ≡ length o → o2 ≡ written o1 (at + 16) (digits_of 16 16 b) → length o2 ≡ length o1 →
     Printed (line_text t v) o at (set o2 (at + 32) 10) (at + 33)
 unfolding line_text
 line_prints t v a b at o o1 o2 h ea eb e1 l1 e2 l2 =
-    let da : length (digitsOf 16 16 a) ≡ 16 = digits-length 16 16 a in
-    let db : length (digitsOf 16 16 b) ≡ 16 = digits-length 16 16 b in
-    let p1 : Printed (digitsOf 16 16 a) o at o1 (at + 16) = rw e1 (written-prints o (digitsOf 16 16 a) at (at + 16) (omega arith) (omega arith)) in
-    let p2 : Printed (digitsOf 16 16 b) o1 (at + 16) o2 (at + 32) = rw e2 (written-prints o1 (digitsOf 16 16 b) (at + 16) (at + 32) (omega arith) (omega arith)) in
+    let da : length (digits_of 16 16 a) ≡ 16 = digits_length 16 16 a in
+    let db : length (digits_of 16 16 b) ≡ 16 = digits_length 16 16 b in
+    let p1 : Printed (digits_of 16 16 a) o at o1 (at + 16) = rw e1 (written_prints o (digits_of 16 16 a) at (at + 16) (omega arith) (omega arith)) in
+    let p2 : Printed (digits_of 16 16 b) o1 (at + 16) o2 (at + 32) = rw e2 (written_prints o1 (digits_of 16 16 b) (at + 16) (at + 32) (omega arith) (omega arith)) in
     let s : at + 33 ≡ at + 32 + 1 = omega arith in
-    let p3 : Printed lineFeed o2 (at + 32) (set o2 (at + 32) 10) (at + 33) = record { ends = omega arith; text = rw s (take_set o2 (at + 32) 10 (omega arith)) } in
-    rw (sym ea, sym eb) (then (digitsOf 16 16 a) (digitsOf 16 16 b ++ lineFeed) o o1 (set o2 (at + 32) 10) at (at + 16) (at + 33) p1
-    (then (digitsOf 16 16 b) lineFeed o1 o2 (set o2 (at + 32) 10) (at + 16) (at + 32) (at + 33) p2 p3))
+    let p3 : Printed line_feed o2 (at + 32) (set o2 (at + 32) 10) (at + 33) = record { ends = omega arith; text = rw s (take_set o2 (at + 32) 10 (omega arith)) } in
+    rw (sym ea, sym eb) (then (digits_of 16 16 a) (digits_of 16 16 b ++ line_feed) o o1 (set o2 (at + 32) 10) at (at + 16) (at + 33) p1
+    (then (digits_of 16 16 b) line_feed o1 o2 (set o2 (at + 32) 10) (at + 16) (at + 32) (at + 33) p2 p3))
 
 -- ---- lines
 
@@ -154,7 +154,7 @@ lines_turn ts vs out out' goal i h l p inv =
 
 line_length_law : (t v : Float) → length (line_text t v) ≡ 33
 unfolding line_text
-line_length_law t v = simp (length-append, digits-length)
+line_length_law t v = simp (length-append, digits_length)
 
 pub lines_length : (ts vs : List Float) → length vs ≡ length ts → length (lines_text ts vs) ≡ 33 * length ts
 unfolding lines_text
@@ -174,13 +174,13 @@ lines_done ts vs out out₀ i h g l inv =
 
 -- ---- sentences
 
-pub summary_prints : (m n : ℕ) (o o1 o2 o3 o4 o5 : List ℕ) (at a b c d r : ℕ) → Printed (114 ∷ 117 ∷ 110 ∷ 115 ∷ 32 ∷ []) o at o1 a → Printed (decimalOf m) o1 a o2 b →
-    Printed (32 ∷ 112 ∷ 97 ∷ 115 ∷ 115 ∷ 101 ∷ 100 ∷ 32 ∷ []) o2 b o3 c → Printed (decimalOf n) o3 c o4 d → Printed lineFeed o4 d o5 r → Printed (summary_text m n) o at o5 r
+pub summary_prints : (m n : ℕ) (o o1 o2 o3 o4 o5 : List ℕ) (at a b c d r : ℕ) → Printed (114 ∷ 117 ∷ 110 ∷ 115 ∷ 32 ∷ []) o at o1 a → Printed (decimal_of m) o1 a o2 b →
+    Printed (32 ∷ 112 ∷ 97 ∷ 115 ∷ 115 ∷ 101 ∷ 100 ∷ 32 ∷ []) o2 b o3 c → Printed (decimal_of n) o3 c o4 d → Printed line_feed o4 d o5 r → Printed (summary_text m n) o at o5 r
 unfolding summary_text
 summary_prints m n o o1 o2 o3 o4 o5 at a b c d r p1 p2 p3 p4 p5 =
-    then (114 ∷ 117 ∷ 110 ∷ 115 ∷ 32 ∷ []) (decimalOf m ++ ((32 ∷ 112 ∷ 97 ∷ 115 ∷ 115 ∷ 101 ∷ 100 ∷ 32 ∷ []) ++ (decimalOf n ++ lineFeed))) o o1 o5 at a r p1
-    (then (decimalOf m) ((32 ∷ 112 ∷ 97 ∷ 115 ∷ 115 ∷ 101 ∷ 100 ∷ 32 ∷ []) ++ (decimalOf n ++ lineFeed)) o1 o2 o5 a b r p2
-    (then (32 ∷ 112 ∷ 97 ∷ 115 ∷ 115 ∷ 101 ∷ 100 ∷ 32 ∷ []) (decimalOf n ++ lineFeed) o2 o3 o5 b c r p3 (then (decimalOf n) lineFeed o3 o4 o5 c d r p4 p5)))
+    then (114 ∷ 117 ∷ 110 ∷ 115 ∷ 32 ∷ []) (decimal_of m ++ ((32 ∷ 112 ∷ 97 ∷ 115 ∷ 115 ∷ 101 ∷ 100 ∷ 32 ∷ []) ++ (decimal_of n ++ line_feed))) o o1 o5 at a r p1
+    (then (decimal_of m) ((32 ∷ 112 ∷ 97 ∷ 115 ∷ 115 ∷ 101 ∷ 100 ∷ 32 ∷ []) ++ (decimal_of n ++ line_feed)) o1 o2 o5 a b r p2
+    (then (32 ∷ 112 ∷ 97 ∷ 115 ∷ 115 ∷ 101 ∷ 100 ∷ 32 ∷ []) (decimal_of n ++ line_feed) o2 o3 o5 b c r p3 (then (decimal_of n) line_feed o3 o4 o5 c d r p4 p5)))
 
 pub passed_prints : (ts ys : List Float) (m n : ℕ) (o o1 o2 : List ℕ) (r : ℕ) → Printed (lines_text ts ys) o 0 o1 (33 * length ts) → m ≡ length (runs_of ts) → n ≡ long_runs (runs_of ts) →
     Printed (summary_text m n) o1 (33 * length ts) o2 r → Printed (passed_text ts ys) o 0 o2 r
@@ -192,7 +192,7 @@ passed_prints ts ys m n o o1 o2 r p em en q =
 -- what is printed after an outcome
 abbrev outcome_text : Outcome → List ℕ → List ℕ
 outcome_text Accepted text = text
-outcome_text (Refused n) text = refusedText n
+outcome_text (Refused n) text = refused_text n
 
 abbrev head : List (List Float) → List Float
 head [] = []
@@ -228,7 +228,7 @@ module _ (ts x o s y s' : List Float) (r : Outcome) (lx : length x ≡ length ts
   accepted_prints out out' k h p =
       mathlib.Core.Path.subst (λ (t : List ℕ). Printed t out 0 out' k) (ap (λ (q : Outcome). outcome_text q (passed_text ts y)) (sym h) ∙ outcome_says) p
 
-  pub refused_numbers : (out out' : List ℕ) (k n : ℕ) → r ≡ Refused n → Printed (refusedText n) out 0 out' k → Printed (numbers_text ts x) out 0 out' k
+  pub refused_numbers : (out out' : List ℕ) (k n : ℕ) → r ≡ Refused n → Printed (refused_text n) out 0 out' k → Printed (numbers_text ts x) out 0 out' k
   refused_numbers out out' k n h p =
       mathlib.Core.Path.subst (λ (t : List ℕ). Printed t out 0 out' k) (ap (λ (q : Outcome). outcome_text q (passed_text ts y)) (sym h) ∙ outcome_says) p
 
@@ -238,13 +238,13 @@ lines_print text n ts xs out out' r xs₀ et ex l p = mathlib.Core.Path.subst (�
 
 -- ---- the whole
 
-pub text_refused : (text out out' : List ℕ) (n r : ℕ) → n ≡ text_refusal text → (n ≡ 0 → ⊥) → Printed (refusedText n) out 0 out' r → Printed (answer text) out 0 out' r
+pub text_refused : (text out out' : List ℕ) (n r : ℕ) → n ≡ text_refusal text → (n ≡ 0 → ⊥) → Printed (refused_text n) out 0 out' r → Printed (answer text) out 0 out' r
 unfolding answer
 text_refused text out out' n r e h p =
     mathlib.Core.Path.subst (λ (t : List ℕ). Printed t out 0 out' r) (some n h _ ∙
     ap (λ (k : ℕ). unless_refused k (numbers_text (column text 0 (length text / 33)) (column text 16 (length text / 33)))) e) p
   where
-    some : (n : ℕ) → (n ≡ 0 → ⊥) → (t : List ℕ) → refusedText n ≡ unless_refused n t
+    some : (n : ℕ) → (n ≡ 0 → ⊥) → (t : List ℕ) → refused_text n ≡ unless_refused n t
     some zero h t = absurd (h refl)
     some (suc n) h t = refl
 

@@ -5,8 +5,8 @@ use Rattle.std.specs.Float.Ieee.{to_bits}
 use Rattle.std.specs.Float.Ieee.Scale.{finite}
 use Rattle.laws.specs.Checks.{all, is_time, rising}
 use Rattle.laws.specs.Runs.{runs_of}
-use Rattle.hexadecimal.specs.Digits.{word_at, digitsOf, decimalOf, isWord, float_at}
-use Rattle.hexadecimal.specs.Printing.{lineFeed, refusedText}
+use Rattle.hexadecimal.specs.Digits.{word_at, digits_of, decimal_of, is_word, float_at}
+use Rattle.hexadecimal.specs.Printing.{line_feed, refused_text}
 use Rattle.slices.specs.Calls.{first_failed}
 use Rattle.filter.specs.Filter.{band_pass}
 use Rattle.filter.specs.Calls.{long_runs}
@@ -15,7 +15,7 @@ use Rattle.filter.specs.Calls.{long_runs}
 
 -- a line from `at` on: the digits of two words, and a line feed
 unfoldable pub is_line : List ℕ → ℕ → Bool
-is_line text at = isWord (word_at text at) && (isWord (word_at text (at + 16)) && eqb (get_or text (at + 32) 0) 10)
+is_line text at = is_word (word_at text at) && (is_word (word_at text (at + 16)) && eqb (get_or text (at + 32) 0) 10)
 
 -- the refusal of the text from `at` on, where k more lines may come; 0 where all of it is lines
 unfoldable pub refusal_from : ℕ → List ℕ → ℕ → ℕ
@@ -33,7 +33,7 @@ column text at (suc n) = float_at text at ∷ column text (at + 33) n
 -- ---- output
 
 unfoldable pub line_text : Float → Float → List ℕ
-line_text t v = digitsOf 16 16 (to_bits binary64 t) ++ (digitsOf 16 16 (to_bits binary64 v) ++ lineFeed)
+line_text t v = digits_of 16 16 (to_bits binary64 t) ++ (digits_of 16 16 (to_bits binary64 v) ++ line_feed)
 
 unfoldable pub lines_text : List Float → List Float → List ℕ
 lines_text [] vs = []
@@ -43,7 +43,7 @@ lines_text (t ∷ ts) (v ∷ vs) = line_text t v ++ lines_text ts vs
 -- "runs R passed P"
 unfoldable pub summary_text : ℕ → ℕ → List ℕ
 summary_text runs passed =
-    (114 ∷ 117 ∷ 110 ∷ 115 ∷ 32 ∷ []) ++ (decimalOf runs ++ ((32 ∷ 112 ∷ 97 ∷ 115 ∷ 115 ∷ 101 ∷ 100 ∷ 32 ∷ []) ++ (decimalOf passed ++ lineFeed)))
+    (114 ∷ 117 ∷ 110 ∷ 115 ∷ 32 ∷ []) ++ (decimal_of runs ++ ((32 ∷ 112 ∷ 97 ∷ 115 ∷ 115 ∷ 101 ∷ 100 ∷ 32 ∷ []) ++ (decimal_of passed ++ line_feed)))
 
 -- ---- the whole
 
@@ -58,7 +58,7 @@ passed_text ts y = lines_text ts y ++ summary_text (length (runs_of ts)) (long_r
 -- a refusal prints its one line only
 abbrev pub unless_refused : ℕ → List ℕ → List ℕ
 unless_refused zero text = text
-unless_refused (suc n) text = refusedText (suc n)
+unless_refused (suc n) text = refused_text (suc n)
 
 unfoldable pub numbers_text : List Float → List Float → List ℕ
 numbers_text ts x = unless_refused (numbers_refusal ts x) (passed_text ts (band_pass ts x))

@@ -240,9 +240,9 @@ fn say_answer(text: &[u8]) {
 }
 
 // An input that cannot be read has no answer, and one that ends has.
-fn main() {
+fn main(rt: HostRuntime) {
     let mut text = [0u8; 135169];
-    let got = streams::read(&mut text);
+    let got = streams::read(&mut rt.stdin(), &mut text);
     match got {
         streams::Got::Bytes(n) => say_answer(&text[..n]),
         streams::Got::Failed => streams::say_unread(),

@@ -236,6 +236,9 @@ pub pass_short : (ss : List Biquad) (x y o : List Float) → length x ≤ 64 →
 unfolding pass_by
 pass_short ss x y o h l e = simp (le-ltb 64 (length x) h) (e ∙ ap (λ (n : ℕ). lib.ListN.replicate n zero64) l)
 
+pub cleared_short : (ss : List Biquad) (x o : List Float) → length x ≤ 64 → length o ≡ length x → pass_by ss x ≡ cleared o
+cleared_short ss x o h l = sym (pass_short ss x (cleared o) o h l refl)
+
 -- ---- where a run ends
 
 first_grown : (ks : List ℕ) → get_or (grown false ks) 0 0 ≡ suc (get_or ks 0 0)
@@ -268,9 +271,9 @@ runs_grown true t us w = refl
 runs_grown false t us (inl (k, e)) = rw e
 runs_grown false t us (inr e) = rw e
 
-runs_of : (t : Float) (us : List Float) → runs_of (t ∷ us) ≡ get_or (runs_of (t ∷ us)) 0 0 ∷ runs_of (drop (get_or (runs_of (t ∷ us)) 0 0) (t ∷ us))
-runs_of t [] = refl
-runs_of t (u ∷ us) = runs_grown (splits t u) t (u ∷ us) (inl (get_or (runs_of (u ∷ us)) 0 0, runs_of u us))
+runs_of_law : (t : Float) (us : List Float) → runs_of (t ∷ us) ≡ get_or (runs_of (t ∷ us)) 0 0 ∷ runs_of (drop (get_or (runs_of (t ∷ us)) 0 0) (t ∷ us))
+runs_of_law t [] = refl
+runs_of_law t (u ∷ us) = runs_grown (splits t u) t (u ∷ us) (inl (get_or (runs_of (u ∷ us)) 0 0, runs_of_law u us))
 
 -- the runs from a place on: the first, and those from its end on
 pub runs_from : (ts : List Float) (start e : ℕ) → start < length ts → e ≡ start + get_or (runs_of (drop start ts)) 0 0 →
@@ -278,7 +281,7 @@ pub runs_from : (ts : List Float) (start e : ℕ) → start < length ts → e �
 runs_from ts start e h ee =
     let k : ℕ = get_or (runs_of (drop start ts)) 0 0 in
     let s : drop start ts ≡ get_or ts start nan ∷ drop (start + 1) ts = head_at ts start nan h in
-    let r : runs_of (drop start ts) ≡ k ∷ runs_of (drop k (drop start ts)) = rw s (runs_of (get_or ts start nan) (drop (start + 1) ts)) in
+    let r : runs_of (drop start ts) ≡ k ∷ runs_of (drop k (drop start ts)) = rw s (runs_of_law (get_or ts start nan) (drop (start + 1) ts)) in
     r ∙ ap (λ (l : List Float). k ∷ runs_of l) (drop-drop k start ts ∙ ap (λ (n : ℕ). drop n ts) (sym ee))
 
 -- a turn of the loop over the runs: ys, the run from start to e passed, goes behind what is done

@@ -201,6 +201,7 @@ pub fn filtfilt(sections: &[f64], x: &[f64], pad: usize, out: &mut [f64], scratc
 }
 
 // One run: 64 samples or fewer give +0.0.
+#[tactic(auto, using(crate::proofs::Turns::pass_long, crate::proofs::Turns::cleared_short))]
 fn pass_run(sections: &[f64], x: &[f64], out: &mut [f64], scratch: &mut [f64])
     requires { (length x.now + length x.now + length x.now ≤ length scratch.old) × (length out.old ≡ length x.now) }
     ensures { out.new ≡ pass_by (sections_of sections.now) x.now }

@@ -182,11 +182,11 @@ alone : (b : Bool) (c : ℕ) → cond b (suc c) c ≡ cond b 1 0 + c
 alone true c = omega arith
 alone false c = sym (zero-add c)
 
-pub count_runs : (z : Float) (xs : List Float) → count z xs ≡ count_runs z (runs_of xs) xs
+pub count_runs_law : (z : Float) (xs : List Float) → count z xs ≡ count_runs z (runs_of xs) xs
 unfolding count count_runs end_of
-count_runs z [] = refl
-count_runs z (x ∷ []) = alone (splits x z) 0
-count_runs z (x ∷ y ∷ ys) = go (head y ys) (decide (splits x y)) (count_runs z (y ∷ ys))
+count_runs_law z [] = refl
+count_runs_law z (x ∷ []) = alone (splits x z) 0
+count_runs_law z (x ∷ y ∷ ys) = go (head y ys) (decide (splits x y)) (count_runs_law z (y ∷ ys))
   where
     go : Head y ys → T (splits x y) ⊎ T (not (splits x y)) → count z (y ∷ ys) ≡ count_runs z (runs_of (y ∷ ys)) (y ∷ ys)
         → count z (x ∷ y ∷ ys) ≡ count_runs z (runs_of (x ∷ y ∷ ys)) (x ∷ y ∷ ys)

@@ -1,6 +1,6 @@
 -- The reach of the horizon cannot be 1,801: a pair of submissions in which all lists reach a node z + 1,801, two kept epochs stand in a run that ends more than 3.0 s before z, and
 -- yet one appended field moves both passed values. For an odd b the last step of the window (a, b) falls on b + 1,801. By computing. Assumes nothing.
-use mathlib.Core.Path.{◌≡◌, refl, ap, ◌∙◌}
+use mathlib.Core.Path.{◌≡◌, refl, ap}
 use mathlib.Core.Bool.{Bool, ◌&&◌}
 use mathlib.Core.List.{[], ◌∷◌}
 use native.Mathlib.Omega.{arith}

@@ -1,8 +1,8 @@
 -- The theorem is not empty: a toy instance with 0 < F < kept, both submissions valid, and an entry beyond F that appended data does change. By computing. Assumes nothing.
-use mathlib.Core.Path.{◌≡◌, refl, ap, ◌∙◌}
+use mathlib.Core.Path.{◌≡◌, refl, ap}
 use mathlib.Core.Option.{Option, none, some}
 use mathlib.Core.Bool.{Bool, true, false, ◌&&◌, cond}
-use mathlib.Core.List.{List, [], ◌∷◌, map}
+use mathlib.Core.List.{List, [], ◌∷◌}
 use Prim.Native.Nat.{ℕ, suc, ◌≤◌, zero-le}
 use native.Mathlib.Omega.{arith}
 use lib.Dec.{T, leb, leb→le}
@@ -13,7 +13,7 @@ use Rattle.laws.specs.Lists.{cond_ind}
 use Rattle.laws.specs.WholeNumbers.{number, ceil, floor}
 use Rattle.laws.specs.Times.{end, second, step_time}
 use Rattle.laws.specs.Checks.{is_time}
-use Rattle.laws.specs.Runs.{splits, passed}
+use Rattle.laws.specs.Runs.{splits}
 use Rattle.finality.specs.Tables.{Table, find}
 use Rattle.finality.specs.Stages.{Stages}
 use Rattle.finality.specs.Arcs.{start, steps, inside, window_of}

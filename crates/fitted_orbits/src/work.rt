@@ -205,7 +205,7 @@ fn fit_each<'a>(
         × (length outkeys.old ≡ 3500 * (length nodes.now - 1)) × (length outstates.old ≡ 6 * (3500 * (length nodes.now - 1)))
         × (length rms.old ≡ length nodes.now - 1) }
     ensures { Adds (between (window_fit (covers (model_of degree model.entry).fields.field_times) (full_force (model_of degree model.entry))
-        (state_for keys.now states.entry.now)) nodes.now) (length nodes.now - 1) (record { states = 0; windows = 0 }) result
+        (state_for keys.now states.now)) nodes.now) (length nodes.now - 1) (record { states = 0; windows = 0 }) result
         (outputs outkeys.old outstates.old rms.old) (outputs outkeys.new outstates.new rms.new) }
 {
     let mut done = Done {

@@ -11,9 +11,9 @@ use lib.ListN.{length, take, drop, get_or, set, length-append, length-take}
 use lib.Seq.{take-suc, take_at, take_all, length-take-le}
 use Rattle.laws.specs.Lists.{cond_ind}
 use Rattle.laws.specs.Loops.{take_set}
-use Rattle.hexadecimal.specs.Digits.{written, placesIn, places_of, decimalOf, Put}
-use Rattle.hexadecimal.specs.Printing.{lineFeed, refusedText, Printed}
-use Rattle.hexadecimal.proofs.DigitLoops.{digits-length}
+use Rattle.hexadecimal.specs.Digits.{written, places_in, places_of, decimal_of, Put}
+use Rattle.hexadecimal.specs.Printing.{line_feed, refused_text, Printed}
+use Rattle.hexadecimal.proofs.DigitLoops.{digits_length}
 
 -- ---- bytes
 
@@ -43,10 +43,10 @@ then b1 b2 o o1 o2 at r s p q = record {
 
 -- ---- digits
 
-places_few : (k n : ℕ) → placesIn k n ≤ k + 1
-unfolding placesIn
+places_few : (k n : ℕ) → places_in k n ≤ k + 1
+unfolding places_in
 places_few zero n = omega arith
-places_few (suc k) n = cond_ind (λ (m : ℕ). m ≤ suc k + 1) (ltb n 10) 1 (suc (placesIn k (n / 10))) (λ _. omega arith) (λ _. omega (arith, places_few k (n / 10)))
+places_few (suc k) n = cond_ind (λ (m : ℕ). m ≤ suc k + 1) (ltb n 10) 1 (suc (places_in k (n / 10))) (λ _. omega arith) (λ _. omega (arith, places_few k (n / 10)))
 
 pub written_prints : (o ys : List ℕ) (at e : ℕ) → e ≡ at + length ys → e ≤ length o → Printed ys o at (written o at ys) e
 unfolding written
@@ -71,21 +71,21 @@ count_fits n at k o o' h p =
     let c : k ≡ places_of n = p.count ∙ rw (le-leb (places_of n) (length o - at) (omega arith)) in
     omega arith
 
-pub count_prints : (n at k : ℕ) (o o' : List ℕ) → at + 20 ≤ length o → Put n o at o' k → Printed (decimalOf n) o at o' (at + k)
+pub count_prints : (n at k : ℕ) (o o' : List ℕ) → at + 20 ≤ length o → Put n o at o' k → Printed (decimal_of n) o at o' (at + k)
 count_prints n at k o o' h p =
     let f : places_of n ≤ 20 = places_few 19 n in
     let c : k ≡ places_of n = p.count ∙ rw (le-leb (places_of n) (length o - at) (omega arith)) in
-    let d : length (decimalOf n) ≡ places_of n = digits-length 10 (places_of n) n in
-    let w = written_prints o (decimalOf n) at (at + k) (omega (arith, c, d)) (omega (arith, c)) in
+    let d : length (decimal_of n) ≡ places_of n = digits_length 10 (places_of n) n in
+    let w = written_prints o (decimal_of n) at (at + k) (omega (arith, c, d)) (omega (arith, c)) in
     record { ends = w.ends; text = ap (take (at + k)) p.text ∙ w.text }
 
 -- ---- sentences
 
-pub refused_prints : (n : ℕ) (o o1 o2 o3 : List ℕ) (a b r : ℕ) → Printed (114 ∷ 101 ∷ 102 ∷ 117 ∷ 115 ∷ 101 ∷ 100 ∷ 32 ∷ []) o 0 o1 a → Printed (decimalOf n) o1 a o2 b → Printed lineFeed o2 b o3 r →
-    Printed (refusedText n) o 0 o3 r
-unfolding refusedText
+pub refused_prints : (n : ℕ) (o o1 o2 o3 : List ℕ) (a b r : ℕ) → Printed (114 ∷ 101 ∷ 102 ∷ 117 ∷ 115 ∷ 101 ∷ 100 ∷ 32 ∷ []) o 0 o1 a → Printed (decimal_of n) o1 a o2 b → Printed line_feed o2 b o3 r →
+    Printed (refused_text n) o 0 o3 r
+unfolding refused_text
 refused_prints n o o1 o2 o3 a b r p q s =
-    then (114 ∷ 101 ∷ 102 ∷ 117 ∷ 115 ∷ 101 ∷ 100 ∷ 32 ∷ []) (decimalOf n ++ lineFeed) o o1 o3 0 a r p (then (decimalOf n) lineFeed o1 o2 o3 a b r q s)
+    then (114 ∷ 101 ∷ 102 ∷ 117 ∷ 115 ∷ 101 ∷ 100 ∷ 32 ∷ []) (decimal_of n ++ line_feed) o o1 o3 0 a r p (then (decimal_of n) line_feed o1 o2 o3 a b r q s)
 
 -- where a text ends counts bytes of the list it is printed in
 pub printed_counts : (bytes before after : List ℕ) (r : ℕ) → Printed bytes before 0 after r → (r ≤ length after) × (r ≡ length (take r after))

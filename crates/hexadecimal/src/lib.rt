@@ -17,6 +17,7 @@ pub enum Parsed {
 }
 
 // The value of a digit, and 16 for any other byte.
+#[tactic(auto, using(std::proofs::lemmas::Bool::Decides::nat_tests), unfolding(crate::specs::Digits::digit_of))]
 pub fn digit(b: u8) -> u64
     ensures { result ≡ digit_of b }
 {

@@ -1,6 +1,6 @@
 -- An array filled from its first place on. Assumes nothing.
 use Rattle.legendre.specs.Arrays.{Begins, Has}
-use Prim.Native.Nat.{ℕ, ◌+◌, ◌-◌, ◌<◌}
+use Prim.Native.Nat.{ℕ, ◌+◌, ◌<◌}
 use mathlib.Core.Path.{◌≡◌, refl, sym, ◌∙◌, subst}
 use mathlib.Core.List.{List}
 use native.Mathlib.Decide.{dec_le}

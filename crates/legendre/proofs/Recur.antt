@@ -5,7 +5,7 @@ use Rattle.legendre.specs.Arrays.{from, at, Begins, Has}
 use Rattle.legendre.specs.Rows.{Tables, step_at, next_row, scaled_row, legendre_by, derived_by, Holds, Room}
 use Rattle.legendre.specs.Legendre.{unscale, derived_row}
 use Rattle.legendre.specs.Sums.{Evaluation, degrees, degree_of, cosines, sines, RowSums, FieldRoom}
-use Prim.Native.Nat.{ℕ, zero, suc, ◌+◌, ◌-◌, ◌≤◌, ◌<◌}
+use Prim.Native.Nat.{ℕ, zero, suc, ◌+◌, ◌≤◌, ◌<◌}
 use mathlib.Core.Path.{◌≡◌, refl, sym, ap₂, ◌∙◌, subst}
 use mathlib.Core.List.{List}
 use native.Mathlib.Decide.{dec_le}

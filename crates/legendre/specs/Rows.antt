@@ -5,7 +5,7 @@ use Rattle.std.specs.Float.{nan}
 use Rattle.laws.specs.Floats.{◌⊖◌, ◌⊗◌, zero64}
 use Rattle.laws.specs.Tables.{tri}
 use Rattle.legendre.specs.Legendre.{unscale, derived_row}
-use Rattle.legendre.specs.Arrays.{at, from}
+use Rattle.legendre.specs.Arrays.{from}
 
 -- the recursion's factors a, b and the derivative's, each by degree and order, and the diagonal by order
 pub record Tables : Type 0 where

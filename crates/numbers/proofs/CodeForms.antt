@@ -1,12 +1,11 @@
 -- What the definitions satisfy, in the form that the code has them. Assumes nothing.
-use Rattle.std.proofs.Common.{◌≡◌, ℕ, zero, suc, ◌+◌, ◌-◌, ◌*◌, ◌/◌, ◌%◌, ◌^◌, ◌<◌, ◌≤◌, Bool, true, false, cond, not, ◌&&◌, T, eqb, ltb, List, get_or, ℤ, sym, refl, ap, ◌∙◌, subst, not-suc-le-zero, add-one, arith, eqb→eq, ltb→lt, eq-eqb}
+use Rattle.std.proofs.Common.{◌≡◌, ℕ, zero, suc, ◌+◌, ◌-◌, ◌*◌, ◌/◌, ◌%◌, ◌<◌, ◌≤◌, Bool, true, false, cond, not, ◌&&◌, T, eqb, ltb, List, get_or, ℤ, sym, refl, ap, ◌∙◌, subst, not-suc-le-zero, add-one, arith, eqb→eq, ltb→lt, eq-eqb}
 use mathlib.Core.Bool.{beq}
-use Prim.Native.Nat.{compare}
 use native.Mathlib.Nat.{div-eq_of_lt, div-eq-sub-div}
 use lib.Dec.{eqb-suc-zero}
 use lib.Ieee.Fits.{and_l, and_r}
 use lib.Ieee.Scale.{finite}
-use lib.Ieee.{Float, Format, prec, low, emax, nan, inf, fin, add, sub, sum, round, size, nearest, odd, units, binary64, ne, eq, lt, le, level, below as Ieee·below, is_nan, div, of_bits, neg, up, down}
+use lib.Ieee.{Float, nan, inf, fin, add, sub, sum, binary64, ne, eq, lt, le, level, below as Ieee·below, is_nan, div, of_bits, neg, up, down}
 use Rattle.numbers.specs.declared.SineCosine.{SineCosine}
 use Rattle.laws.specs.Order.{lt_irr, lt_tr, le_lt_tr, lt→nle, eq→le, sum_real}
 use Rattle.laws.specs.Signed.{real}

@@ -1,7 +1,7 @@
 -- Laws of the reading of records into a work area: after i records, i times stand from place 0 on and i residuals from place n on. Assumes nothing.
 use mathlib.Core.Path.{◌≡◌, refl, sym, ap, ◌∙◌}
 use mathlib.Core.List.{List, [], ◌∷◌, ◌++◌, map}
-use Prim.Native.Nat.{ℕ, zero, suc, ◌+◌, ◌-◌, ◌<◌, ◌≤◌}
+use Prim.Native.Nat.{ℕ, zero, suc, ◌+◌, ◌<◌, ◌≤◌}
 use native.Mathlib.Nat.{zero-add}
 use native.Mathlib.Numerals.{add-one}
 use native.Mathlib.Omega.{arith}
@@ -74,3 +74,8 @@ module _ (xs : List Epoch) (vs : List Float) (h : length xs + length xs ≤ leng
       ∙ (λ i. put_mid n n (ex i) (er i))
       ∙ (λ i. take_at (times_of xs) (drop n vs) n lt' i ++ (residuals_of xs ++ drop n (drop_at (times_of xs) (drop n vs) n lt' i)))
       ∙ ap (λ (l : List Float). times_of xs ++ (residuals_of xs ++ l)) (drop-drop n n vs)
+
+  pub reading_done : (i : ℕ) (w : List Float) → i ≤ n → n ≤ i → w ≡ reading xs vs i → w ≡ read_into xs vs
+  reading_done i w a b e =
+      let j : i ≡ n = omega arith in
+      e ∙ ap (reading xs vs) j ∙ reading_all

@@ -113,6 +113,9 @@ refusal_scanned es ns room =
     (λ h. rw (r.fitting, r.ordering h))
     (λ h. rw (r.fitting, h))
 
+pub refusal_of_scan : (es : List Epoch) (ns : List Float) (room : ℕ) (seen : Seen) (r : ℕ) → seen ≡ scan_of Nothing es → r ≡ refusal_after seen (length es) ns room → r ≡ remove_refusal es ns room
+refusal_of_scan es ns room seen r e h = h ∙ ap (λ (v : Seen). refusal_after v (length es) ns room) e ∙ refusal_scanned es ns room
+
 -- ---- the call
 
 pub remove_refused : (es : List Epoch) (ns s : List Float) (n : ℕ) → n ≡ remove_refusal es ns (length s) → (n ≡ 0 → ⊥) → left_records (Refused n) es s ≡ remove_call es ns s

@@ -14,6 +14,7 @@ use Rattle.laws.specs.Checks.{all}
 use Rattle.laws.specs.Floats.{zero64}
 use Rattle.laws.specs.Loops.{cleared, take_set}
 use Rattle.laws.specs.Bools.{by}
+use Rattle.slices.specs.declared.Outcome.{Outcome}
 use Rattle.slices.specs.declared.Outcome.TheVariants.{Accepted, Refused}
 use Rattle.detrend.specs.Revolutions.{removed_of}
 use Rattle.detrend.specs.Work.{RemovedWithin}
@@ -181,3 +182,8 @@ module _ (es : List Epoch) (ns s : List Float) (h : 8 * length es ≤ length s) 
         ap (λ (l : LeftRecords). length l.scratch) (handed_is false e)
             ∙ length-replicate (length s) zero64,
       ))
+
+  -- the four steps, one after another
+  pub remove_leaves : (w w1 z : List Float) (es' : List Epoch) (o : Outcome) → w ≡ read_into es s → o ≡ (settled_of ns Count w).answer → w1 ≡ (settled_of ns Count w).work
+      → es' ≡ put_back es w1 → z ≡ cleared w1 → left_records o es' z ≡ handed_records es ns s
+  remove_leaves w w1 z es' o ew eo e1 e2 ez = rw (ez, e2, e1, eo, ew) records_left

@@ -42,7 +42,7 @@ pub record Accepts (S : Fixed) (l : Lists) (outputs : List (List Float)) (room :
   pub good : length l.tracks.observed.good ≡ length l.tracks.observed.obs_times
   pub outputs_fit_law : places_fit l outputs ≡ true
   pub scratch : least_scratch S.degree (length l.fields.field_times) (length l.tracks.observed.obs_times) + window_room * (length l.tracks.nodes - 1) ≤ room
-  pub field_times_law : all is_time l.fields.field_times ≡ true
+  pub field_times : all is_time l.fields.field_times ≡ true
   pub node_times : all is_time l.tracks.nodes ≡ true
   pub times : all is_time l.tracks.observed.obs_times ≡ true
   pub rise : Rise l.fields.field_times l.tracks.states.c.keys l.tracks.states.d.keys l.tracks.accs.c.keys l.tracks.accs.d.keys
@@ -137,7 +137,7 @@ module _ (S : Fixed) (l : Lists) (outputs : List (List Float)) (room : ℕ) wher
       }
 
   record Values : Type 0 where
-    pub field_times_law : all is_time l.fields.field_times ≡ true
+    pub field_times : all is_time l.fields.field_times ≡ true
     pub node_times : all is_time l.tracks.nodes ≡ true
     pub times : all is_time l.tracks.observed.obs_times ≡ true
 
@@ -149,7 +149,7 @@ module _ (S : Fixed) (l : Lists) (outputs : List (List Float)) (room : ℕ) wher
       let e = both_true (all finite S.static && all finite l.fields.added) _ b.0 in
       let f = both_true (all is_time l.tracks.nodes) _ a.1 in
       let g = both_true (all is_time l.tracks.observed.obs_times) (all finite l.tracks.observed.values) f.1 in
-      record { field_times_law = (both_true (all is_time l.fields.field_times) (all finite S.a && all finite S.b) e.1).0; node_times = f.0; times = g.0 }
+      record { field_times = (both_true (all is_time l.fields.field_times) (all finite S.a && all finite S.b) e.1).0; node_times = f.0; times = g.0 }
 
   pub accepts : sheet_refusal S l outputs room ≡ 0 → Accepts S l outputs room
   unfolding refusal_of lists_rise
@@ -179,7 +179,7 @@ module _ (S : Fixed) (l : Lists) (outputs : List (List Float)) (room : ℕ) wher
         good = n.good;
         outputs_fit_law = n.outputs_fit_law;
         scratch = n.scratch;
-        field_times_law = v.field_times_law;
+        field_times = v.field_times;
         node_times = v.node_times;
         times = v.times;
         rise = rise_passes l.fields.field_times l.tracks.states.c.keys l.tracks.states.d.keys l.tracks.accs.c.keys l.tracks.accs.d.keys o.0;
@@ -200,7 +200,7 @@ module _ (S : Fixed) (l : Lists) (outputs : List (List Float)) (room : ℕ) (h :
     acc_d = h.acc_d;
     values = h.values;
     good = h.good;
-    field_times_law = (holds _ h.field_times_law, holds _ h.rise.fields);
+    field_times = (holds _ h.field_times, holds _ h.rise.fields);
     keys_c_rise = holds _ h.rise.states_c;
     keys_d_rise = holds _ h.rise.states_d;
     acc_keys_c_rise = holds _ h.rise.acc_c;

@@ -38,8 +38,8 @@ valid S l p =
     let ot = observations_times l.tracks.observed in
     valid_of (stages S) (submission_of S l)
     (let n = timed_length N l.fields.field_times l.fields.added in let f = p.fields in omega arith)
-    (carried (λ (ts : List Float). T (all is_time ts)) l.fields.field_times _ ft p.field_times_law.0)
-    (carried (λ (ts : List Float). T (rising ts)) l.fields.field_times _ ft p.field_times_law.1)
+    (carried (λ (ts : List Float). T (all is_time ts)) l.fields.field_times _ ft p.field_times.0)
+    (carried (λ (ts : List Float). T (rising ts)) l.fields.field_times _ ft p.field_times.1)
     (carried (λ (ks : List ℤ). T (rising_seconds ks)) l.tracks.states.c.keys _ (states_keys l.tracks.states.c) p.keys_c_rise)
     (carried (λ (ks : List ℤ). T (rising_seconds ks)) l.tracks.states.d.keys _ (states_keys l.tracks.states.d) p.keys_d_rise)
     (carried (λ (ks : List ℤ). T (rising_seconds ks)) l.tracks.accs.c.keys _ (values_keys l.tracks.accs.c) p.acc_keys_c_rise)

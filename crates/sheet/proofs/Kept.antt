@@ -56,4 +56,4 @@ module _ (S : Fixed) (l : Lists) (few : 2 ≤ length l.fields.field_times) (fits
   pub kept_is : Valid (stages_of (kernels S)) sub →
       kept_of (epoch_by (model_in S l) (fitted (stages_of (kernels S)) sub sub.states_c) (fitted (stages_of (kernels S)) sub sub.states_d) sub.acc_c sub.acc_d) sub.obs
       ≡ kept (stages_of (kernels S)) sub
-  kept_is v = keep_same _ _ (λ (o : Observation). Time o.at) sub.obs epoch_is v.obs-times
+  kept_is v = keep_same _ _ (λ (o : Observation). Time o.at) sub.obs epoch_is v.obs_times

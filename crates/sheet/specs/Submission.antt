@@ -45,7 +45,7 @@ pub record Passed (S : Fixed) (l : Lists) : Type 0 where
   pub acc_d : length l.tracks.accs.d.values ≡ length l.tracks.accs.d.keys
   pub values : length l.tracks.observed.values ≡ length l.tracks.observed.obs_times
   pub good : length l.tracks.observed.good ≡ length l.tracks.observed.obs_times
-  pub field_times_law : T (all is_time l.fields.field_times) × T (rising l.fields.field_times)
+  pub field_times : T (all is_time l.fields.field_times) × T (rising l.fields.field_times)
   pub keys_c_rise : T (rising_seconds l.tracks.states.c.keys)
   pub keys_d_rise : T (rising_seconds l.tracks.states.d.keys)
   pub acc_keys_c_rise : T (rising_seconds l.tracks.accs.c.keys)

@@ -11,10 +11,10 @@ use lib.Seq.{length-take-le}
 use borrow.Rule.Slice.PartMut.{put_mid, post_of}
 use lib.Ieee.{Float, nan, binary64, to_bits}
 use Rattle.laws.specs.Loops.{fill_turn, fill_done, take_set}
-use Rattle.hexadecimal.specs.Digits.{digitsOf, written, decimalOf}
-use Rattle.hexadecimal.proofs.Printing.{then, written-prints, refused-prints, printed-counts}
-use Rattle.hexadecimal.proofs.DigitLoops.{digits-length}
-use Rattle.hexadecimal.specs.Printing.{lineFeed, refusedText, Printed}
+use Rattle.hexadecimal.specs.Digits.{digits_of, written, decimal_of}
+use Rattle.hexadecimal.proofs.Printing.{then, written_prints, refused_prints, printed_counts}
+use Rattle.hexadecimal.proofs.DigitLoops.{digits_length}
+use Rattle.hexadecimal.specs.Printing.{line_feed, refused_text, Printed}
 use Rattle.io.specs.Counts.{IsPrefixLen}
 use Rattle.streams.specs.Got.{Within}
 use Rattle.streams.specs.declared.Got.{Got}
@@ -140,25 +140,25 @@ bytes_of_done numbers from step out out₀ k l h inv =
 
 -- ---- sentences
 
-pub head_prints : (m n : ℕ) (o o1 o2 o3 o4 o5 : List ℕ) (a b c d r : ℕ) → Printed (107 ∷ 101 ∷ 112 ∷ 116 ∷ 32 ∷ []) o 0 o1 a → Printed (decimalOf m) o1 a o2 b →
-    Printed (32 ∷ 102 ∷ 105 ∷ 110 ∷ 97 ∷ 108 ∷ 32 ∷ []) o2 b o3 c → Printed (decimalOf n) o3 c o4 d → Printed lineFeed o4 d o5 r → Printed (head_text m n) o 0 o5 r
+pub head_prints : (m n : ℕ) (o o1 o2 o3 o4 o5 : List ℕ) (a b c d r : ℕ) → Printed (107 ∷ 101 ∷ 112 ∷ 116 ∷ 32 ∷ []) o 0 o1 a → Printed (decimal_of m) o1 a o2 b →
+    Printed (32 ∷ 102 ∷ 105 ∷ 110 ∷ 97 ∷ 108 ∷ 32 ∷ []) o2 b o3 c → Printed (decimal_of n) o3 c o4 d → Printed line_feed o4 d o5 r → Printed (head_text m n) o 0 o5 r
 unfolding head_text
 head_prints m n o o1 o2 o3 o4 o5 a b c d r p1 p2 p3 p4 p5 =
-    then (107 ∷ 101 ∷ 112 ∷ 116 ∷ 32 ∷ []) (decimalOf m ++ ((32 ∷ 102 ∷ 105 ∷ 110 ∷ 97 ∷ 108 ∷ 32 ∷ []) ++ (decimalOf n ++ lineFeed))) o o1 o5 0 a r p1
-    (then (decimalOf m) ((32 ∷ 102 ∷ 105 ∷ 110 ∷ 97 ∷ 108 ∷ 32 ∷ []) ++ (decimalOf n ++ lineFeed)) o1 o2 o5 a b r p2
-    (then (32 ∷ 102 ∷ 105 ∷ 110 ∷ 97 ∷ 108 ∷ 32 ∷ []) (decimalOf n ++ lineFeed) o2 o3 o5 b c r p3 (then (decimalOf n) lineFeed o3 o4 o5 c d r p4 p5)))
+    then (107 ∷ 101 ∷ 112 ∷ 116 ∷ 32 ∷ []) (decimal_of m ++ ((32 ∷ 102 ∷ 105 ∷ 110 ∷ 97 ∷ 108 ∷ 32 ∷ []) ++ (decimal_of n ++ line_feed))) o o1 o5 0 a r p1
+    (then (decimal_of m) ((32 ∷ 102 ∷ 105 ∷ 110 ∷ 97 ∷ 108 ∷ 32 ∷ []) ++ (decimal_of n ++ line_feed)) o1 o2 o5 a b r p2
+    (then (32 ∷ 102 ∷ 105 ∷ 110 ∷ 97 ∷ 108 ∷ 32 ∷ []) (decimal_of n ++ line_feed) o2 o3 o5 b c r p3 (then (decimal_of n) line_feed o3 o4 o5 c d r p4 p5)))
 
 -- ---- rows
 
-pub term_prints : (x : Float) (behind n at : ℕ) (o o1 : List ℕ) → at + 17 ≤ length o → n ≡ to_bits binary64 x → o1 ≡ written o at (digitsOf 16 16 n) → length o1 ≡ length o →
+pub term_prints : (x : Float) (behind n at : ℕ) (o o1 : List ℕ) → at + 17 ≤ length o → n ≡ to_bits binary64 x → o1 ≡ written o at (digits_of 16 16 n) → length o1 ≡ length o →
     Printed (term_text x behind) o at (set o1 (at + 16) behind) (at + 17)
 unfolding term_text
 term_prints x behind n at o o1 h en e1 l1 =
-    let dn : length (digitsOf 16 16 n) ≡ 16 = digits-length 16 16 n in
-    let p1 : Printed (digitsOf 16 16 n) o at o1 (at + 16) = rw e1 (written-prints o (digitsOf 16 16 n) at (at + 16) (omega arith) (omega arith)) in
+    let dn : length (digits_of 16 16 n) ≡ 16 = digits_length 16 16 n in
+    let p1 : Printed (digits_of 16 16 n) o at o1 (at + 16) = rw e1 (written_prints o (digits_of 16 16 n) at (at + 16) (omega arith) (omega arith)) in
     let s : at + 17 ≡ at + 16 + 1 = omega arith in
     let p2 : Printed (behind ∷ []) o1 (at + 16) (set o1 (at + 16) behind) (at + 17) = record { ends = omega arith; text = rw s (take_set o1 (at + 16) behind (omega arith)) } in
-    rw (sym en) (then (digitsOf 16 16 n) (behind ∷ []) o o1 (set o1 (at + 16) behind) at (at + 16) (at + 17) p1 p2)
+    rw (sym en) (then (digits_of 16 16 n) (behind ∷ []) o o1 (set o1 (at + 16) behind) at (at + 16) (at + 17) p1 p2)
 
 pub row_prints : (i : ℕ) (ts xs ys zs : List Float) (t x y z : Float) (at : ℕ) (o o1 o2 o3 o4 : List ℕ) → t ≡ number_at ts i → x ≡ number_at xs i → y ≡ number_at ys i → z ≡ number_at zs i →
     Printed (term_text t 32) o at o1 (at + 17) → Printed (term_text x 32) o1 (at + 17) o2 (at + 17 + 17) →
@@ -177,7 +177,7 @@ row_prints i ts xs ys zs t x y z at o o1 o2 o3 o4 et ex ey ez p1 p2 p3 p4 =
 
 term_length : (x : Float) (behind : ℕ) → length (term_text x behind) ≡ 17
 unfolding term_text
-term_length x behind = simp (length-append, digits-length)
+term_length x behind = simp (length-append, digits_length)
 
 row_length : (i : ℕ) (ts xs ys zs : List Float) → length (row_text i ts xs ys zs) ≡ 68
 unfolding row_text
@@ -232,16 +232,16 @@ within_mid Failed k xs ys h = tt
 
 -- where its pieces end
 pub head_few : (o o1 o2 o3 o4 o5 : List ℕ) (a b c d r : ℕ) → Printed (107 ∷ 101 ∷ 112 ∷ 116 ∷ 32 ∷ []) o 0 o1 a → b ≤ a + 20 → Printed (32 ∷ 102 ∷ 105 ∷ 110 ∷ 97 ∷ 108 ∷ 32 ∷ []) o2 b o3 c →
-    d ≤ c + 20 → Printed lineFeed o4 d o5 r → r ≤ 64
+    d ≤ c + 20 → Printed line_feed o4 d o5 r → r ≤ 64
 head_few o o1 o2 o3 o4 o5 a b c d r p1 h1 p2 h2 p3 =
     let e1 : a ≡ 0 + 5 = p1.ends in
     let e2 : c ≡ b + 7 = p2.ends in
     let e3 : r ≡ d + 1 = p3.ends in
     omega arith
 
-pub refused_counts : (n : ℕ) (o o1 o2 o3 : List ℕ) (a b r : ℕ) → Printed (114 ∷ 101 ∷ 102 ∷ 117 ∷ 115 ∷ 101 ∷ 100 ∷ 32 ∷ []) o 0 o1 a → Printed (decimalOf n) o1 a o2 b →
-    Printed lineFeed o2 b o3 r → IsPrefixLen r o3
-refused_counts n o o1 o2 o3 a b r p q s = printed-counts (refusedText n) o o3 r (refused-prints n o o1 o2 o3 a b r p q s)
+pub refused_counts : (n : ℕ) (o o1 o2 o3 : List ℕ) (a b r : ℕ) → Printed (114 ∷ 101 ∷ 102 ∷ 117 ∷ 115 ∷ 101 ∷ 100 ∷ 32 ∷ []) o 0 o1 a → Printed (decimal_of n) o1 a o2 b →
+    Printed line_feed o2 b o3 r → IsPrefixLen r o3
+refused_counts n o o1 o2 o3 a b r p q s = printed_counts (refused_text n) o o3 r (refused_prints n o o1 o2 o3 a b r p q s)
 
 pub rows_count : (out out₀ : List ℕ) (n k : ℕ) → length out ≡ length out₀ → 34000 ≤ length out₀ → n ≤ 500 → k ≤ n → IsPrefixLen (68 * k) out
 rows_count out out₀ n k l h g i = counts (68 * k) out (omega arith)

@@ -4,8 +4,8 @@ use Rattle.std.specs.Int.{w64}
 use Rattle.std.proofs.Common.{to_z}
 use Rattle.std.specs.Float.{nan, binary64}
 use Rattle.std.specs.Float.Ieee.{to_bits}
-use Rattle.hexadecimal.specs.Digits.{digitsOf, decimalOf}
-use Rattle.hexadecimal.specs.Printing.{lineFeed}
+use Rattle.hexadecimal.specs.Digits.{digits_of, decimal_of}
+use Rattle.hexadecimal.specs.Printing.{line_feed}
 use Rattle.sheet_program.specs.declared.Places.{Places}
 
 -- ---- numbers of a text, words as the doubles of their bits
@@ -78,11 +78,11 @@ Near p =
 -- "kept K final F"
 unfoldable pub head_text : ℕ → ℕ → List ℕ
 head_text kept entries =
-    (107 ∷ 101 ∷ 112 ∷ 116 ∷ 32 ∷ []) ++ (decimalOf kept ++ ((32 ∷ 102 ∷ 105 ∷ 110 ∷ 97 ∷ 108 ∷ 32 ∷ []) ++ (decimalOf entries ++ lineFeed)))
+    (107 ∷ 101 ∷ 112 ∷ 116 ∷ 32 ∷ []) ++ (decimal_of kept ++ ((32 ∷ 102 ∷ 105 ∷ 110 ∷ 97 ∷ 108 ∷ 32 ∷ []) ++ (decimal_of entries ++ line_feed)))
 
 -- a word of 16 digits, and the byte behind it
 unfoldable pub term_text : Float → ℕ → List ℕ
-term_text x behind = digitsOf 16 16 (to_bits binary64 x) ++ (behind ∷ [])
+term_text x behind = digits_of 16 16 (to_bits binary64 x) ++ (behind ∷ [])
 
 -- the i-th entry of the four lists
 unfoldable pub row_text : ℕ → List Float → List Float → List Float → List Float → List ℕ

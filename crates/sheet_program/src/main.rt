@@ -16,6 +16,7 @@ use hexadecimal;
 use legendre;
 use sheet;
 use slices;
+use std::io::Read;
 use streams;
 use submission_text;
 
@@ -545,7 +546,7 @@ fn ends(b: u8, full: bool) -> bool {
 
 // Reads a header, to its line feed. The last place takes each digit of a count for which there is no more room: of a count that long any digits may be left
 // out (`submission_text`, proofs/LongCounts.antt). The turns are more than any input has bytes.
-fn read_header(line: &mut [u8]) -> streams::Got
+fn read_header<R: Read>(input: &mut R, line: &mut [u8]) -> streams::Got
     requires { 0 < length line.old }
     ensures { Within line.new result }
 {
@@ -554,7 +555,7 @@ fn read_header(line: &mut [u8]) -> streams::Got
     let mut n = 0;
     while 0 < turns {
         let mut byte = [0u8; 1];
-        let got = streams::read(&mut byte);
+        let got = streams::read(input, &mut byte);
         let streams::Got::Bytes(k) = got else {
             return streams::Got::Failed;
         };
@@ -572,17 +573,17 @@ fn read_header(line: &mut [u8]) -> streams::Got
 }
 
 // The next line of the input, 0 bytes at its end.
-fn read_line(bytes: usize, line: &mut [u8]) -> streams::Got
+fn read_line<R: Read>(input: &mut R, bytes: usize, line: &mut [u8]) -> streams::Got
     requires { 0 < length line.old }
     ensures { Within line.new result }
 {
     if bytes == 0 {
-        return read_header(line);
+        return read_header(input, line);
     }
     if line.len() < bytes {
         return streams::Got::Bytes(0);
     }
-    streams::read(&mut line[0..bytes])
+    streams::read(input, &mut line[0..bytes])
 }
 
 // What the input was: a text, read to its end or to its first fault; or a read failed.
@@ -593,12 +594,12 @@ enum Input {
 }
 
 // Reads the input. The turns are more than a submission has lines.
-fn read_all(numbers: &mut [f64]) -> Input {
+fn read_all<R: Read>(input: &mut R, numbers: &mut [f64]) -> Input {
     let mut line = [0u8; 3145];
     let mut turns: usize = 100000;
     let mut at = submission_text::start();
     while 0 < turns {
-        let got = read_line(submission_text::line_length(at), &mut line);
+        let got = read_line(input, submission_text::line_length(at), &mut line);
         let streams::Got::Bytes(n) = got else {
             return Input::Failed;
         };
@@ -615,9 +616,9 @@ fn read_all(numbers: &mut [f64]) -> Input {
 }
 
 // An input that cannot be read has no answer, and one that ends has.
-fn main() {
+fn main(rt: HostRuntime) {
     let mut scratch = [0.0; 419784];
-    let input = read_all(&mut scratch);
+    let input = read_all(&mut rt.stdin(), &mut scratch);
     match input {
         Input::Text(at) => answer(at, &mut scratch),
         Input::Failed => streams::say_unread(),

@@ -13,7 +13,7 @@ use Rattle.laws.specs.Times.{RisingSeconds, second_time, second_below}
 use Rattle.laws.specs.WholeNumbers.{Is, number, number_is, is_lt}
 use Rattle.laws.specs.Bools.{by, holds}
 use Rattle.finality.specs.Tables.{Table, find, key_of, same_second}
-use Rattle.finality.proofs.Lookup.{same_second}
+use Rattle.finality.proofs.Lookup.{same_second_law}
 use Rattle.integrate.specs.Room.{state_in}
 use Rattle.integrate.specs.declared.kernel.State.{State}
 use Rattle.fit.specs.declared.kernel.Held.{Held}
@@ -92,10 +92,10 @@ irreflexive (pos i) h = omega (arith, ltb→lt i i h)
 irreflexive (negsuc i) h = omega (arith, ltb→lt i i h)
 
 below_other : (i k : ℤ) → T (lt_z i k) → same_second i k ≡ false
-below_other i k h = is_false (same_second i k) (not_T (same_second i k) (λ t. irreflexive i (subst (λ (j : ℤ). T (lt_z i j)) (sym (same_second i k t)) h)))
+below_other i k h = is_false (same_second i k) (not_T (same_second i k) (λ t. irreflexive i (subst (λ (j : ℤ). T (lt_z i j)) (sym (same_second_law i k t)) h)))
 
 above_other : (i k : ℤ) → T (lt_z k i) → same_second i k ≡ false
-above_other i k h = is_false (same_second i k) (not_T (same_second i k) (λ t. irreflexive i (subst (λ (j : ℤ). T (lt_z j i)) (sym (same_second i k t)) h)))
+above_other i k h = is_false (same_second i k) (not_T (same_second i k) (λ t. irreflexive i (subst (λ (j : ℤ). T (lt_z j i)) (sym (same_second_law i k t)) h)))
 
 -- ---- a table's rows
 
@@ -184,7 +184,7 @@ module _ (s : List Float) (at n : ℕ) (t : Float) (lo hi : ℕ) (b : Bracket s 
         let same : same_second (nth table m).0 k ≡ true =
         same_key (nth table m).0 k key h.key ((λ i. lt (sym (is_second table k h) i) (sym h.time i)) ∙ e) ((λ i. lt (sym h.time i) (sym (is_second table k h) i)) ∙ f) in
         let before : (j : ℕ) → j < m → same_second (nth table j).0 k ≡ false = λ j l.
-        below_other (nth table j).0 k (subst (λ (i : ℤ). T (lt_z (nth table j).0 i)) (same_second (nth table m).0 k (holds _ same)) (rises table h.orderly.rises j m l (inside table k h))) in
+        below_other (nth table j).0 k (subst (λ (i : ℤ). T (lt_z (nth table j).0 i)) (same_second_law (nth table m).0 k (holds _ same)) (rises table h.orderly.rises j m l (inside table k h))) in
         ap Known (r ∙ entry_state s (at + 7 * m) (nth table m) (h.entries.each m (inside table k h)))
         ∙ ap held_of (sym (find_met k table m (inside table k h) before same));
   }

@@ -5,7 +5,7 @@
 ghost use Rattle.streams.specs.Got.{Within};
 
 use io;
-use libc;
+use std::io::Read;
 
 // What reading brought: so many bytes at the head of the buffer, fewer than it holds only where the input ended; or a read failed.
 #[derive(Clone, Copy)]
@@ -14,18 +14,17 @@ pub enum Got {
     Failed,
 }
 
-// Reads standard input until the buffer is full or the input ends.
-pub fn read(buf: &mut [u8]) -> Got
+// Reads from a stream, such as standard input, until the buffer is full or the input ends.
+pub fn read<R: Read>(from: &mut R, buf: &mut [u8]) -> Got
     ensures { Within buf.new result }
 {
     let end = buf.len();
     let mut done = 0;
     while done < end {
-        let got = libc::read(0, &mut buf[done..end]);
-        if got < 0 {
-            return Got::Failed;
-        }
-        let more = io::count(got, &buf[done..end]);
+        let more = match from.read(&mut buf[done..end]) {
+            Ok(n) => n,
+            Err(_) => return Got::Failed,
+        };
         if more == 0 {
             return Got::Bytes(done);
         }

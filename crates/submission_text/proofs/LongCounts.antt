@@ -7,26 +7,26 @@ use Prim.Native.Nat.{ℕ, zero, suc, ◌+◌, ◌-◌, ◌<◌, ◌≤◌}
 use native.Mathlib.Omega.{arith}
 use borrow.Author.Tests.{eq-eqb}
 use lib.Dec.{leb, eqb}
-use lib.ListN.{length, take, drop, get_or, length-append}
+use lib.ListN.{length, take, get_or, length-append}
 use lib.Seq.{take_at, drop_at, get_or_at}
 use lib.Ieee.{binary64, of_bits}
 use Rattle.laws.specs.Checks.{all}
-use Rattle.hexadecimal.specs.Digits.{isDigit, part}
-use Rattle.hexadecimal.specs.Printing.{lineFeed}
+use Rattle.hexadecimal.specs.Digits.{is_digit, part}
+use Rattle.hexadecimal.specs.Printing.{line_feed}
 use Rattle.hexadecimal.specs.declared.Parsed.TheVariants.{Value}
 use Rattle.submission_text.specs.declared.Reading.{Reading}
-use Rattle.submission_text.specs.Text.{long_count, count_in, begins_with, header_with, names, header_of, outside, count_refusal, header_fault, refused_by, goes_on, only, unless_fault, announced, headed}
+use Rattle.submission_text.specs.Text.{count_in, begins_with, header_with, names, header_of, outside, count_refusal, header_fault, refused_by, goes_on, only, unless_fault, announced, headed}
 use Rattle.submission_text.specs.Text.{taken_header}
 use Rattle.submission_text.proofs.ReadLines.{count_long, header_counts, header_at}
 
 -- more than 18 decimal digits, and no zero in front of them
 pub record LongCount (digits : List ℕ) : Type 0 where
   pub many : 18 < length digits
-  pub decimal : (not (eqb (get_or digits 0 0) 48) && all (isDigit 10) digits) ≡ true
+  pub decimal : (not (eqb (get_or digits 0 0) 48) && all (is_digit 10) digits) ≡ true
 
 -- a header: its name, with the space after it, the digits of its count and a line feed
 abbrev pub header : List ℕ → List ℕ → List ℕ
-header name digits = name ++ (digits ++ lineFeed)
+header name digits = name ++ (digits ++ line_feed)
 
 begins_itself : (name rest : List ℕ) → begins_with name (name ++ rest) ≡ true
 unfolding begins_with
@@ -34,23 +34,23 @@ begins_itself [] rest = refl
 begins_itself (n ∷ name) rest = ap (λ (b : Bool). b && begins_with name (name ++ rest)) (eq-eqb n n refl) ∙ begins_itself name rest
 
 counted : (digits : List ℕ) → LongCount digits → count_in digits ≡ Value 1000000000000000000
-counted digits l = sym (count_long digits (all (isDigit 10) digits) true (Value 1000000000000000000) l.many refl (sym l.decimal) refl)
+counted digits l = sym (count_long digits (all (is_digit 10) digits) true (Value 1000000000000000000) l.many refl (sym l.decimal) refl)
 
 long_header : (name digits : List ℕ) → LongCount digits → header_with name (header name digits) ≡ Value 1000000000000000000
 long_header name digits l =
     let line = header name digits in
-    let k : length line ≡ length name + (length digits + 1) = length-append name (digits ++ lineFeed) ∙ ap (λ (n : ℕ). length name + n) (length-append digits lineFeed) in
+    let k : length line ≡ length name + (length digits + 1) = length-append name (digits ++ line_feed) ∙ ap (λ (n : ℕ). length name + n) (length-append digits line_feed) in
     let m : 18 < length digits = l.many in
     let room : length name + 2 ≤ length line = omega arith in
-    let whole : line ≡ (name ++ digits) ++ lineFeed = sym (append_assoc name digits lineFeed) in
+    let whole : line ≡ (name ++ digits) ++ line_feed = sym (append_assoc name digits line_feed) in
     let before : length (name ++ digits) ≡ length line - 1 = length-append name digits ∙ (let e : length name + length digits ≡ length line - 1 = omega arith in e) in
     let last : get_or line (length line - 1) 0 ≡ 10 = ap (λ (x : List ℕ). get_or x (length line - 1) 0) whole ∙ get_or_at (name ++ digits) 10 [] 0 (length line - 1) before in
     let n : length digits ≡ length line - 1 - length name = omega arith in
     let digits_there : part line (length name) (length line - 1 - length name) ≡ digits =
-    ap (take (length line - 1 - length name)) (drop_at name (digits ++ lineFeed) (length name) refl) ∙ take_at digits lineFeed (length line - 1 - length name) n
+    ap (take (length line - 1 - length name)) (drop_at name (digits ++ line_feed) (length name) refl) ∙ take_at digits line_feed (length line - 1 - length name) n
     in
     let tested : (eqb (get_or line (length line - 1) 0) 10 && true) ≡ true = ap (λ (b : Bool). b && true) (eq-eqb (get_or line (length line - 1) 0) 10 last) in
-    sym (header_counts name line true (eqb (get_or line (length line - 1) 0) 10 && true) room (sym (begins_itself name (digits ++ lineFeed))) refl (Value 1000000000000000000) tested
+    sym (header_counts name line true (eqb (get_or line (length line - 1) 0) 10 && true) room (sym (begins_itself name (digits ++ line_feed))) refl (Value 1000000000000000000) tested
     (sym (ap count_in digits_there ∙ counted digits l)))
 
 beyond_bound : (section : ℕ) → 2 ≤ section → section < 9 → count_refusal section 1000000000000000000 ≡ 2

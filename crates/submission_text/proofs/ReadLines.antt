@@ -12,7 +12,7 @@ use borrow.Rule.Slice.PartMut.{mid_of, post_of, put_mid, mid_len}
 use lib.Ieee.{Float, binary64, of_bits}
 use Rattle.laws.specs.Checks.{all}
 use Rattle.laws.specs.Loops.{head_at, fill_turn, fill_done, take_set}
-use Rattle.hexadecimal.specs.Digits.{isDigit, digitOf, word_at, decimalAt, part, isWord, bits_of, float_at}
+use Rattle.hexadecimal.specs.Digits.{is_digit, digit_of, word_at, decimal_at, part, is_word, bits_of, float_at}
 use Rattle.hexadecimal.specs.declared.Parsed.{Parsed}
 use Rattle.hexadecimal.specs.declared.Parsed.TheVariants.{Value, Malformed}
 use Rattle.submission_text.specs.declared.Reading.{Reading}
@@ -34,15 +34,15 @@ float_is text at n r e er = er ∙ ap (of_bits binary64) e
 
 -- ---- headers
 
-pub decimal_is : (b d : ℕ) → d ≡ digitOf b → ltb d 10 ≡ isDigit 10 b
-unfolding isDigit
+pub decimal_is : (b d : ℕ) → d ≡ digit_of b → ltb d 10 ≡ is_digit 10 b
+unfolding is_digit
 decimal_is b d e = ap (λ (n : ℕ). ltb n 10) e
 
-pub count_short : (digits : List ℕ) (r : Parsed) → length digits < 19 → r ≡ decimalAt digits 0 (length digits) → r ≡ count_in digits
+pub count_short : (digits : List ℕ) (r : Parsed) → length digits < 19 → r ≡ decimal_at digits 0 (length digits) → r ≡ count_in digits
 unfolding count_in
 count_short digits r h e = e ∙ sym (rw (lt-ltb (length digits) 19 h))
 
-pub count_long : (digits : List ℕ) (a b : Bool) (r : Parsed) → 19 ≤ length digits → a ≡ all (isDigit 10) digits → b ≡ (not (eqb (get_or digits 0 0) 48) && a) → r ≡ long_count b → r ≡ count_in digits
+pub count_long : (digits : List ℕ) (a b : Bool) (r : Parsed) → 19 ≤ length digits → a ≡ all (is_digit 10) digits → b ≡ (not (eqb (get_or digits 0 0) 48) && a) → r ≡ long_count b → r ≡ count_in digits
 unfolding count_in
 count_long digits a b r h ea eb er = er ∙ ap long_count (eb ∙ ap (λ (x : Bool). not (eqb (get_or digits 0 0) 48) && x) ea) ∙ sym (rw (le-ltb (length digits) 19 h))
 
@@ -161,9 +161,9 @@ separator_some left = Rattle.laws.specs.Lists.cond_ind (λ (s : ℕ). eqb 0 s �
 
 pub term_short : (line : List ℕ) (at left : ℕ) → length line ≤ at + 16 → false ≡ is_term line at left
 unfolding is_term
-term_short line at left h = rw (get_or-eq_default line 0 {n = at + 16} h, separator_some left) (never (isWord (word_at line at)))
+term_short line at left h = rw (get_or-eq_default line 0 {n = at + 16} h, separator_some left) (never (is_word (word_at line at)))
 
-pub term_tested : (line : List ℕ) (at left s : ℕ) (w r : Bool) → w ≡ isWord (word_at line at) → s ≡ separator left → r ≡ (w && eqb (get_or line (at + 16) 0) s) → r ≡ is_term line at left
+pub term_tested : (line : List ℕ) (at left s : ℕ) (w r : Bool) → w ≡ is_word (word_at line at) → s ≡ separator left → r ≡ (w && eqb (get_or line (at + 16) 0) s) → r ≡ is_term line at left
 unfolding is_term
 term_tested line at left s w r ew es er = er ∙ (λ i. ew i && eqb (get_or line (at + 16) 0) (es i))
 

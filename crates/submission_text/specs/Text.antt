@@ -4,7 +4,7 @@ use Rattle.std.specs.Prelude.{◌≡◌, Bool, true, false, cond, not, ◌&&◌,
 use Rattle.std.specs.Float.{binary64}
 use Rattle.std.specs.Float.Ieee.{of_bits}
 use Rattle.laws.specs.Checks.{all}
-use Rattle.hexadecimal.specs.Digits.{isDigit, word_at, decimalAt, part, isWord, bits_of, float_at}
+use Rattle.hexadecimal.specs.Digits.{is_digit, word_at, decimal_at, part, is_word, bits_of, float_at}
 use Rattle.hexadecimal.specs.declared.Parsed.{Parsed}
 use Rattle.hexadecimal.specs.declared.Parsed.TheVariants.{Value, Malformed}
 use Rattle.submission_text.specs.declared.Reading.{Reading}
@@ -25,7 +25,7 @@ long_count false = Malformed
 
 -- decimal digits without a zero in front; 0 alone is zero
 unfoldable pub count_in : List ℕ → Parsed
-count_in digits = cond (ltb (length digits) 19) (decimalAt digits 0 (length digits)) (long_count (not (eqb (get_or digits 0 0) 48) && all (isDigit 10) digits))
+count_in digits = cond (ltb (length digits) 19) (decimal_at digits 0 (length digits)) (long_count (not (eqb (get_or digits 0 0) 48) && all (is_digit 10) digits))
 
 unfoldable pub begins_with : List ℕ → List ℕ → Bool
 begins_with [] line = true
@@ -79,7 +79,7 @@ unfoldable pub separator : ℕ → ℕ
 separator left = cond (eqb left 1) 10 32
 
 unfoldable pub is_term : List ℕ → ℕ → ℕ → Bool
-is_term line at left = isWord (word_at line at) && eqb (get_or line (at + 16) 0) (separator left)
+is_term line at left = is_word (word_at line at) && eqb (get_or line (at + 16) 0) (separator left)
 
 -- from `at` on a line is so many words, and no more
 unfoldable pub is_row : List ℕ → ℕ → ℕ → Bool

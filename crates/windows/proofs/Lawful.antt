@@ -35,9 +35,9 @@ states_same r r' run run' n e h = each r ∙ ap (λ (q : Fitted). states_of q ru
 -- ---- what a fit reads
 
 -- half a step is 1 s
-half_step : two64 ⊘ two64 ≡ half_step
+half_step_law : two64 ⊘ two64 ≡ half_step
 unfolding div of_bits
-half_step = refl
+half_step_law = refl
 
 module _ (S : Fixed) (c c' : Float → Bool) (m m' : Float → List Float) (g g' : ℤ → Option State) (arc : Arc)
     (first : c arc.t0 ≡ c' arc.t0) (start : g (second arc.t0) ≡ g' (second arc.t0))
@@ -51,7 +51,7 @@ module _ (S : Fixed) (c c' : Float → Bool) (m m' : Float → List Float) (g g'
 
   at_halves : (k : ℕ) → k < arc.steps → m (step_time arc.t0 k ⊕ two64 ⊘ two64) ≡ m' (step_time arc.t0 k ⊕ two64 ⊘ two64)
   at_halves k h =
-      let e : step_time arc.t0 k ⊕ two64 ⊘ two64 ≡ step_time arc.t0 k ⊕ half_step = ap (λ (h : Float). step_time arc.t0 k ⊕ h) half_step in
+      let e : step_time arc.t0 k ⊕ two64 ⊘ two64 ≡ step_time arc.t0 k ⊕ half_step = ap (λ (h : Float). step_time arc.t0 k ⊕ h) half_step_law in
       ap m e ∙ at_half k h ∙ ap m' (sym e)
 
   agree : Agree (full_of S m) (full_of S m') (arc_struct arc)

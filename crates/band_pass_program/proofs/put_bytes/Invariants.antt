@@ -1,14 +1,12 @@
 -- The first k bytes stand from `at` on, and nothing before them has moved: the loop's invariant. Assumes nothing.
-use mathlib.Core.Path.{◌≡◌, refl}
+use mathlib.Core.Path.{◌≡◌}
 use mathlib.Core.List.{◌++◌}
 use Prim.Native.Nat.{◌+◌, ◌-◌, ◌≤◌}
 use lib.ListN.{length, take}
-use Rattle.hexadecimal.proofs.Printing.{bytes-starts, bytes-turn, bytes-done}
-use borrow.Author.Rules.{rules}
 use Rattle.band_pass_program.proofs.put_bytes.Given as goal
 
 abbrev pub invariant-loop-k : goal.invariant-loop-k
-invariant-loop-k l = (length l.out ≡ length l.at) × (l.k ≤ length l.bytes) × (take (l.initial.out + l.k) l.out ≡ take l.initial.out l.at ++ take l.k l.bytes)
+invariant-loop-k l = (length l.out ≡ length l.initial.out) × (l.k ≤ length l.bytes) × (take (l.at + l.k) l.out ≡ take l.at l.initial.out ++ take l.k l.bytes)
 
 abbrev pub decreases-loop-k : goal.decreases-loop-k
 decreases-loop-k l = length l.bytes - l.k

@@ -1,11 +1,9 @@
 -- What is printed, followed by the text of the pairs that are left, is the text of all: the loop's invariant. Assumes nothing.
-use mathlib.Core.Path.{◌≡◌, refl}
+use mathlib.Core.Path.{◌≡◌}
 use mathlib.Core.List.{◌++◌}
-use Prim.Native.Nat.{◌+◌, ◌-◌, ◌*◌, ◌≤◌}
+use Prim.Native.Nat.{◌-◌, ◌*◌, ◌≤◌}
 use lib.ListN.{length, take, drop}
 use Rattle.band_pass_program.specs.Text.{lines_text}
-use Rattle.band_pass_program.proofs.ProgramText.{lines_turn, lines_done}
-use borrow.Author.Rules.{rules}
 use Rattle.band_pass_program.proofs.put_lines.Given as goal
 
 abbrev pub invariant-loop-i : goal.invariant-loop-i

@@ -1,11 +1,9 @@
 -- What is read, followed by the column that is left, is the whole column: the loop's invariant. Assumes nothing.
-use mathlib.Core.Path.{◌≡◌, refl}
+use mathlib.Core.Path.{◌≡◌}
 use mathlib.Core.List.{◌++◌}
 use Prim.Native.Nat.{◌+◌, ◌-◌, ◌*◌}
 use lib.ListN.{length, take}
 use Rattle.band_pass_program.specs.Text.{column}
-use Rattle.band_pass_program.proofs.ProgramText.{column_turn, column_done, column_starts}
-use borrow.Author.Rules.{rules}
 use Rattle.band_pass_program.proofs.read_column.Given as goal
 
 abbrev pub invariant-loop-k : goal.invariant-loop-k

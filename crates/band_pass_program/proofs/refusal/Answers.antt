@@ -1,7 +1,5 @@
 -- The refusal of the lines from `at` on is that of the whole text: the loop's invariant. Assumes nothing.
-use mathlib.Core.Path.{◌≡◌, refl}
-use Prim.Native.Nat.{◌+◌, ◌*◌}
-use Rattle.band_pass_program.specs.Text.{refusal_from}
+use mathlib.Core.Path.{refl}
 use Rattle.band_pass_program.proofs.ProgramText.{scan_ends, scan_over, scan_bad, scan_goes}
 use borrow.Author.Rules.{rules}
 use Rattle.band_pass_program.proofs.refusal.Goals as goal

@@ -1,9 +1,7 @@
 -- The refusal of the lines from `at` on is that of the whole text: the loop's invariant. Assumes nothing.
-use mathlib.Core.Path.{◌≡◌, refl}
+use mathlib.Core.Path.{◌≡◌}
 use Prim.Native.Nat.{◌+◌, ◌*◌}
 use Rattle.band_pass_program.specs.Text.{refusal_from}
-use Rattle.band_pass_program.proofs.ProgramText.{scan_ends, scan_over, scan_bad, scan_goes}
-use borrow.Author.Rules.{rules}
 use Rattle.band_pass_program.proofs.refusal.Given as goal
 
 abbrev pub invariant-loop-left : goal.invariant-loop-left

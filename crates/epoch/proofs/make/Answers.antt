@@ -7,6 +7,6 @@ use Rattle.epoch.proofs.make.Goals as goal
 pub returns : goal.returns
 returns c =
     let s = c.args in
-    recorded (model_of s.degree s.t2) s.base s.w.now _ c.requires
+    recorded (model_of s.degree s.model) s.base s.w.now _ c.requires
     s.t s.observed _ _ s.found.c s.found.d s.found.axc s.found.axd _
     c.at.ensures c.element.ensures c.element-2.ensures c.epoch_at.ensures

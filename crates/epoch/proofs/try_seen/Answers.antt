@@ -7,16 +7,16 @@ use Rattle.epoch.proofs.try_seen.Goals as goal
 pub make-epoch-requires : goal.make-epoch-requires
 make-epoch-requires c =
     let s = c.args in
-    has_room (model_of s.degree s.t2) s.t s.observed s.good s.base s.w.now s.found _ _ c.is_kept-kept.ensures c.both.ensures c.if-both.true
+    has_room (model_of s.degree s.model) s.t s.observed s.good s.base s.w.now s.found _ _ c.is_kept-kept.ensures c.both.ensures c.if-both.true
 
 pub returns-then-both : goal.returns-then-both
 returns-then-both c =
     let s = c.args in
-    tried_kept (model_of s.degree s.t2) s.t s.observed s.good s.base s.w.now s.found _ _ c.is_kept-kept.ensures c.both.ensures _ _ c.if-both.true
+    tried_kept (model_of s.degree s.model) s.t s.observed s.good s.base s.w.now s.found _ _ c.is_kept-kept.ensures c.both.ensures _ _ c.if-both.true
     c.make-epoch.ensures
 
 pub returns : goal.returns
 returns c =
     let s = c.args in
-    tried_not (model_of s.degree s.t2) s.t s.observed s.good s.base s.w.now s.found _ _ c.is_kept-kept.ensures c.both.ensures _ c.if-both.false
+    tried_not (model_of s.degree s.model) s.t s.observed s.good s.base s.w.now s.found _ _ c.is_kept-kept.ensures c.both.ensures _ c.if-both.false
     c.no_epoch.ensures

@@ -4,4 +4,4 @@ use borrow.Author.Rules.{rules}
 use Rattle.exports.proofs.pozsmeteg_final_entries.Goals as goal
 
 pub returns : goal.returns
-returns c = ap length c.final_entries-part.ensures.0
+returns c = ap length c.final_entries-part.ensures.result_value

@@ -8,4 +8,4 @@ returns-then-rms-ne1 c = fit_unplaced _ _ _ _ _ _ _ _ c.if-rms-ne1.true c.fit.en
 
 pub returns : goal.returns
 returns c =
-    fit_told_law _ _ _ _ _ _ _ _ _ _ _ _ c.if-rms-ne1.false c.store_rms.ensures c.fit_orbit-answer.ensures
+    fit_told_law _ _ _ _ _ _ _ _ _ _ _ _ c.if-rms-ne1.false (c.store_rms.ensures.number, c.store_rms.ensures.places) c.fit_orbit-answer.ensures

@@ -1,5 +1,4 @@
 -- `fields::compute_with_derivative`: refused, or both tables computed in a prepared scratch and handed out, by the laws of proofs/ScratchCalls.antt. Assumes nothing.
-use borrow.Author.Rules.{rules}
 use lib.Ieee.Scale.{finite}
 use Rattle.laws.specs.Checks.{all}
 use Rattle.fields.proofs.Answers.{three_fine}

@@ -1,5 +1,4 @@
 -- `fields::derive`: refused, or the derivative handed out from a prepared scratch, by the laws of proofs/ScratchCalls.antt. Assumes nothing.
-use borrow.Author.Rules.{rules}
 use Rattle.fields.proofs.ScratchCalls.{derive_refused, derive_answered}
 use Rattle.fields.proofs.derive.Goals as goal
 

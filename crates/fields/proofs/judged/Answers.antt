@@ -1,4 +1,3 @@
-use borrow.Author.Rules.{rules}
 use Rattle.fields.proofs.Answers.{judged_fine, judged_not}
 use Rattle.fields.proofs.judged.Goals as goal
 

@@ -1,5 +1,4 @@
 -- `fields::partials`: refused, or answered from a prepared scratch, by the laws of proofs/ScratchCalls.antt. Assumes nothing.
-use borrow.Author.Rules.{rules}
 use Rattle.fields.proofs.ScratchCalls.{partials_refused, partials_fit, partials_answered}
 use Rattle.fields.proofs.partials.Goals as goal
 
@@ -19,5 +18,5 @@ pub returns : goal.returns
 returns c =
     let a = c.args in
     partials_answered a.degree a.field.now a.a.now a.b.now a.r a.lat a.lon a.scratch.now _ _ c.values_fine-values.ensures
-    c.field_refusal-n.ensures _ _ c.partials_in-z.new.1.1.1.1.1.1.1.0 _ c.if-n-ne0.false c.partials_in-z.ensures c.judged.ensures
-    c.partials_in-z.auto.1.1.1.1.1.1.1.0 c.clear.ensures
+    c.field_refusal-n.ensures _ _ c.partials_in-z.new.scratch _ c.if-n-ne0.false c.partials_in-z.ensures c.judged.ensures
+    c.partials_in-z.auto.scratch c.clear.ensures

@@ -1,5 +1,4 @@
 -- `fields::rescaled`: refused, or both kinds of coefficients handed out, by the laws of proofs/ScratchCalls.antt. Assumes nothing.
-use borrow.Author.Rules.{rules}
 use lib.Ieee.Scale.{finite}
 use Rattle.laws.specs.Checks.{all}
 use Rattle.fields.proofs.Answers.{three_fine}

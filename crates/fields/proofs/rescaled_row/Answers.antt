@@ -1,12 +1,10 @@
 -- `fields::rescaled_row`: behind the first k places stand the first m rescaled coefficients of row n. Assumes nothing.
 use borrow.Author.Rules.{rules}
-use Prim.Native.Nat.{◌+◌, ◌-◌, ◌≤◌}
-use mathlib.Core.Path.{◌≡◌, refl}
-use mathlib.Core.List.{◌++◌}
+use mathlib.Core.Path.{refl}
 use native.Mathlib.Omega.{arith}
-use lib.ListN.{length, take}
-use Rattle.laws.specs.Tables.{row, row_none}
-use Rattle.fields.proofs.ScratchCalls.{scaled_at, scaled_turn, scaled_done}
+use lib.ListN.{take}
+use Rattle.laws.specs.Tables.{row_none}
+use Rattle.fields.proofs.ScratchCalls.{scaled_turn, scaled_done}
 use Rattle.fields.proofs.rescaled_row.Goals as goal
 
 pub loop-m-init : goal.loop-m-init

@@ -1,9 +1,8 @@
 -- `fields::rescaled_rows`: before degree n the table holds the rescaled rows below n. Assumes nothing.
 use borrow.Author.Rules.{rules}
 use mathlib.Core.Path.{◌≡◌, refl, ap}
-use Prim.Native.Nat.{◌+◌, ◌-◌, ◌≤◌}
+use Prim.Native.Nat.{◌+◌}
 use native.Mathlib.Omega.{arith}
-use lib.ListN.{length, take}
 use Rattle.laws.specs.Tables.{tri, rows, tri_next, tri_mono, tri_small, rows_turn, rows_done}
 use Rattle.fields.specs.Rescaled.{rescaled_at}
 use Rattle.fields.proofs.rescaled_rows.Goals as goal

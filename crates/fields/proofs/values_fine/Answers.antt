@@ -1,5 +1,4 @@
 -- `fields::values_fine`: field, tables and place tested one by one are the definition's test, from what each call ensures, by rewriting. Assumes nothing.
-use borrow.Author.Rules.{rules}
 use Rattle.fields.proofs.values_fine.Goals as goal
 
 pub returns : goal.returns

@@ -20,10 +20,10 @@ pub returns-in-Fitted : goal.returns-in-Fitted
 returns-in-Fitted c =
     let s = c.args in
     fit_handed (model_of s.degree s.model) s.keys.now s.states.now s.arc s.out.now s.scratch.now _ c.refusal-refused.ensures c.if-refused-ne0.false _ _
-    c.fit_arc-answer.ensures c.answer-1.given.0.0 c.answer-1.given.1 _ _ _ c.hand_out.ensures
+    c.fit_arc-answer.ensures c.in-Fitted.x c.in-Fitted.is _ _ _ c.hand_out.ensures
 
 pub returns-in-Refused : goal.returns-in-Refused
 returns-in-Refused c =
     let s = c.args in
     fit_failed (model_of s.degree s.model) s.keys.now s.states.now s.arc s.out.now s.scratch.now _ c.refusal-refused.ensures c.if-refused-ne0.false _ _
-    c.fit_arc-answer.ensures c.answer-in-Refused-1.given.0.0 c.answer-in-Refused-1.given.1 _ _ c.clear.ensures c.clear-in-Refused.ensures
+    c.fit_arc-answer.ensures c.in-Refused.k c.in-Refused.is _ _ c.clear.ensures c.clear-in-Refused.ensures

@@ -38,7 +38,7 @@ returns-then-both c =
     (fit_is (given (model_of s.degree s.model) s.keys.now s.states.now s.nodes.now) (outputs s.outkeys.now s.outstates.now s.rms.now) (length s.scratch.now) _ _
     c.places_fit-places.ensures c.lengths_fit-fit.ensures) c.refusal-refused.ensures c.if-refused-ne0.false _ _
     (so_far_given (given (model_of s.degree s.model) s.keys.now s.states.now s.nodes.now) _ _ c.fill-done.ensures) _ _ _ c.all_finite.ensures
-    c.all_finite-2.ensures c.both.ensures _ _ c.fill-done.auto.1.1.1.1.1.1.1.1.0 c.clear.ensures c.if-both.true
+    c.all_finite-2.ensures c.both.ensures _ _ c.fill-done.auto.s c.clear.ensures c.if-both.true
 
 pub returns : goal.returns
 returns c =
@@ -47,8 +47,8 @@ returns c =
     _ c.places_fit-places.ensures c.lengths_fit-fit.ensures) in
     let l = long (given (model_of s.degree s.model) s.keys.now s.states.now s.nodes.now) (outputs s.outkeys.now s.outstates.now s.rms.now) (length s.scratch.now) _ _
     ef c.refusal-refused.ensures c.if-refused-ne0.false in
-    let k = c.fill-done.auto.1.1.1.1.1 in
+    let k = c.fill-done.auto in
     orbits_unfit (given (model_of s.degree s.model) s.keys.now s.states.now s.nodes.now) (outputs s.outkeys.now s.outstates.now s.rms.now) s.scratch.now _ _ ef
     c.refusal-refused.ensures c.if-refused-ne0.false _ _ (so_far_given (given (model_of s.degree s.model) s.keys.now s.states.now s.nodes.now) _ _ c.fill-done.ensures) _ _
-    _ c.all_finite.ensures c.all_finite-2.ensures c.both.ensures _ _ c.fill-done.auto.1.1.1.1.1.1.1.1.0 c.clear.ensures _
-    (c.clear_outputs.ensures (length s.nodes.now - 1) (k.0 ∙ l.keys) (k.1.0 ∙ l.states) (k.1.1.0 ∙ l.rms)) c.if-both.false
+    _ c.all_finite.ensures c.all_finite-2.ensures c.both.ensures _ _ c.fill-done.auto.s c.clear.ensures _
+    (c.clear_outputs.ensures (length s.nodes.now - 1) (k.outkeys ∙ l.keys) (k.outstates ∙ l.states) (k.rms ∙ l.rms)) c.if-both.false

@@ -5,4 +5,4 @@ use Rattle.forces.proofs.lengths_fine.Goals as goal
 
 pub returns : goal.returns
 unfolding lengths_fine
-returns c = simp (c.both-2.ensures, c.both-tables.ensures, c.both.ensures, c.size_of.ensures.0)
+returns c = simp (c.both-2.ensures, c.both-tables.ensures, c.both.ensures, c.size_of-l.ensures.0)

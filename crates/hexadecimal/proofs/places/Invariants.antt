@@ -1,14 +1,11 @@
 -- `hexadecimal::places` meets its contract. The loop's invariant: what is left has the digits that are still to be counted. Assumes nothing.
-use mathlib.Core.Path.{◌≡◌, refl}
+use mathlib.Core.Path.{◌≡◌}
 use Prim.Native.Nat.{◌+◌, ◌-◌, ◌<◌, ◌≤◌}
-use native.Mathlib.Omega.{arith}
-use Rattle.hexadecimal.specs.Digits.{placesIn, places_of}
-use Rattle.hexadecimal.proofs.DigitLoops.{places-small, places-more, places-none}
-use borrow.Author.Rules.{rules}
+use Rattle.hexadecimal.specs.Digits.{places_in, places_of}
 use Rattle.hexadecimal.proofs.places.Given as goal
 
 abbrev pub invariant-loop-count : goal.invariant-loop-count
-invariant-loop-count l = (0 < l.count) × (l.count ≤ 20) × (placesIn (20 - l.count) l.rest + l.count ≡ places_of l.value + 1)
+invariant-loop-count l = (0 < l.count) × (l.count ≤ 20) × (places_in (20 - l.count) l.rest + l.count ≡ places_of l.value + 1)
 
 abbrev pub decreases-loop-count : goal.decreases-loop-count
 decreases-loop-count l = 20 - l.count

@@ -1,6 +1,5 @@
 -- `horizon::counts_within`: eight counts within their bounds, from what each call ensures, by rewriting. Assumes nothing.
 use Rattle.horizon.specs.Calls.{counts_within}
-use Rattle.std.proofs.Common.{rules}
 use Rattle.horizon.proofs.counts_within.Goals as goal
 
 pub returns : goal.returns

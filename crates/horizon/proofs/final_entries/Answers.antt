@@ -1,4 +1,4 @@
-use Rattle.std.proofs.Common.{sym, refl, length-take-le, rules, le-leb}
+use Rattle.std.proofs.Common.{sym, refl, length-take-le, le-leb}
 use borrow.Author.Tests.{lt-leb}
 use Rattle.horizon.specs.Horizon.{final_entries}
 use Rattle.horizon.proofs.final_entries.Goals as goal
@@ -8,8 +8,8 @@ slice_bounds-result-end c = sym (length-take-le c.args.count c.args.list.now c.i
 
 pub returns-then-count-list : goal.returns-then-count-list
 unfolding final_entries
-returns-then-count-list c = (simp (le-leb _ _ c.if-count-list.true), refl)
+returns-then-count-list c = record { result_value = simp (le-leb _ _ c.if-count-list.true); same_place = refl }
 
 pub returns : goal.returns
 unfolding final_entries
-returns c = (simp (lt-leb _ _ c.if-count-list.false), refl)
+returns c = record { result_value = simp (lt-leb _ _ c.if-count-list.false); same_place = refl }

@@ -1,6 +1,5 @@
 -- `horizon::lists_fine`: times and keys within their bounds, from what each call ensures, by rewriting. Assumes nothing.
 use Rattle.horizon.specs.Calls.{given_fine}
-use Rattle.std.proofs.Common.{rules}
 use Rattle.horizon.proofs.lists_fine.Goals as goal
 
 pub returns : goal.returns

@@ -1,7 +1,6 @@
 -- `horizon::lists_rise`: each list rises, from what each call ensures, by rewriting. Assumes nothing.
 use Rattle.inputs.specs.Inputs.{rise}
 use Rattle.horizon.specs.Calls.{given_rise}
-use Rattle.std.proofs.Common.{rules}
 use Rattle.horizon.proofs.lists_rise.Goals as goal
 
 pub returns : goal.returns

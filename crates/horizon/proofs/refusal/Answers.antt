@@ -1,5 +1,4 @@
 -- `horizon::refusal`: the first test that fails, from what each call ensures, by rewriting. Assumes nothing.
-use Rattle.std.proofs.Common.{rules}
 use Rattle.horizon.proofs.refusal.Goals as goal
 
 pub returns : goal.returns

@@ -1,6 +1,5 @@
 -- `inputs::counts_fine`: five counts within their bounds, from what each call ensures, by rewriting. Assumes nothing.
 use Rattle.inputs.specs.Inputs.{counts_fine}
-use borrow.Author.Rules.{rules}
 use Rattle.inputs.proofs.counts_fine.Goals as goal
 
 pub returns : goal.returns

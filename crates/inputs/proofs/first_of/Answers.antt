@@ -1,5 +1,4 @@
 -- `inputs::first_of`: the number of the first of five tests that fails, else the rest's, from what each call ensures, by rewriting. Assumes nothing.
-use borrow.Author.Rules.{rules}
 use Rattle.inputs.proofs.first_of.Goals as goal
 
 pub returns : goal.returns

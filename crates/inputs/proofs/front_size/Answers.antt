@@ -1,7 +1,6 @@
 use mathlib.Core.Path.{refl, ap}
 use Prim.Native.Nat.{ℕ, ◌*◌}
 use native.Mathlib.Omega.{arith}
-use borrow.Author.Rules.{rules}
 use Rattle.inputs.proofs.front_size.Goals as goal
 
 pub returns-then-degree-gt180 : goal.returns-then-degree-gt180

@@ -1,6 +1,5 @@
 -- `inputs::inputs_rise`: field times and four lists of keys rise, from what each call ensures, by rewriting. Assumes nothing.
 use Rattle.inputs.specs.Inputs.{rise}
-use borrow.Author.Rules.{rules}
 use Rattle.inputs.proofs.inputs_rise.Goals as goal
 
 pub returns : goal.returns

@@ -1,5 +1,4 @@
 use Rattle.inputs.specs.Inputs.{keyed_fine}
-use borrow.Author.Rules.{rules}
 use Rattle.inputs.proofs.keyed_fine.Goals as goal
 
 pub returns : goal.returns

@@ -3,7 +3,6 @@ use mathlib.Core.Path.{ap}
 use Prim.Native.Nat.{ℕ, ◌+◌, ◌*◌}
 use native.Mathlib.Omega.{arith}
 use Rattle.inputs.proofs.Passed.{product_small}
-use borrow.Author.Rules.{rules}
 use Rattle.inputs.specs.Inputs.{fit_room}
 use Rattle.inputs.proofs.least_scratch.Goals as goal
 

@@ -1,5 +1,4 @@
 use Rattle.inputs.specs.Inputs.{lengths_fit}
-use borrow.Author.Rules.{rules}
 use Rattle.inputs.proofs.lengths_fit.Goals as goal
 
 pub returns : goal.returns

@@ -1,6 +1,5 @@
 -- `inputs::model_fine`: fields, tables and field times tested are the definition's test at any degree, by rewriting. Assumes nothing.
 use Rattle.inputs.specs.Inputs.{model_fine}
-use borrow.Author.Rules.{rules}
 use Rattle.inputs.proofs.model_fine.Goals as goal
 
 pub returns : goal.returns

@@ -2,7 +2,6 @@
 use Prim.Native.Nat.{◌+◌, ◌*◌}
 use native.Mathlib.Omega.{arith}
 use Rattle.inputs.proofs.Passed.{product_small}
-use borrow.Author.Rules.{rules}
 use Rattle.inputs.proofs.model_lengths.Goals as goal
 
 pub overflow_mul-all : goal.overflow_mul-all

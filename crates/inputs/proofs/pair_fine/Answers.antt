@@ -1,4 +1,3 @@
-use borrow.Author.Rules.{rules}
 use Rattle.inputs.proofs.pair_fine.Goals as goal
 
 pub returns : goal.returns

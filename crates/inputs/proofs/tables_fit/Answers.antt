@@ -1,6 +1,5 @@
 -- `inputs::tables_fit`: both satellites' states and accelerometer values have their lengths, from what each call ensures, by rewriting. Assumes nothing.
 use Rattle.inputs.specs.Inputs.{tables_fit}
-use borrow.Author.Rules.{rules}
 use Rattle.inputs.proofs.tables_fit.Goals as goal
 
 pub returns : goal.returns

@@ -1,7 +1,5 @@
 -- No more values are the same than were looked at: the loop's invariant. Assumes nothing.
 use Prim.Native.Nat.{◌-◌, ◌≤◌}
-use native.Mathlib.Omega.{arith}
-use borrow.Author.Rules.{rules}
 use Rattle.instances.proofs.unchanged.Given as goal
 
 abbrev pub invariant-loop-i : goal.invariant-loop-i

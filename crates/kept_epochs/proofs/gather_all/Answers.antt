@@ -8,7 +8,7 @@ use Rattle.kept_epochs.proofs.gather_all.Goals as goal
 pub gather_from-requires : goal.gather_from-requires
 gather_from-requires c =
     let s = c.args in
-    ced (given (model_of s.degree s.model) (pair_of s.acckeys s.accs) s.windows (observed_of s.obstimes.now s.obsvalues.now s.good.now)) s.outtimes.now
+    started (given (model_of s.degree s.model) (pair_of s.acckeys s.accs) s.windows (observed_of s.obstimes.now s.obsvalues.now s.good.now)) s.outtimes.now
     s.outraws.now s.s.now _ c.requires c.front_size-base.ensures _ _ _ c.clear.ensures c.clear-2.ensures c.«open».ensures
 
 pub returns : goal.returns

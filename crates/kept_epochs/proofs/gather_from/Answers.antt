@@ -16,14 +16,6 @@ pub turn-count-requires : goal.turn-count-requires
 turn-count-requires c =
     (c.loop-i.invariant.1.able, c.loop-i-test.true, c.loop-i.invariant.1.few)
 
-pub overflow_add-i : goal.overflow_add-i
-overflow_add-i c =
-    omega (arith, c.loop-i-test.true, c.well-formed.1.1.1.1.1.0.0)
-
-pub loop-i-smaller : goal.loop-i-smaller
-loop-i-smaller c =
-    omega (arith, c.loop-i-test.true)
-
 pub loop-i-preserved : goal.loop-i-preserved
 loop-i-preserved c =
     (omega (arith, c.loop-i-test.true), c.turn-count.ensures _ c.loop-i.invariant.1)

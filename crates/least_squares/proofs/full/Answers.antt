@@ -5,4 +5,4 @@ use borrow.Author.Rules.{rules}
 use Rattle.least_squares.proofs.full.Goals as goal
 
 pub overflow_mul-result : goal.overflow_mul-result
-overflow_mul-result c = omega (arith, mul-le-mul (le_refl (length c.args.y.now)) c.requires, c.well-formed.1.0.1)
+overflow_mul-result c = omega (arith, mul-le-mul (le_refl (length c.args.y.now)) c.requires)

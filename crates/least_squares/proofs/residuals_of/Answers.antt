@@ -11,7 +11,7 @@ use Rattle.least_squares.proofs.residuals_of.Goals as goal
 
 pub loop-r-init : goal.loop-r-init
 unfolding row
-loop-r-init c = (omega arith, refl, c.requires.2, refl)
+loop-r-init c = (omega arith, c.requires.2, refl)
 
 pub fitted-requires : goal.fitted-requires
 fitted-requires c =
@@ -21,10 +21,10 @@ pub loop-r-preserved : goal.loop-r-preserved
 unfolding residual_at
 loop-r-preserved c =
     let loop = c.loop-r in
-    (omega arith, refl, simp length-set loop.invariant.2, row_more loop.residuals _ loop.r _ loop.invariant.3 (omega arith) (simp c.fitted.ensures))
+    (omega arith, simp length-set loop.invariant.1, row_more loop.residuals _ loop.r _ loop.invariant.2 (omega arith) (simp c.fitted.ensures))
 
 pub returns : goal.returns
 unfolding residuals_of
 returns c =
     let loop = c.loop-r in
-    row_whole loop.residuals _ loop.r (length c.args.y.now) loop.invariant.3 (omega arith) loop.invariant.2
+    row_whole loop.residuals _ loop.r (length c.args.y.now) loop.invariant.2 (omega arith) loop.invariant.1

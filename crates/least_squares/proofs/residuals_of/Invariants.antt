@@ -11,7 +11,7 @@ use Rattle.least_squares.proofs.residuals_of.Given as goal
 
 abbrev pub invariant-loop-r : goal.invariant-loop-r
 invariant-loop-r l =
-    (l.r ≤ l.initial.r) × (l.initial.r ≡ length l.y) × (length l.residuals ≡ length l.y) × (take l.r l.residuals ≡ row (residual_at l.rows l.y l.p l.beta) l.r)
+    (l.r ≤ length l.y) × (length l.residuals ≡ length l.y) × (take l.r l.residuals ≡ row (residual_at l.rows l.y l.p l.beta) l.r)
 
 abbrev pub decreases-loop-r : goal.decreases-loop-r
-decreases-loop-r l = l.initial.r - l.r
+decreases-loop-r l = length l.y - l.r

@@ -1,13 +1,11 @@
 -- `legendre::all_rows`: before degree n the two arrays hold the rows n and n + 1 start from, and the sums are those of the degrees below n. Assumes nothing.
 use Rattle.laws.specs.Sums.{sum_to}
-use Rattle.legendre.specs.Rows.{tables_of, Holds}
-use Rattle.legendre.specs.Sums.{evaluation_at, AllSums, all_v, all_r, all_lat, all_lon, power}
+use Rattle.legendre.specs.Sums.{all_v, all_r, all_lat, all_lon, power}
 use Rattle.legendre.proofs.Recur.{holds_at, room_less, field_less, has_less}
 use Rattle.legendre.proofs.Added.{sums_at}
-use Prim.Native.Nat.{suc, ◌+◌, ◌-◌, ◌≤◌}
+use Prim.Native.Nat.{suc, ◌+◌, ◌≤◌}
 use mathlib.Core.Path.{◌≡◌, refl}
 use native.Mathlib.Omega.{arith}
-use lib.ListN.{length}
 use Rattle.legendre.proofs.all_rows.Goals as goal
 
 pub loop-n-init : goal.loop-n-init

@@ -1,6 +1,4 @@
 use Rattle.legendre.specs.Legendre.{b_of}
-use Prim.Native.Nat.{◌-◌}
-use borrow.Author.Rules.{rules}
 use borrow.Author.Tests.{le-leb, lt-leb}
 use Rattle.legendre.proofs.b_of.Goals as goal
 

@@ -1,6 +1,4 @@
 -- `legendre::compute_one`: one row of the Legendre functions and of their derivatives is the definition's row. Assumes nothing.
-use borrow.Author.Rules.{rules}
-use Prim.Native.Nat.{◌+◌, ◌-◌}
 use mathlib.Core.Path.{ap, ◌∙◌}
 use mathlib.Core.List.{List, ◌++◌}
 use lib.ListN.{take}
@@ -17,9 +15,9 @@ returns c =
     let e = c.tri_of-k.ensures.0 in
     let T : Tables = tables_of a.a.now a.b.now a.lower.now a.upper.now a.heads.now in
     let lr = c.legendre_row.ensures in
-    let hp = p_is T a.t a.n a.q1.now a.q2.now c.requires.3 c.requires.4 c.requires.0 a.u c.requires.2 (rw e at lr.1) in
+    let hp = p_is T a.t a.n a.q1.now a.q2.now c.requires.3 c.requires.4 c.requires.0 a.u c.requires.2 (rw e at lr.has) in
     let hd = d_is T a.t a.u a.n hp (rw e at c.derived_row.ensures) in (
-      holds_next T a.t a.n a.q1.now a.q2.now c.requires.3 c.requires.4 c.requires.0 (rw e at lr.0),
+      holds_next T a.t a.n a.q1.now a.q2.now c.requires.3 c.requires.4 c.requires.0 (rw e at lr.begins),
       hp.len,
       hd.len,
       (rw e at c.store_row.ensures) ∙ ap (λ (l : List Float). take (tri a.n) a.p.now ++ l) (row_has hp),

@@ -1,12 +1,11 @@
 -- `legendre::compute_rows`: before degree n both tables hold the rows below n, and the two arrays what the next rows start from. Assumes nothing.
 use borrow.Author.Rules.{rules}
-use Prim.Native.Nat.{ℕ, suc, ◌+◌, ◌-◌, ◌≤◌}
+use Prim.Native.Nat.{ℕ, suc, ◌+◌, ◌≤◌}
 use mathlib.Core.Path.{◌≡◌, refl}
 use native.Mathlib.Omega.{arith}
-use lib.ListN.{length, take}
 use lib.Ieee.{Float}
-use Rattle.laws.specs.Tables.{tri, rows, tri_next, tri_mono}
-use Rattle.legendre.specs.Rows.{Tables, tables_of, legendre_by, derived_by, Holds}
+use Rattle.laws.specs.Tables.{tri, tri_next, tri_mono}
+use Rattle.legendre.specs.Rows.{Tables, tables_of, legendre_by, derived_by}
 use Rattle.legendre.proofs.Recur.{holds_at, room_less, has_less}
 use Rattle.legendre.proofs.Filling.{rows_none, rows_more, rows_full, rows_to}
 use Rattle.legendre.proofs.compute_rows.Goals as goal
@@ -50,9 +49,7 @@ compute_one-requires-in-loop-n c =
     let l : h.n + 1 ≤ a.degree = omega (arith, c.loop-n-test.true, c.if-n-degree.false) in
     let small : a.degree ≤ 180 = c.requires.0 in
     let more = tri_mono (h.n + 1 + 1) (a.degree + 1) (omega arith) in
-    let next = tri_next (h.n + 1) in
-    let gp = c.p-1.given in
-    let gd = c.dp-1.given in (
+    let next = tri_next (h.n + 1) in (
       omega arith,
       room_less a.degree (h.n + 1) c.requires.1 l,
       has_less a.degree (h.n + 1) c.requires.2 l,
@@ -60,8 +57,8 @@ compute_one-requires-in-loop-n c =
       holds_at (h.n + 1) h.invariant.2 (omega arith),
       o.1,
       o.2,
-      omega (arith, gp),
-      omega (arith, gd),
+      omega arith,
+      omega arith,
     )
 
 pub overflow_add-n-in-loop-n : goal.overflow_add-n-in-loop-n

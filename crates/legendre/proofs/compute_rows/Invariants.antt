@@ -1,14 +1,9 @@
 -- `legendre::compute_rows`: before degree n both tables hold the rows below n, and the two arrays what the next rows start from. Assumes nothing.
-use borrow.Author.Rules.{rules}
-use Prim.Native.Nat.{ℕ, suc, ◌+◌, ◌-◌, ◌≤◌}
-use mathlib.Core.Path.{◌≡◌, refl}
-use native.Mathlib.Omega.{arith}
+use Prim.Native.Nat.{suc, ◌+◌, ◌-◌, ◌≤◌}
+use mathlib.Core.Path.{◌≡◌}
 use lib.ListN.{length, take}
-use lib.Ieee.{Float}
-use Rattle.laws.specs.Tables.{tri, rows, tri_next, tri_mono}
-use Rattle.legendre.specs.Rows.{Tables, tables_of, legendre_by, derived_by, Holds}
-use Rattle.legendre.proofs.Recur.{holds_at, room_less, has_less}
-use Rattle.legendre.proofs.Filling.{rows_none, rows_more, rows_full, rows_to}
+use Rattle.laws.specs.Tables.{tri, rows}
+use Rattle.legendre.specs.Rows.{tables_of, legendre_by, derived_by, Holds}
 use Rattle.legendre.proofs.compute_rows.Given as goal
 
 abbrev pub invariant-loop-n : goal.invariant-loop-n

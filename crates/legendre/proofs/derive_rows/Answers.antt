@@ -1,11 +1,10 @@
 -- `legendre::derive_rows`: before degree n the table holds the derivatives' rows below n. Assumes nothing.
 use borrow.Author.Rules.{rules}
-use Prim.Native.Nat.{ℕ, ◌+◌, ◌-◌, ◌≤◌}
+use Prim.Native.Nat.{ℕ, ◌+◌}
 use mathlib.Core.Path.{◌≡◌, refl}
 use native.Mathlib.Omega.{arith}
-use lib.ListN.{length, take}
 use lib.Ieee.{Float}
-use Rattle.laws.specs.Tables.{tri, rows, tri_next, tri_mono}
+use Rattle.laws.specs.Tables.{tri, tri_next, tri_mono}
 use Rattle.legendre.specs.Tables.{derived_from}
 use Rattle.legendre.proofs.Filling.{rows_none, rows_more, rows_full}
 use Rattle.legendre.proofs.derive_rows.Goals as goal

@@ -1,13 +1,9 @@
 -- `legendre::derive_rows`: before degree n the table holds the derivatives' rows below n. Assumes nothing.
-use borrow.Author.Rules.{rules}
-use Prim.Native.Nat.{ℕ, ◌+◌, ◌-◌, ◌≤◌}
-use mathlib.Core.Path.{◌≡◌, refl}
-use native.Mathlib.Omega.{arith}
+use Prim.Native.Nat.{◌+◌, ◌-◌, ◌≤◌}
+use mathlib.Core.Path.{◌≡◌}
 use lib.ListN.{length, take}
-use lib.Ieee.{Float}
-use Rattle.laws.specs.Tables.{tri, rows, tri_next, tri_mono}
+use Rattle.laws.specs.Tables.{tri, rows}
 use Rattle.legendre.specs.Tables.{derived_from}
-use Rattle.legendre.proofs.Filling.{rows_none, rows_more, rows_full}
 use Rattle.legendre.proofs.derive_rows.Given as goal
 
 abbrev pub invariant-loop-n : goal.invariant-loop-n

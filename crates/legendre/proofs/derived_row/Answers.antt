@@ -1,9 +1,8 @@
 -- `legendre::derived_row`: the first m places hold the row of the definition, whose first, middle and last places differ. Assumes nothing.
 use Rattle.laws.specs.Floats.{◌⊗◌}
-use Rattle.legendre.specs.Legendre.{derived_row}
-use Rattle.legendre.specs.Arrays.{from, at, Has}
+use Rattle.legendre.specs.Arrays.{from, at}
 use Rattle.legendre.proofs.Rows.{der_none, der_first, der_mid, der_last}
-use Prim.Native.Nat.{ℕ, ◌+◌, ◌-◌, ◌≤◌}
+use Prim.Native.Nat.{ℕ, ◌+◌}
 use mathlib.Core.Path.{◌≡◌, ap, ◌∙◌}
 use mathlib.Core.List.{List}
 use native.Mathlib.Omega.{arith}

@@ -1,15 +1,7 @@
 -- `legendre::derived_row`: the first m places hold the row of the definition, whose first, middle and last places differ. Assumes nothing.
-use Rattle.laws.specs.Floats.{◌⊗◌}
 use Rattle.legendre.specs.Legendre.{derived_row}
 use Rattle.legendre.specs.Arrays.{from, at, Has}
-use Rattle.legendre.proofs.Rows.{der_none, der_first, der_mid, der_last}
-use Prim.Native.Nat.{ℕ, ◌+◌, ◌-◌, ◌≤◌}
-use mathlib.Core.Path.{◌≡◌, ap, ◌∙◌}
-use mathlib.Core.List.{List}
-use native.Mathlib.Omega.{arith}
-use lib.ListN.{get_or}
-use lib.Ieee.{Float, nan}
-use Rattle.legendre.proofs.FilledArrays.{has_more, has_one, has_first}
+use Prim.Native.Nat.{◌-◌, ◌≤◌}
 use Rattle.legendre.proofs.derived_row.Given as goal
 
 abbrev pub invariant-loop-m : goal.invariant-loop-m

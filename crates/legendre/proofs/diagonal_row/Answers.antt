@@ -1,10 +1,7 @@
 -- `legendre::diagonal_row`: the first m places hold the diagonal, and pmm is its next number. Assumes nothing.
 use borrow.Author.Rules.{rules}
-use Prim.Native.Nat.{◌+◌, ◌-◌, ◌≤◌}
-use mathlib.Core.Path.{◌≡◌, refl}
+use mathlib.Core.Path.{refl}
 use native.Mathlib.Omega.{arith}
-use lib.ListN.{length, take}
-use Rattle.laws.specs.Tables.{row}
 use Rattle.legendre.specs.Legendre.{diagonal}
 use Rattle.legendre.proofs.Filling.{diagonal_none, diagonal_turn, diagonal_more, diagonal_full}
 use Rattle.legendre.proofs.diagonal_row.Goals as goal

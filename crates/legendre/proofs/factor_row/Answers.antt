@@ -1,11 +1,9 @@
 -- `legendre::factor_row`: behind the first k places stand the first m factors of row n. Assumes nothing.
 use borrow.Author.Rules.{rules}
-use Prim.Native.Nat.{◌+◌, ◌-◌, ◌≤◌}
-use mathlib.Core.Path.{◌≡◌, refl}
-use mathlib.Core.List.{◌++◌}
+use mathlib.Core.Path.{refl}
 use native.Mathlib.Omega.{arith}
-use lib.ListN.{length, take}
-use Rattle.laws.specs.Tables.{row, row_turn, row_none}
+use lib.ListN.{take}
+use Rattle.laws.specs.Tables.{row_turn, row_none}
 use Rattle.legendre.specs.Prepared.{factor_of}
 use Rattle.legendre.proofs.Filling.{row_full}
 use Rattle.legendre.proofs.factor_row.Goals as goal

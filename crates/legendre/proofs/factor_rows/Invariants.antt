@@ -1,12 +1,9 @@
 -- `legendre::factor_rows`: before degree n the table holds the factors' rows below n. Assumes nothing.
-use borrow.Author.Rules.{rules}
 use Prim.Native.Nat.{◌+◌, ◌-◌, ◌≤◌}
-use mathlib.Core.Path.{◌≡◌, refl}
-use native.Mathlib.Omega.{arith}
+use mathlib.Core.Path.{◌≡◌}
 use lib.ListN.{length, take}
-use Rattle.laws.specs.Tables.{tri, rows, tri_mono, tri_next}
+use Rattle.laws.specs.Tables.{tri, rows}
 use Rattle.legendre.specs.Prepared.{factor_of}
-use Rattle.legendre.proofs.Filling.{rows_none, rows_more, rows_full}
 use Rattle.legendre.proofs.factor_rows.Given as goal
 
 abbrev pub invariant-loop-n : goal.invariant-loop-n

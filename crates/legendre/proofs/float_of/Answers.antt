@@ -1,4 +1,4 @@
-use Prim.Native.Nat.{◌-◌, ◌^◌}
+use Prim.Native.Nat.{◌^◌}
 use lib.Dec.{le→leb}
 use lib.Ieee.{in_float}
 use Rattle.laws.specs.WholeNumbers.{number}

@@ -1,9 +1,7 @@
 -- `legendre::legendre_row`: the first m places are the next row in the place of the row before last, and p has its products with r. Assumes nothing.
 use Rattle.laws.specs.Floats.{◌⊗◌}
-use Rattle.legendre.specs.Rows.{next_row}
-use Rattle.legendre.specs.Arrays.{at, Begins, Has}
+use Rattle.legendre.specs.Arrays.{at}
 use Rattle.legendre.proofs.Rows.{next_mid, next_last}
-use Prim.Native.Nat.{ℕ, ◌-◌, ◌≤◌}
 use mathlib.Core.Path.{◌≡◌, ap}
 use native.Mathlib.Omega.{arith}
 use lib.ListN.{get_or}
@@ -25,4 +23,7 @@ returns c =
     let s = c.args in
     let e : c.loop-m.m ≡ s.n = omega arith in
     let v = next_last s.n s.k s.t s.head s.a.now s.b.now (at s.q1.now) (at s.q2.now) in
-    (pre_more _ (rw e at c.loop-m.invariant.1) (omega arith) v, has_more _ (rw e at c.loop-m.invariant.2) (omega arith) (ap (λ (x : Float). x ⊗ get_or s.r.now s.n nan) v))
+    record {
+      begins = pre_more _ (rw e at c.loop-m.invariant.1) (omega arith) v;
+      has = has_more _ (rw e at c.loop-m.invariant.2) (omega arith) (ap (λ (x : Float). x ⊗ get_or s.r.now s.n nan) v);
+    }

@@ -2,13 +2,7 @@
 use Rattle.laws.specs.Floats.{◌⊗◌}
 use Rattle.legendre.specs.Rows.{next_row}
 use Rattle.legendre.specs.Arrays.{at, Begins, Has}
-use Rattle.legendre.proofs.Rows.{next_mid, next_last}
 use Prim.Native.Nat.{ℕ, ◌-◌, ◌≤◌}
-use mathlib.Core.Path.{◌≡◌, ap}
-use native.Mathlib.Omega.{arith}
-use lib.ListN.{get_or}
-use lib.Ieee.{Float, nan}
-use Rattle.legendre.proofs.FilledArrays.{pre_none, pre_more, has_none, has_more}
 use Rattle.legendre.proofs.legendre_row.Given as goal
 
 abbrev pub invariant-loop-m : goal.invariant-loop-m

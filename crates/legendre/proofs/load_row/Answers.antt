@@ -1,9 +1,7 @@
 -- `legendre::load_row`: the first m places of the array are those of the row that begins at k. Assumes nothing.
-use borrow.Author.Rules.{rules}
-use Prim.Native.Nat.{◌+◌, ◌-◌, ◌≤◌}
+use Prim.Native.Nat.{◌+◌}
 use mathlib.Core.Path.{◌≡◌, refl}
 use native.Mathlib.Omega.{arith}
-use Rattle.legendre.specs.Arrays.{from, Has}
 use Rattle.legendre.proofs.FilledArrays.{has_none, has_more}
 use Rattle.legendre.proofs.load_row.Goals as goal
 

@@ -1,10 +1,6 @@
 -- `legendre::load_row`: the first m places of the array are those of the row that begins at k. Assumes nothing.
-use borrow.Author.Rules.{rules}
 use Prim.Native.Nat.{◌+◌, ◌-◌, ◌≤◌}
-use mathlib.Core.Path.{◌≡◌, refl}
-use native.Mathlib.Omega.{arith}
 use Rattle.legendre.specs.Arrays.{from, Has}
-use Rattle.legendre.proofs.FilledArrays.{has_none, has_more}
 use Rattle.legendre.proofs.load_row.Given as goal
 
 abbrev pub invariant-loop-m : goal.invariant-loop-m

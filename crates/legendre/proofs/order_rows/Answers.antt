@@ -1,14 +1,11 @@
 -- `legendre::order_rows`: the first m places hold cosine and sine of the multiples of the longitude. Assumes nothing.
-use borrow.Author.Rules.{rules}
-use Prim.Native.Nat.{◌+◌, ◌-◌, ◌≤◌}
+use Prim.Native.Nat.{◌+◌}
 use mathlib.Core.Path.{◌≡◌, ap, ◌∙◌}
 use native.Mathlib.Omega.{arith}
 use lib.Ieee.{Float}
 use Rattle.laws.specs.Floats.{◌⊗◌}
 use Rattle.numbers.specs.declared.SineCosine.{SineCosine}
 use Rattle.numbers.specs.Numbers.{sine, cosine, sine_cosine}
-use Rattle.legendre.specs.Arrays.{Has}
-use Rattle.legendre.specs.Sums.{cosines, sines}
 use Rattle.legendre.proofs.FilledArrays.{has_none, has_more}
 use Rattle.legendre.proofs.order_rows.Goals as goal
 

@@ -1,11 +1,8 @@
 -- `legendre::row_sums`: the three sums after m orders are the definition's. Assumes nothing.
-use Rattle.legendre.specs.Arrays.{at, from}
-use Rattle.legendre.specs.Sums.{RowSums, degree_of}
 use Rattle.laws.specs.Floats.{◌⊕◌, one64}
-use Rattle.laws.specs.WholeNumbers.{number}
 use Rattle.laws.specs.Sums.{sum_to}
 use Rattle.legendre.proofs.Added.{sums_more, number_first, number_next}
-use Prim.Native.Nat.{◌+◌, ◌-◌, ◌≤◌}
+use Prim.Native.Nat.{◌+◌}
 use mathlib.Core.Path.{◌≡◌, refl, ap, ◌∙◌}
 use native.Mathlib.Omega.{arith}
 use lib.Ieee.{Float}

@@ -1,14 +1,9 @@
 -- `legendre::row_sums`: the three sums after m orders are the definition's. Assumes nothing.
 use Rattle.legendre.specs.Arrays.{at, from}
 use Rattle.legendre.specs.Sums.{RowSums, degree_of}
-use Rattle.laws.specs.Floats.{◌⊕◌, one64}
 use Rattle.laws.specs.WholeNumbers.{number}
-use Rattle.laws.specs.Sums.{sum_to}
-use Rattle.legendre.proofs.Added.{sums_more, number_first, number_next}
 use Prim.Native.Nat.{◌+◌, ◌-◌, ◌≤◌}
-use mathlib.Core.Path.{◌≡◌, refl, ap, ◌∙◌}
-use native.Mathlib.Omega.{arith}
-use lib.Ieee.{Float}
+use mathlib.Core.Path.{◌≡◌}
 use Rattle.legendre.proofs.row_sums.Given as goal
 
 abbrev pub invariant-loop-m : goal.invariant-loop-m

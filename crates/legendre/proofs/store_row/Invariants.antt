@@ -1,13 +1,10 @@
 -- `legendre::store_row`: behind the first k places stand the first m numbers of the array. Assumes nothing.
-use borrow.Author.Rules.{rules}
 use Prim.Native.Nat.{◌+◌, ◌-◌, ◌≤◌}
-use mathlib.Core.Path.{◌≡◌, refl}
+use mathlib.Core.Path.{◌≡◌}
 use mathlib.Core.List.{◌++◌}
-use native.Mathlib.Omega.{arith}
 use lib.ListN.{length, take}
-use Rattle.laws.specs.Tables.{row, row_turn, row_none}
+use Rattle.laws.specs.Tables.{row}
 use Rattle.legendre.specs.Arrays.{at}
-use Rattle.legendre.proofs.Filling.{row_full}
 use Rattle.legendre.proofs.store_row.Given as goal
 
 abbrev pub invariant-loop-m : goal.invariant-loop-m

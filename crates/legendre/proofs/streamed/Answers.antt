@@ -1,5 +1,4 @@
 -- `legendre::streamed`: the rows start from zeros, and their sums over all degrees give the definition's total. Assumes nothing.
-use borrow.Author.Rules.{rules}
 use Prim.Native.Nat.{◌+◌}
 use mathlib.Core.Path.{refl}
 use native.Mathlib.Omega.{arith}

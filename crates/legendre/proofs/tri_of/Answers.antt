@@ -1,8 +1,6 @@
 use Rattle.laws.specs.Tables.{square_small, tri, tri_small}
-use Prim.Native.Nat.{◌-◌}
 use mathlib.Core.Path.{refl}
 use native.Mathlib.Omega.{arith}
-use borrow.Author.Rules.{rules}
 use Rattle.legendre.proofs.tri_of.Goals as goal
 
 pub overflow_mul-result : goal.overflow_mul-result

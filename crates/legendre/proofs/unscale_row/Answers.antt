@@ -1,7 +1,6 @@
 -- `legendre::unscale_row`: the first m places hold the powers of the cosine over the scale, and x is the next. Assumes nothing.
 use Rattle.legendre.specs.Legendre.{unscale}
-use Rattle.legendre.specs.Arrays.{Has}
-use Prim.Native.Nat.{◌+◌, ◌-◌, ◌≤◌}
+use Prim.Native.Nat.{◌+◌}
 use mathlib.Core.Path.{◌≡◌, refl}
 use native.Mathlib.Omega.{arith}
 use native.Mathlib.Numerals.{add-one}

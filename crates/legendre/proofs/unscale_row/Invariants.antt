@@ -2,10 +2,7 @@
 use Rattle.legendre.specs.Legendre.{unscale}
 use Rattle.legendre.specs.Arrays.{Has}
 use Prim.Native.Nat.{◌+◌, ◌-◌, ◌≤◌}
-use mathlib.Core.Path.{◌≡◌, refl}
-use native.Mathlib.Omega.{arith}
-use native.Mathlib.Numerals.{add-one}
-use Rattle.legendre.proofs.FilledArrays.{has_none, has_more}
+use mathlib.Core.Path.{◌≡◌}
 use Rattle.legendre.proofs.unscale_row.Given as goal
 
 abbrev pub invariant-loop-m : goal.invariant-loop-m

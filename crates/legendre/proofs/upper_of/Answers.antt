@@ -1,6 +1,4 @@
 use Rattle.legendre.specs.Legendre.{upper_of}
-use Prim.Native.Nat.{◌-◌}
-use borrow.Author.Rules.{rules}
 use borrow.Author.Tests.{eq-eqb, ne_eqb}
 use Rattle.legendre.proofs.upper_of.Goals as goal
 

@@ -1,6 +1,5 @@
 -- `numbers::angle` meets its contract. Assumes nothing.
 use Rattle.numbers.specs.Numbers.{angle}
-use Rattle.std.proofs.Common.{rules}
 use Rattle.numbers.proofs.angle.Goals as goal
 
 pub returns-then-q : goal.returns-then-q

@@ -1,12 +1,16 @@
 -- `numbers::arcsine` meets its contract. Assumes nothing.
-use Rattle.std.proofs.Common.{◌∙◌, ⊎_elim, rules}
+use Rattle.std.proofs.Common.{◌∙◌, rules}
 use Rattle.numbers.proofs.CodeForms.{nan_made, neg_not_below, mirrored}
 use Rattle.numbers.specs.Numbers.{arcsine}
+use Rattle.numbers.proofs.arcsine.Goals.{then-v-via-then-v, then-v-via-else-v+then-v-2}
 use Rattle.numbers.proofs.arcsine.Goals as goal
 
 pub returns-then-v : goal.returns-then-v
 unfolding arcsine
-returns-then-v c = ⊎_elim (λ w. nan_made ∙ rw w.taken) (λ w. nan_made ∙ rw (w.0.left, w.1.taken)) c.then-v.branch
+returns-then-v c = elim c.then-v.branch [
+  | then-v-via-then-v w ↦ nan_made ∙ rw w.if-v.true
+  | then-v-via-else-v+then-v-2 w ↦ nan_made ∙ rw (w.if-v.false, w.if-v-2.true)
+]
 
 pub risen-requires : goal.risen-requires
 risen-requires c = search (rules, neg_not_below)

@@ -2,7 +2,6 @@
 use lib.Ieee.{of_bits, of_int, neg}
 use Rattle.laws.specs.WholeNumbers.{number}
 use Rattle.numbers.specs.Numbers.{cosine_near, cosines, factorial, alternating, downward}
-use Rattle.std.proofs.Common.{rules}
 use Rattle.numbers.proofs.cosine_near.Goals as goal
 
 pub returns : goal.returns

@@ -1,6 +1,5 @@
 -- `numbers::eighth` meets its contract. Assumes nothing.
 use Rattle.numbers.specs.Numbers.{eighth}
-use Rattle.std.proofs.Common.{rules}
 use Rattle.numbers.proofs.eighth.Goals as goal
 
 pub returns-then-y-x : goal.returns-then-y-x

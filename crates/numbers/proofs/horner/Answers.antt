@@ -1,7 +1,6 @@
 -- `numbers::horner` meets its contract. Assumes nothing.
-use Rattle.std.proofs.Common.{◌≡◌, suc, ◌-◌, ◌/◌, ◌<◌, length, refl, rules}
-use lib.Ieee.{neg}
-use Rattle.numbers.specs.Numbers.{horner, horner_from, alternating, downward}
+use Rattle.std.proofs.Common.{refl, rules}
+use Rattle.numbers.specs.Numbers.{horner, alternating, downward}
 use Rattle.numbers.proofs.CodeForms.{horner_turn, horner_done}
 use Rattle.numbers.proofs.horner.Goals as goal
 

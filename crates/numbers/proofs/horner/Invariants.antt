@@ -1,8 +1,7 @@
 -- `numbers::horner` meets its contract. Assumes nothing.
-use Rattle.std.proofs.Common.{◌≡◌, suc, ◌-◌, ◌/◌, ◌<◌, length, refl, rules}
+use Rattle.std.proofs.Common.{◌≡◌, suc, ◌-◌, ◌/◌, ◌<◌, length}
 use lib.Ieee.{neg}
 use Rattle.numbers.specs.Numbers.{horner, horner_from, alternating, downward}
-use Rattle.numbers.proofs.CodeForms.{horner_turn, horner_done}
 use Rattle.numbers.proofs.horner.Given as goal
 
 -- what is still to come, from p on, gives the whole

@@ -1,5 +1,5 @@
 -- `numbers::rest` meets its contract. Assumes nothing.
-use Rattle.std.proofs.Common.{w64, rules}
+use Rattle.std.proofs.Common.{w64}
 use mir.ValLaws.{to_z-of_z}
 use Rattle.numbers.specs.Numbers.{rest}
 use Rattle.numbers.proofs.rest.Goals as goal

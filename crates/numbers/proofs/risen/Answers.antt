@@ -1,6 +1,5 @@
 -- `numbers::risen` meets its contract. Assumes nothing.
 use Rattle.numbers.proofs.CodeForms.{steep_flat, steep_bent, gentle_bent, gentle_flat}
-use Rattle.std.proofs.Common.{rules}
 use Rattle.numbers.proofs.risen.Goals as goal
 
 pub returns-then-q : goal.returns-then-q

@@ -1,8 +1,9 @@
 -- `numbers::sine_cosine` meets its contract. Assumes nothing.
-use Rattle.std.proofs.Common.{⊎_elim, w64, rules}
+use Rattle.std.proofs.Common.{w64}
 use mir.ValLaws.{to_z-of_z}
 use Rattle.numbers.specs.Numbers.{near, sine, cosine, sine_cosine, sine_cosine_at}
 use Rattle.numbers.proofs.CodeForms.{nan_made}
+use Rattle.numbers.proofs.sine_cosine.Goals.{else-x-via-then-x+else-x-2, else-x-via-else-x}
 use Rattle.numbers.proofs.sine_cosine.Goals as goal
 
 pub turns-requires : goal.turns-requires
@@ -14,7 +15,7 @@ unfolding sine_cosine sine_cosine_at sine cosine near
 returns-then-x-2 c =
     rw (
       c.sine_cosine_at.ensures,
-      to_z-of_z w64 c.turns.result (record { sfits = c.turns.type-inv }),
+      to_z-of_z w64 c.turns.result (record { sfits = c.turns.type_inv }),
       c.turns.ensures,
       c.if-x.true,
       c.if-x-2.true,
@@ -22,4 +23,7 @@ returns-then-x-2 c =
 
 pub returns : goal.returns
 unfolding sine_cosine sine cosine near
-returns c = ⊎_elim (λ w. simp nan_made (rw (w.0.taken, w.1.left))) (λ w. simp nan_made (rw w.left)) c.else-x.branch
+returns c = elim c.else-x.branch [
+  | else-x-via-then-x+else-x-2 w ↦ simp nan_made (rw (w.if-x.true, w.if-x-2.false))
+  | else-x-via-else-x w ↦ simp nan_made (rw w.if-x.false)
+]

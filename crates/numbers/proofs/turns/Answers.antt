@@ -5,17 +5,17 @@ use Rattle.numbers.proofs.QuarterTurns.{near_halves}
 use Rattle.numbers.proofs.turns.Goals as goal
 
 pub truncating_f64_to_i64-h-requires : goal.truncating_f64_to_i64-h-requires
-truncating_f64_to_i64-h-requires c = let h = near_halves c.args.x c.requires in (h.ends_in_law.low_end, h.ends_in_law.high_end)
+truncating_f64_to_i64-h-requires c = let h = near_halves c.args.x c.requires in record { lower_bound = h.ends_in_law.low_end; upper_bound = h.ends_in_law.high_end }
 
 pub halved-requires : goal.halved-requires
-halved-requires c = rw (to_z-of_z w64 c.truncating_f64_to_i64-h.result (record { sfits = c.truncating_f64_to_i64-h.type-inv }), c.truncating_f64_to_i64-h.ensures)
+halved-requires c = rw (to_z-of_z w64 c.truncating_f64_to_i64-h.result (record { sfits = c.truncating_f64_to_i64-h.type_inv }), c.truncating_f64_to_i64-h.ensures)
     (near_halves c.args.x c.requires).small
 
 pub returns : goal.returns
 returns c =
     rw (
-      to_z-of_z w64 c.halved.result (record { sfits = c.halved.type-inv }),
+      to_z-of_z w64 c.halved.result (record { sfits = c.halved.type_inv }),
       c.halved.ensures,
-      to_z-of_z w64 c.truncating_f64_to_i64-h.result (record { sfits = c.truncating_f64_to_i64-h.type-inv }),
+      to_z-of_z w64 c.truncating_f64_to_i64-h.result (record { sfits = c.truncating_f64_to_i64-h.type_inv }),
       c.truncating_f64_to_i64-h.ensures,
     ) (near_halves c.args.x c.requires).right

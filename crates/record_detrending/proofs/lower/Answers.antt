@@ -1,9 +1,6 @@
 -- Of the numbers from n on the first i stand at the head, and those from n on are as they were: the loop's invariant. Assumes nothing.
-use mathlib.Core.Path.{◌≡◌, refl}
-use Prim.Native.Nat.{◌-◌, ◌≤◌}
+use mathlib.Core.Path.{refl}
 use native.Mathlib.Omega.{arith}
-use lib.ListN.{length, take, drop}
-use borrow.Rule.Slice.PartMut.{mid_of}
 use borrow.Author.Rules.{rules}
 use Rattle.record_detrending.proofs.Settling.{lower_front, lower_back, lower_done}
 use Rattle.record_detrending.proofs.lower.Goals as goal

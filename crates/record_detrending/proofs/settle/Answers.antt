@@ -8,8 +8,8 @@ returns-then-all_finite c =
     let a = c.args in
     let w = c.remove_within in (
       search (rules, settled_accepts),
-      settled_values a.nodes.now a.n a.work.now w.new.0 c.requires w.ensures _ c.all_finite.ensures
-          c.lower.new.0 c.clear.new.0 c.if-all_finite.true
+      settled_values a.nodes.now a.n a.work.now w.new.work c.requires w.ensures _ c.all_finite.ensures
+          c.lower.new.work c.clear.new.a c.if-all_finite.true
           (search rules) (search rules) c.lower.ensures c.clear.ensures,
     )
 

@@ -1,11 +1,8 @@
 -- `replay::all_are` meets its contract. Assumes nothing.
-use mathlib.Core.Path.{◌≡◌, refl}
-use Prim.Native.Nat.{◌-◌, ◌≤◌}
+use mathlib.Core.Path.{refl}
 use borrow.Author.Rules.{rules}
 use lib.Dec.{eqb}
-use lib.ListN.{length, drop}
 use lib.Ieee.{Float, nan, binary64, to_bits}
-use Rattle.laws.specs.Checks.{all}
 use Rattle.laws.specs.Loops.{all_goes, all_stops, all_done}
 use Rattle.replay.proofs.all_are.Goals as goal
 

@@ -1,13 +1,11 @@
 -- `replay::fill_bytes` meets its contract. Assumes nothing.
-use mathlib.Core.Path.{◌≡◌, refl}
+use mathlib.Core.Path.{◌≡◌}
 use Prim.Native.Nat.{◌-◌}
-use lib.ListN.{length, drop, length-set}
-use lib.Seq.{drop-set-lt}
-use borrow.Author.Rules.{rules}
+use lib.ListN.{length, drop}
 use Rattle.replay.proofs.fill_bytes.Given as goal
 
 abbrev pub invariant-loop-i : goal.invariant-loop-i
-invariant-loop-i l = (length l.out ≡ length l.count) × (drop l.initial.out l.out ≡ drop l.initial.out l.count)
+invariant-loop-i l = (length l.out ≡ length l.initial.out) × (drop l.count l.out ≡ drop l.count l.initial.out)
 
 abbrev pub decreases-loop-i : goal.decreases-loop-i
-decreases-loop-i l = l.initial.out - l.i
+decreases-loop-i l = l.count - l.i

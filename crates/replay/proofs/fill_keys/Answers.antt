@@ -1,7 +1,6 @@
 -- `replay::fill_keys` meets its contract. Assumes nothing.
-use mathlib.Core.Path.{◌≡◌, refl}
-use Prim.Native.Nat.{◌-◌}
-use lib.ListN.{length, drop, length-set}
+use mathlib.Core.Path.{refl}
+use lib.ListN.{length-set}
 use lib.Seq.{drop-set-lt}
 use borrow.Author.Rules.{rules}
 use Rattle.replay.proofs.fill_keys.Goals as goal

@@ -1,7 +1,6 @@
 -- `replay::has_bits` meets its contract. Assumes nothing.
 use mathlib.Core.Path.{ap}
 use Prim.Native.Nat.{ℕ}
-use borrow.Author.Rules.{rules}
 use lib.Dec.{eqb}
 use Rattle.replay.proofs.has_bits.Goals as goal
 

@@ -1,7 +1,4 @@
 -- `replay::say_all` is safe and ends. Assumes nothing.
-use Prim.Native.Nat.{◌-◌}
-use lib.ListN.{length}
-use borrow.Author.Rules.{rules}
 use Rattle.replay.proofs.say_all.Goals as goal
 
 pub loop-i-init : goal.loop-i-init

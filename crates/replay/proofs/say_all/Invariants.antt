@@ -1,7 +1,6 @@
 -- `replay::say_all` is safe and ends. Assumes nothing.
 use Prim.Native.Nat.{◌-◌}
 use lib.ListN.{length}
-use borrow.Author.Rules.{rules}
 use Rattle.replay.proofs.say_all.Given as goal
 
 abbrev pub invariant-loop-i : goal.invariant-loop-i

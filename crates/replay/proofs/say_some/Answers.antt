@@ -1,7 +1,4 @@
 -- `replay::say_some` is safe and ends. Assumes nothing.
-use borrow.Author.Rules.{rules}
-use Prim.Native.Nat.{◌-◌}
-use lib.ListN.{length}
 use Rattle.replay.proofs.say_some.Goals as goal
 
 pub loop-i-init : goal.loop-i-init

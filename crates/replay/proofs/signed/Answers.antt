@@ -1,7 +1,6 @@
 -- `replay::signed` meets its contract. Assumes nothing.
 use native.Mathlib.Omega.{arith}
 use Rattle.replay.proofs.TwosComplement.{far, far_is}
-use borrow.Author.Rules.{rules}
 use Rattle.replay.proofs.signed.Goals as goal
 
 pub overflow_sub-result-else-bits-lt9223372036854775808 : goal.overflow_sub-result-else-bits-lt9223372036854775808

@@ -6,7 +6,7 @@ use borrow.Author.Rules.{rules}
 use Rattle.replay_detrend.proofs.fill_counts.Given as goal
 
 abbrev pub invariant-loop-i : goal.invariant-loop-i
-invariant-loop-i l = length l.out ≡ length l.given
+invariant-loop-i l = length l.out ≡ length l.initial.out
 
 abbrev pub decreases-loop-i : goal.decreases-loop-i
-decreases-loop-i l = l.initial.out - l.i
+decreases-loop-i l = l.given - l.i

@@ -6,7 +6,7 @@ use lib.ListN.{length}
 use Rattle.replay_fields.proofs.all_places.Given as goal
 
 abbrev pub invariant-loop-i : goal.invariant-loop-i
-invariant-loop-i l = length l.scratch ≡ length l.count
+invariant-loop-i l = length l.scratch ≡ length l.initial.scratch
 
 abbrev pub decreases-loop-i : goal.decreases-loop-i
-decreases-loop-i l = l.initial.scratch - l.i
+decreases-loop-i l = l.count - l.i

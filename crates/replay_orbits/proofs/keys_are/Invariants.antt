@@ -5,7 +5,7 @@ use Rattle.laws.specs.Loops.{all_goes, all_stops, all_done}
 use Rattle.replay_orbits.proofs.keys_are.Given as goal
 
 abbrev pub invariant-loop-i : goal.invariant-loop-i
-invariant-loop-i l = (l.i ≤ length l.keys) × (all (λ k. eqb (of_z w64 k) l.key) (drop l.i l.keys) ≡ all (λ k. eqb (of_z w64 k) l.key) l.keys)
+invariant-loop-i l = (l.i ≤ length l.keys) × (all (λ k. eqb (of_z w64 k) (of_z w64 l.key)) (drop l.i l.keys) ≡ all (λ k. eqb (of_z w64 k) (of_z w64 l.key)) l.keys)
 
 abbrev pub decreases-loop-i : goal.decreases-loop-i
 decreases-loop-i l = length l.keys - l.i

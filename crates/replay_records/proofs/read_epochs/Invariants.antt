@@ -1,8 +1,7 @@
 -- `replay_records::read_epochs` is safe and ends. Assumes nothing.
 use mathlib.Core.Path.{◌≡◌}
 use Prim.Native.Nat.{◌-◌}
-use lib.ListN.{length, length-set}
-use borrow.Author.Rules.{rules}
+use lib.ListN.{length}
 use Rattle.replay_records.proofs.read_epochs.Given as goal
 
 abbrev pub invariant-loop-i : goal.invariant-loop-i

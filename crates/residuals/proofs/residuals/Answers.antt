@@ -24,7 +24,7 @@ returns-then-filled c =
     let s = c.args in
     residuals_handed (inputs (model_of s.degree s.model) (pair_of s.keys s.states) (pair_of s.acckeys s.accs)) (observed_of s.obstimes.now s.obsvalues.now s.good.now)
     (epoch_columns s.outtimes.now s.outresiduals.now s.outterms.now s.outmids.now s.outvels.now) s.scratch.now _ _ c.samples_fit-samples.ensures
-    c.residuals_refusal-n.ensures _ _ _ _ c.if-n-ne0.false c.fill-filled.ensures c.fill-filled.auto.1.1.1.1.1.1.1.1.1.1.1.1.1.1.0
+    c.residuals_refusal-n.ensures _ _ _ _ c.if-n-ne0.false c.fill-filled.ensures c.fill-filled.auto.w
     c.clear.ensures c.if-filled.true
 
 pub returns : goal.returns
@@ -32,5 +32,5 @@ returns c =
     let s = c.args in
     residuals_unfit (inputs (model_of s.degree s.model) (pair_of s.keys s.states) (pair_of s.acckeys s.accs)) (observed_of s.obstimes.now s.obsvalues.now s.good.now)
     (epoch_columns s.outtimes.now s.outresiduals.now s.outterms.now s.outmids.now s.outvels.now) s.scratch.now _ _ c.samples_fit-samples.ensures
-    c.residuals_refusal-n.ensures _ _ _ _ _ c.if-n-ne0.false c.fill-filled.ensures c.fill-filled.auto.1.1.1.1.1.1.1.1.1.1.1.1.1.1.0
+    c.residuals_refusal-n.ensures _ _ _ _ _ c.if-n-ne0.false c.fill-filled.ensures c.fill-filled.auto.w
     c.clear.ensures c.if-filled.false c.clear_lists.ensures

@@ -1,5 +1,4 @@
 -- `root::beside` meets its contract. Assumes nothing.
-use borrow.Author.Rules.{rules}
 use Rattle.root.proofs.beside.Goals as goal
 
 pub returns-then-right : goal.returns-then-right

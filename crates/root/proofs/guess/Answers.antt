@@ -1,5 +1,4 @@
 -- `root::guess` meets its contract, which promises nothing. Assumes nothing.
-use borrow.Author.Rules.{rules}
 use native.Mathlib.Omega.{arith}
 use Rattle.root.proofs.Patterns.{low_no_nan}
 use Rattle.root.proofs.guess.Goals as goal

@@ -1,5 +1,4 @@
 -- `root::right` meets its contract. Assumes nothing.
-use borrow.Author.Rules.{rules}
 use native.Mathlib.Omega.{arith}
 use Rattle.root.proofs.Squares.{square_le}
 use Rattle.root.proofs.Tests.{above, not_above}

@@ -1,6 +1,5 @@
 -- `root::searched` meets its contract. Assumes nothing.
 use mathlib.Core.Path.{refl}
-use borrow.Author.Rules.{rules}
 use native.Mathlib.Omega.{arith}
 use Prim.Native.Nat.{◌≤◌, ◌<◌}
 use Rattle.root.proofs.Patterns.{low_no_nan}

@@ -1,5 +1,4 @@
 -- `root::settled` meets its contract. Assumes nothing.
-use borrow.Author.Rules.{rules}
 use native.Mathlib.Omega.{arith}
 use Rattle.root.proofs.Whole.{not_zero}
 use Rattle.root.proofs.settled.Goals as goal

@@ -1,7 +1,5 @@
 -- `root::slow` meets its contract. The loop keeps lo * lo < c * 2 ^ 52 ≤ hi * hi, and hi - lo falls. Assumes nothing.
-use Prim.Native.Nat.{◌+◌, ◌*◌, ◌-◌, ◌/◌, ◌≤◌, ◌<◌}
-use native.Mathlib.Omega.{arith}
-use Rattle.root.proofs.Squares.{next_square, at_most_next, square_le}
+use Prim.Native.Nat.{◌*◌, ◌-◌, ◌≤◌, ◌<◌}
 use Rattle.root.proofs.slow.Given as goal
 
 abbrev pub invariant-loop-lo : goal.invariant-loop-lo

@@ -1,5 +1,4 @@
 -- `root::square` meets its contract. Assumes nothing.
-use borrow.Author.Rules.{rules}
 use native.Mathlib.Omega.{arith}
 use Rattle.root.proofs.Squares.{halves, small}
 use Rattle.root.proofs.square.Goals as goal

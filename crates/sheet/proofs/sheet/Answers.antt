@@ -9,17 +9,17 @@ use Rattle.sheet.proofs.sheet.Goals as goal
 pub returns-then-number-ne0 : goal.returns-then-number-ne0
 returns-then-number-ne0 c =
     let a = c.args in
-    refused (model_of a.degree a.t2).fixed
-    (lists (model_of a.degree a.t2) (pair_of a.keys a.states) (pair_of a.acckeys a.accs) a.nodes.now (observed_of a.obstimes.now a.obsvalues.now a.good.now))
-    (a.outtimes.now ∷ a.outraws.now ∷ a.outdetrended.now ∷ a.outpassed.now ∷ []) a.scratch.now _ _ c.outputs_fit_law.ensures c.refusal-number.ensures
+    refused (model_of a.degree a.model).fixed
+    (lists (model_of a.degree a.model) (pair_of a.keys a.states) (pair_of a.acckeys a.accs) a.nodes.now (observed_of a.obstimes.now a.obsvalues.now a.good.now))
+    (a.outtimes.now ∷ a.outraws.now ∷ a.outdetrended.now ∷ a.outpassed.now ∷ []) a.scratch.now _ _ c.outputs_fit-outputs.ensures c.refusal-number.ensures
     c.if-number-ne0.true
 
 pub work-kept-requires : goal.work-kept-requires
 work-kept-requires c =
     let a = c.args in
-    passes (model_of a.degree a.t2).fixed
-    (lists (model_of a.degree a.t2) (pair_of a.keys a.states) (pair_of a.acckeys a.accs) a.nodes.now (observed_of a.obstimes.now a.obsvalues.now a.good.now))
-    (a.outtimes.now ∷ a.outraws.now ∷ a.outdetrended.now ∷ a.outpassed.now ∷ []) a.scratch.now _ _ c.outputs_fit_law.ensures c.refusal-number.ensures
+    passes (model_of a.degree a.model).fixed
+    (lists (model_of a.degree a.model) (pair_of a.keys a.states) (pair_of a.acckeys a.accs) a.nodes.now (observed_of a.obstimes.now a.obsvalues.now a.good.now))
+    (a.outtimes.now ∷ a.outraws.now ∷ a.outdetrended.now ∷ a.outpassed.now ∷ []) a.scratch.now _ _ c.outputs_fit-outputs.ensures c.refusal-number.ensures
     c.if-number-ne0.false
 
 pub slice_bounds-count_final-end : goal.slice_bounds-count_final-end
@@ -29,16 +29,16 @@ slice_bounds-count_final-end c =
 pub returns-then-columns_finite : goal.returns-then-columns_finite
 returns-then-columns_finite c =
     let a = c.args in
-    accepted (model_of a.degree a.t2).fixed
-    (lists (model_of a.degree a.t2) (pair_of a.keys a.states) (pair_of a.acckeys a.accs) a.nodes.now (observed_of a.obstimes.now a.obsvalues.now a.good.now))
-    (a.outtimes.now ∷ a.outraws.now ∷ a.outdetrended.now ∷ a.outpassed.now ∷ []) a.scratch.now _ _ c.outputs_fit_law.ensures c.refusal-number.ensures
+    accepted (model_of a.degree a.model).fixed
+    (lists (model_of a.degree a.model) (pair_of a.keys a.states) (pair_of a.acckeys a.accs) a.nodes.now (observed_of a.obstimes.now a.obsvalues.now a.good.now))
+    (a.outtimes.now ∷ a.outraws.now ∷ a.outdetrended.now ∷ a.outpassed.now ∷ []) a.scratch.now _ _ c.outputs_fit-outputs.ensures c.refusal-number.ensures
     c.if-number-ne0.false _ _ _ _ c.work-kept.ensures c.clear.ensures _ c.columns_finite.ensures _ c.if-columns_finite.true c.count_final-last.ensures
 
 pub returns : goal.returns
 returns c =
     let a = c.args in
-    unfit (model_of a.degree a.t2).fixed
-    (lists (model_of a.degree a.t2) (pair_of a.keys a.states) (pair_of a.acckeys a.accs) a.nodes.now (observed_of a.obstimes.now a.obsvalues.now a.good.now))
-    (a.outtimes.now ∷ a.outraws.now ∷ a.outdetrended.now ∷ a.outpassed.now ∷ []) a.scratch.now _ _ c.outputs_fit_law.ensures c.refusal-number.ensures
+    unfit (model_of a.degree a.model).fixed
+    (lists (model_of a.degree a.model) (pair_of a.keys a.states) (pair_of a.acckeys a.accs) a.nodes.now (observed_of a.obstimes.now a.obsvalues.now a.good.now))
+    (a.outtimes.now ∷ a.outraws.now ∷ a.outdetrended.now ∷ a.outpassed.now ∷ []) a.scratch.now _ _ c.outputs_fit-outputs.ensures c.refusal-number.ensures
     c.if-number-ne0.false _ _ _ _ c.work-kept.ensures c.clear.ensures _ c.columns_finite.ensures _ c.if-columns_finite.false c.clear_columns.ensures
     refl

@@ -7,7 +7,7 @@ use Rattle.streams.proofs.Brought.{brought}
 use Rattle.sheet_program.proofs.read_all.Given as goal
 
 abbrev pub invariant-loop-turns : goal.invariant-loop-turns
-invariant-loop-turns l = (length l.line ≡ 3145) × (length l.numbers ≡ length l.initial.numbers)
+invariant-loop-turns g l = (length l.line ≡ 3145) × (length l.numbers ≡ length l.initial.numbers)
 
 abbrev pub decreases-loop-turns : goal.decreases-loop-turns
-decreases-loop-turns l = l.turns
+decreases-loop-turns g l = l.turns

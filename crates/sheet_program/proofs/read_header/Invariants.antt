@@ -7,7 +7,7 @@ use borrow.Author.Rules.{rules}
 use Rattle.sheet_program.proofs.read_header.Given as goal
 
 abbrev pub invariant-loop-turns : goal.invariant-loop-turns
-invariant-loop-turns l = (length l.line ≡ length l.last) × (l.n ≤ l.initial.line) × (l.initial.line < length l.line)
+invariant-loop-turns g l = (length l.line ≡ length l.initial.line) × (l.n ≤ l.last) × (l.last < length l.line)
 
 abbrev pub decreases-loop-turns : goal.decreases-loop-turns
-decreases-loop-turns l = l.turns
+decreases-loop-turns g l = l.turns

@@ -1,5 +1,6 @@
 -- `slices::all_keys` meets its contract. Assumes nothing.
-use mathlib.Core.Path.{◌≡◌, refl}
+use mathlib.Core.Path.{◌≡◌, refl, ap}
+use mathlib.Core.Bool.{not}
 use mathlib.Core.List.{List}
 use Prim.Native.Nat.{◌-◌, ◌≤◌}
 use borrow.Author.Rules.{rules}
@@ -21,7 +22,7 @@ returns-then-not-is_key c =
     let x : List ℤ = c.args.keys.now in
     let same : to_z w64 (of_z w64 (get_or x l.i (pos 0))) ≡ get_or x l.i (pos 0) = to_z-of_z w64 (get_or x l.i (pos 0)) (record { sfits = c.is_key-arg-1.given }) in
     let e : c.is_key.result ≡ is_key (to_z w64 (of_z w64 (get_or x l.i (pos 0)))) = c.is_key.ensures in
-    all_stops (pos 0) is_key x c.is_key.result (all is_key x) l.i c.loop-i-test.true (rw same at e) c.if-not-is_key.true l.invariant.1
+    all_stops (pos 0) is_key x c.is_key.result (all is_key x) l.i c.loop-i-test.true (rw same at e) (ap not c.if-not-is_key.true) l.invariant.1
 
 pub loop-i-preserved : goal.loop-i-preserved
 loop-i-preserved c =
@@ -29,7 +30,7 @@ loop-i-preserved c =
     let x : List ℤ = c.args.keys.now in
     let same : to_z w64 (of_z w64 (get_or x l.i (pos 0))) ≡ get_or x l.i (pos 0) = to_z-of_z w64 (get_or x l.i (pos 0)) (record { sfits = c.is_key-arg-1.given }) in
     let e : c.is_key.result ≡ is_key (to_z w64 (of_z w64 (get_or x l.i (pos 0)))) = c.is_key.ensures in
-    (search rules, all_goes (pos 0) is_key x c.is_key.result (all is_key x) l.i c.loop-i-test.true (rw same at e) c.if-not-is_key.false l.invariant.1)
+    (search rules, all_goes (pos 0) is_key x c.is_key.result (all is_key x) l.i c.loop-i-test.true (rw same at e) (ap not c.if-not-is_key.false) l.invariant.1)
 
 pub returns : goal.returns
 returns c = search (rules, all_done is_key)

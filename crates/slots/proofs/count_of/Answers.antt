@@ -6,7 +6,7 @@ use Rattle.slots.proofs.count_of.Goals as goal
 
 pub truncating_f64_to_u64-n-requires : goal.truncating_f64_to_u64-n-requires
 unfolding of_bits neg
-truncating_f64_to_u64-n-requires c = (subst T (sym c.if-x.true) tt, subst T (sym c.if-x-2.true) tt)
+truncating_f64_to_u64-n-requires c = record { lower_bound = subst T (sym c.if-x.true) tt; upper_bound = subst T (sym c.if-x-2.true) tt }
 
 pub returns-then-n-le3500 : goal.returns-then-n-le3500
 returns-then-n-le3500 c = (c.if-n-le3500.true, λ n h e. c.truncating_f64_to_u64-n.ensures ∙ ap (to_unsigned 64) e ∙ count_cut n h)

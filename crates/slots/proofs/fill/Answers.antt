@@ -11,8 +11,8 @@ use Rattle.slots.proofs.fill.Goals as goal
 pub returns : goal.returns
 returns c =
     let a = c.args in
-    both_fit_law (windows_serve a.degree (lent_list a.t3 0) (length (lent_list a.t4 0)) a.nodes.now 0 (length a.s.now))
-    (λ (n : ℕ). windows_serve a.degree (lent_list a.t3 1) (length (lent_list a.t4 1)) a.nodes.now 1 n)
-    (window_by (covers (lent_list a.model 3)) (full_force (model_of a.degree a.model)) (state_for (lent_list a.t3 0) (lent_list a.t4 0)))
-    (window_by (covers (lent_list a.model 3)) (full_force (model_of a.degree a.model)) (state_for (lent_list a.t3 1) (lent_list a.t4 1)))
+    both_fit_law (windows_serve a.degree (lent_list a.keys 0) (length (lent_list a.states 0)) a.nodes.now 0 (length a.s.now))
+    (λ (n : ℕ). windows_serve a.degree (lent_list a.keys 1) (length (lent_list a.states 1)) a.nodes.now 1 n)
+    (window_by (covers (lent_list a.model 3)) (full_force (model_of a.degree a.model)) (state_for (lent_list a.keys 0) (lent_list a.states 0)))
+    (window_by (covers (lent_list a.model 3)) (full_force (model_of a.degree a.model)) (state_for (lent_list a.keys 1) (lent_list a.states 1)))
     a.nodes.now a.s.now _ _ (front_size a.degree) _ _ c.fit_windows-c.ensures c.fit_windows-d.ensures _ c.both.ensures

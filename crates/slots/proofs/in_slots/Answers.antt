@@ -9,15 +9,14 @@ loop-w-init c = (omega arith, empty_none _ _ _ _)
 pub returns-in-Known : goal.returns-in-Known
 returns-in-Known c =
     slot_found _ _ _ _ c.loop-w.w c.loop-w.invariant.1 c.loop-w-test.true c.in_slot-found.result _
-    c.found-1.given.1 c.in_slot-found.ensures
+    c.in-Known.is c.in_slot-found.ensures
 
 pub loop-w-preserved : goal.loop-w-preserved
-loop-w-preserved c =
-(
-      omega (arith, c.loop-w-test.true),
-      empty_next _ _ _ _ c.loop-w.w c.loop-w.invariant.1 c.loop-w-test.true c.in_slot-found.result c.enum_told-1.given.1
-          c.in_slot-found.ensures,
-    )
+loop-w-preserved c = (
+  omega (arith, c.loop-w-test.true),
+  empty_next _ _ _ _ c.loop-w.w c.loop-w.invariant.1 c.loop-w-test.true c.in_slot-found.result c.in-Missing.is
+      c.in_slot-found.ensures,
+)
 
 pub returns : goal.returns
 returns c = none_found _ _ _ _ c.loop-w.w c.loop-w.invariant.1 (omega (arith, c.loop-w.invariant.0, c.loop-w-test.false))

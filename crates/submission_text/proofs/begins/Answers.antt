@@ -1,9 +1,6 @@
 -- `submission_text::begins`: whether the rest of the line begins with the rest of the name is whether the whole does. Assumes nothing.
 use Rattle.submission_text.proofs.ReadLines.{begins_stops, begins_goes, begins_done}
-use mathlib.Core.Path.{◌≡◌, refl}
-use Prim.Native.Nat.{◌-◌, ◌≤◌}
-use lib.ListN.{length, drop}
-use Rattle.submission_text.specs.Text.{begins_with}
+use mathlib.Core.Path.{refl}
 use borrow.Author.Rules.{rules}
 use Rattle.submission_text.proofs.begins.Goals as goal
 

@@ -1,11 +1,9 @@
 -- `submission_text::fill_row`: the numbers written, with the words left, are the line's column of numbers. Assumes nothing.
-use Rattle.submission_text.proofs.ReadLines.{column_starts, column_turn, column_done}
-use mathlib.Core.Path.{◌≡◌, refl}
-use Prim.Native.Nat.{◌+◌, ◌-◌, ◌*◌}
+use mathlib.Core.Path.{◌≡◌}
+use Prim.Native.Nat.{◌-◌, ◌*◌}
 use lib.ListN.{length, take}
 use mathlib.Core.List.{◌++◌}
 use Rattle.submission_text.specs.Text.{column}
-use borrow.Author.Rules.{rules}
 use Rattle.submission_text.proofs.fill_row.Given as goal
 
 abbrev pub invariant-loop-k : goal.invariant-loop-k

@@ -1,5 +1,5 @@
 -- `submission_text::header_of`: each section's number leads to the header with its name, any other number to none. Assumes nothing.
-use Rattle.submission_text.proofs.ReadLines.{beyond, header_at, header_none}
+use Rattle.submission_text.proofs.ReadLines.{header_at, header_none}
 use native.Mathlib.Omega.{arith}
 use borrow.Author.Rules.{rules}
 use Rattle.submission_text.proofs.header_of.Goals as goal
@@ -32,5 +32,4 @@ pub returns-in-8 : goal.returns-in-8
 returns-in-8 c = search (rules, header_at 8 (omega arith))
 
 pub returns-in_default : goal.returns-in_default
-returns-in_default c = let h = c.in_default.rest in header_none _ _
-    (beyond _ h.0.0.0.0.0.0.0.0.1 h.0.0.0.0.0.0.0.1 h.0.0.0.0.0.0.1 h.0.0.0.0.0.1 h.0.0.0.0.1 h.0.0.0.1 h.0.0.1 h.0.1 h.1)
+returns-in_default c = header_none _ _ (omega arith)

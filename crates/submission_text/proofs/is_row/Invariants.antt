@@ -1,9 +1,7 @@
 -- `submission_text::is_row`: whether the words left make a row is whether all do. Assumes nothing.
-use Rattle.submission_text.proofs.ReadLines.{row_bad, row_goes, row_done}
-use mathlib.Core.Path.{◌≡◌, refl}
-use Prim.Native.Nat.{◌+◌, ◌-◌, ◌*◌}
+use mathlib.Core.Path.{◌≡◌}
+use Prim.Native.Nat.{◌+◌, ◌*◌}
 use Rattle.submission_text.specs.Text.{is_row}
-use borrow.Author.Rules.{rules}
 use Rattle.submission_text.proofs.is_row.Given as goal
 
 abbrev pub invariant-loop-left : goal.invariant-loop-left

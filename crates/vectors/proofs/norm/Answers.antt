@@ -1,6 +1,5 @@
 -- `vectors::norm` meets its contract. Assumes nothing.
 use Rattle.vectors.specs.Vector.{norm}
-use borrow.Author.Rules.{rules}
 use Rattle.vectors.proofs.norm.Goals as goal
 
 pub returns : goal.returns

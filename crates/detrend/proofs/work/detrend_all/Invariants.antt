@@ -13,8 +13,8 @@ use Rattle.detrend.proofs.work.detrend_all.Given as goal
 
 abbrev pub invariant-loop-k : goal.invariant-loop-k
 invariant-loop-k l =
-    (l.k ≤ length l.ends) × (length l.s ≡ length l.n) × (take l.firsts l.s ≡ take l.firsts l.n) × (ranges_fit (drop l.k l.ends) (drop l.k l.starts) l.firsts ≡ true) ×
-    (detrended_of (drop l.k l.ends) (drop l.k l.starts) (drop l.k l.periods) (drop l.k l.initial.s) (take l.firsts l.n) (mid_of l.firsts l.firsts l.s) ≡ detrended_of l.ends l.starts l.periods l.initial.s (take l.firsts l.n) (mid_of l.firsts l.firsts l.n))
+    (l.k ≤ length l.firsts) × (length l.s ≡ length l.initial.s) × (take l.n l.s ≡ take l.n l.initial.s) × (ranges_fit (drop l.k l.firsts) (drop l.k l.ends) l.n ≡ true) ×
+    (detrended_of (drop l.k l.firsts) (drop l.k l.ends) (drop l.k l.starts) (drop l.k l.periods) (take l.n l.initial.s) (mid_of l.n l.n l.s) ≡ detrended_of l.firsts l.ends l.starts l.periods (take l.n l.initial.s) (mid_of l.n l.n l.initial.s))
 
 abbrev pub decreases-loop-k : goal.decreases-loop-k
-decreases-loop-k l = length l.ends - l.k
+decreases-loop-k l = length l.firsts - l.k

@@ -16,7 +16,7 @@ returns-then-found c =
     let z = c.all_zero in
     let fr = c.fill_rows in
     let co = c.coefficients-found in
-    part_found s.n s.first s.count s.start s.period s.s.now (omega (arith, c.requires.0)) (omega (arith, c.requires.1)) fr.new.0 fr.ensures (replicate 6 zero64) refl _
+    part_found s.n s.first s.count s.start s.period s.s.now (omega (arith, c.requires.0)) (omega (arith, c.requires.1)) fr.new.s fr.ensures (replicate 6 zero64) refl _
     co.ensures.0 _ _ _
     z.ensures c.if-all_zero.false c.if-found.true co.ensures.1 c.subtract_fit.ensures
 
@@ -26,5 +26,5 @@ returns-else-found c =
     let z = c.all_zero in
     let fr = c.fill_rows in
     let co = c.coefficients-found in
-    part_none s.n s.first s.count s.start s.period s.s.now (omega arith) (omega arith) fr.new.0 fr.ensures (replicate 6 zero64) refl _ co.ensures.0 _
+    part_none s.n s.first s.count s.start s.period s.s.now (omega arith) (omega arith) fr.new.s fr.ensures (replicate 6 zero64) refl _ co.ensures.0 _
     z.ensures c.if-all_zero.false c.if-found.false

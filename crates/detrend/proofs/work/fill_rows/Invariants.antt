@@ -12,7 +12,7 @@ use Rattle.detrend.proofs.work.fill_rows.Given as goal
 
 abbrev pub invariant-loop-i : goal.invariant-loop-i
 invariant-loop-i l =
-    (l.i ≤ l.to) × (length l.s ≡ length l.from) × (l.s ≡ put_mid l.start (6 * l.i) l.from (rows_of l.period l.initial.s (mid_of l.count l.i l.from)))
+    (l.i ≤ l.count) × (length l.s ≡ length l.initial.s) × (l.s ≡ put_mid l.to (6 * l.i) l.initial.s (rows_of l.start l.period (mid_of l.from l.i l.initial.s)))
 
 abbrev pub decreases-loop-i : goal.decreases-loop-i
-decreases-loop-i l = l.to - l.i
+decreases-loop-i l = l.count - l.i

@@ -24,7 +24,7 @@ loop-k-preserved c =
       search (rules, ends_inside),
       search rules,
       search (rules, times_kept),
-      removed_turn s.n l.first l.k w.result s.nodes.now l.s s.s.now w.new.0 (omega arith) (omega arith) (omega arith) l.invariant.3 l.invariant.4 w.ensures l.invariant.5,
+      removed_turn s.n l.first l.k w.result s.nodes.now l.s s.s.now w.new.s (omega arith) (omega arith) (omega arith) l.invariant.3 l.invariant.4 w.ensures l.invariant.5,
     )
 
 pub returns : goal.returns

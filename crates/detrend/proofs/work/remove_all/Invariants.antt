@@ -13,8 +13,8 @@ use Rattle.detrend.proofs.work.remove_all.Given as goal
 
 abbrev pub invariant-loop-k : goal.invariant-loop-k
 invariant-loop-k l =
-    (0 < l.k) × (l.k ≤ length l.initial.s) × (l.first ≤ l.nodes) × (length l.s ≡ length l.n) × (take l.nodes l.s ≡ take l.nodes l.n) ×
-    (take l.first (mid_of l.nodes l.nodes l.s) ++ windows_of (get_or l.initial.s (l.k - 1) nan) (drop l.k l.initial.s) (drop l.first (take l.nodes l.n)) (drop l.first (mid_of l.nodes l.nodes l.s)) ≡ removed_of l.initial.s (take l.nodes l.n) (mid_of l.nodes l.nodes l.n))
+    (0 < l.k) × (l.k ≤ length l.nodes) × (l.first ≤ l.n) × (length l.s ≡ length l.initial.s) × (take l.n l.s ≡ take l.n l.initial.s) ×
+    (take l.first (mid_of l.n l.n l.s) ++ windows_of (get_or l.nodes (l.k - 1) nan) (drop l.k l.nodes) (drop l.first (take l.n l.initial.s)) (drop l.first (mid_of l.n l.n l.s)) ≡ removed_of l.nodes (take l.n l.initial.s) (mid_of l.n l.n l.initial.s))
 
 abbrev pub decreases-loop-k : goal.decreases-loop-k
-decreases-loop-k l = length l.initial.s - l.k
+decreases-loop-k l = length l.nodes - l.k

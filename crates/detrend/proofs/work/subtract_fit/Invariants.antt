@@ -11,7 +11,7 @@ use Rattle.detrend.proofs.work.subtract_fit.Given as goal
 
 abbrev pub invariant-loop-i : goal.invariant-loop-i
 invariant-loop-i l =
-    (l.i ≤ l.rows) × (length l.s ≡ length l.from) × (l.s ≡ put_mid l.count l.i l.from (take l.i (less_rows l.initial.s (mid_of l.beta (6 * l.rows) l.from) (mid_of l.count l.rows l.from))))
+    (l.i ≤ l.count) × (length l.s ≡ length l.initial.s) × (l.s ≡ put_mid l.from l.i l.initial.s (take l.i (less_rows l.beta (mid_of l.rows (6 * l.count) l.initial.s) (mid_of l.from l.count l.initial.s))))
 
 abbrev pub decreases-loop-i : goal.decreases-loop-i
-decreases-loop-i l = l.rows - l.i
+decreases-loop-i l = l.count - l.i

@@ -4,8 +4,11 @@ use borrow.Author.Rules.{rules}
 use Rattle.exports.proofs.answers.hand_out.Goals as goal
 
 pub returns-then-all_finite : goal.returns-then-all_finite
-returns-then-all_finite c = four_handed _ _ _ _ c.put_four.ensures c.all_finite.ensures c.if-all_finite.true
+returns-then-all_finite c =
+    let p = four_handed _ c.args.out.now _ _ c.put_four.ensures c.all_finite.ensures c.if-all_finite.true in
+    record { number = p.0; places = p.1 }
 
 pub returns : goal.returns
 returns c =
-    four_refused _ _ _ _ _ c.requires c.put_four.ensures c.all_finite.ensures c.if-all_finite.false c.clear.ensures
+    let p = four_refused _ _ _ _ _ c.requires c.put_four.ensures c.all_finite.ensures c.if-all_finite.false c.clear.ensures in
+    record { number = p.0; places = p.1 }

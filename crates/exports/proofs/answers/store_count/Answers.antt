@@ -9,8 +9,10 @@ use Rattle.exports.proofs.answers.store_count.Goals as goal
 
 pub returns-in-Counted : goal.returns-in-Counted
 returns-in-Counted c =
-    told_as counted_number count_in c.args.answer (answers.Counted _) _ _ _ c.answer-1.given.1 refl c.put_count.ensures
+    let p = told_as counted_number count_in c.args.answer (answers.Counted _) _ c.args.counts.now _ c.in-Counted.is refl c.put_count.ensures in
+    record { number = p.0; places = p.1 }
 
 pub returns-in-Refused : goal.returns-in-Refused
 returns-in-Refused c =
-    told_as counted_number count_in c.args.answer (answers.Refused _) _ _ _ c.answer-in-Refused-1.given.1 refl c.forget_count.ensures
+    let p = told_as counted_number count_in c.args.answer (answers.Refused _) _ c.args.counts.now _ c.in-Refused.is refl c.forget_count.ensures in
+    record { number = p.0; places = p.1 }

@@ -9,8 +9,10 @@ use Rattle.exports.proofs.answers.store_counts.Goals as goal
 
 pub returns-in-Accepted : goal.returns-in-Accepted
 returns-in-Accepted c =
-    told_as sheet_number counts_in c.args.answer (answers.Accepted _ _) _ _ _ c.answer-1.given.1 refl c.put_counts.ensures
+    let p = told_as sheet_number counts_in c.args.answer (answers.Accepted _ _) _ c.args.counts.now _ c.in-Accepted.is refl c.put_counts.ensures in
+    record { number = p.0; places = p.1 }
 
 pub returns-in-Refused : goal.returns-in-Refused
 returns-in-Refused c =
-    told_as sheet_number counts_in c.args.answer (answers.Refused _) _ _ _ c.answer-in-Refused-1.given.1 refl c.forget_counts.ensures
+    let p = told_as sheet_number counts_in c.args.answer (answers.Refused _) _ c.args.counts.now _ c.in-Refused.is refl c.forget_counts.ensures in
+    record { number = p.0; places = p.1 }

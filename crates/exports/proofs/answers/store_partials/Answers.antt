@@ -9,8 +9,10 @@ use Rattle.exports.proofs.answers.store_partials.Goals as goal
 
 pub returns-in-Value : goal.returns-in-Value
 returns-in-Value c =
-    told_as partials_number partials_in c.args.answer (answers.Value _) _ _ _ c.answer-1.given.1 refl c.put_four.ensures
+    let p = told_as partials_number partials_in c.args.answer (answers.Value _) _ c.args.out.now _ c.in-Value.is refl c.put_four.ensures in
+    record { number = p.0; places = p.1 }
 
 pub returns-in-Refused : goal.returns-in-Refused
 returns-in-Refused c =
-    told_as partials_number partials_in c.args.answer (answers.Refused _) _ _ _ c.answer-in-Refused-1.given.1 refl c.forget.ensures
+    let p = told_as partials_number partials_in c.args.answer (answers.Refused _) _ c.args.out.now _ c.in-Refused.is refl c.forget.ensures in
+    record { number = p.0; places = p.1 }

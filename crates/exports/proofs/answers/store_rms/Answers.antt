@@ -9,8 +9,10 @@ use Rattle.exports.proofs.answers.store_rms.Goals as goal
 
 pub returns-in-Fitted : goal.returns-in-Fitted
 returns-in-Fitted c =
-    told_as fit_number rms_in c.args.answer (answers.Fitted _) _ _ _ c.answer-1.given.1 refl c.put_number.ensures
+    let p = told_as fit_number rms_in c.args.answer (answers.Fitted _) _ c.args.rms.now _ c.in-Fitted.is refl c.put_number.ensures in
+    record { number = p.0; places = p.1 }
 
 pub returns-in-Refused : goal.returns-in-Refused
 returns-in-Refused c =
-    told_as fit_number rms_in c.args.answer (answers.Refused _) _ _ _ c.answer-in-Refused-1.given.1 refl c.forget.ensures
+    let p = told_as fit_number rms_in c.args.answer (answers.Refused _) _ c.args.rms.now _ c.in-Refused.is refl c.forget.ensures in
+    record { number = p.0; places = p.1 }

@@ -9,15 +9,16 @@ use Rattle.exports.proofs.answers.store_time.Goals as goal
 
 pub returns-in-At : goal.returns-in-At
 returns-in-At c =
-    told_as horizon_number time_in c.args.answer (answers.At _) _ _ _ c.answer-1.given.1 refl c.put_number.ensures
+    let p = told_as horizon_number time_in c.args.answer (answers.At _) _ c.args.out.now _ c.in-At.is refl c.put_number.ensures in
+    record { number = p.0; places = p.1 }
 
 pub returns-in-Nothing : goal.returns-in-Nothing
 unfolding lib.Ieee.neg lib.Ieee.of_bits
 returns-in-Nothing c =
-    told_as horizon_number time_in c.args.answer answers.Nothing _ _ _ c.enum_told-1.given.1 refl
-    c.put_number-in-Nothing.ensures
+    let p = told_as horizon_number time_in c.args.answer answers.Nothing _ c.args.out.now _ c.in-Nothing.is refl c.put_number-in-Nothing.ensures in
+    record { number = p.0; places = p.1 }
 
 pub returns-in-Refused : goal.returns-in-Refused
 returns-in-Refused c =
-    told_as horizon_number time_in c.args.answer (answers.Refused _) _ _ _ c.answer-in-Refused-1.given.1 refl
-    c.forget.ensures
+    let p = told_as horizon_number time_in c.args.answer (answers.Refused _) _ c.args.out.now _ c.in-Refused.is refl c.forget.ensures in
+    record { number = p.0; places = p.1 }

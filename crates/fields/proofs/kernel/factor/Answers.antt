@@ -1,4 +1,3 @@
-use borrow.Author.Rules.{rules}
 use borrow.Author.Tests.{le-leb, lt-leb}
 use Rattle.fields.specs.Rescaled.{factor_of, factor_with}
 use Rattle.fields.proofs.kernel.factor.Goals as goal

@@ -15,7 +15,7 @@ returns c =
     let back = c.run_sections-2 in
     let again = c.reverse-2 in
     let part = c.copy in
-    both_law (sections_of s.sections.now) s.x.now s.out.now padded.new.1.1.0 forth.new.1.0 turned.new.0 back.new.1.0 again.new.0 part.new.1.0 s.p
+    both_law (sections_of s.sections.now) s.x.now s.out.now padded.new.y forth.new.x turned.new.a back.new.x again.new.a part.new.out s.p
     q.2
-    (again.auto.0 ∙ back.auto.1.0 ∙ turned.auto.0 ∙ forth.auto.1.0 ∙ padded.auto.1.1.0 ∙ q.1)
+    (again.auto.a ∙ back.auto.x ∙ turned.auto.a ∙ forth.auto.x ∙ padded.auto.y ∙ q.1)
     padded.ensures forth.ensures turned.ensures back.ensures again.ensures part.ensures

@@ -21,11 +21,11 @@ loop-start-preserved c =
     let q = c.requires in
     let e = c.run_end-end in
     let r = c.pass_run in (
-      put_length l.start (e.result - l.start) l.out r.new.1.1.0 s.out.now r.auto.1.1.0 l.invariant.0,
+      put_length l.start (e.result - l.start) l.out r.new.out s.out.now r.auto.out l.invariant.0,
       search rules,
       search rules,
-      pass_turn (pass_by (sections_of s.sections.now)) s.times.now s.x.now l.out s.out.now _ r.new.1.1.0 l.start e.result
-          c.loop-start-test.true q.0 l.invariant.0 q.1 e.ensures.0 e.ensures.2 r.auto.1.1.0 r.ensures l.invariant.3,
+      pass_turn (pass_by (sections_of s.sections.now)) s.times.now s.x.now l.out s.out.now _ r.new.out l.start e.result
+          c.loop-start-test.true q.0 l.invariant.0 q.1 e.ensures.0 e.ensures.2 r.auto.out r.ensures l.invariant.3,
     )
 
 pub returns : goal.returns

@@ -12,7 +12,7 @@ use Rattle.filter.proofs.Turns.{pass_turn, passed_now}
 use Rattle.filter.proofs.work.pass_runs.Given as goal
 
 abbrev pub invariant-loop-start : goal.invariant-loop-start
-invariant-loop-start l = (length l.out ≡ length l.n) × (length l.scratch ≡ length l.initial.out) × (l.start ≤ length l.x)
+invariant-loop-start l = (length l.out ≡ length l.initial.out) × (length l.scratch ≡ length l.initial.scratch) × (l.start ≤ length l.x)
     × (take l.start l.out ++ passed (pass_by (sections_of l.sections)) (drop l.start l.times) (drop l.start l.x) ≡ passed (pass_by (sections_of l.sections)) l.times l.x)
 
 abbrev pub decreases-loop-start : goal.decreases-loop-start

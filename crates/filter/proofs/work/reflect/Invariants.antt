@@ -11,8 +11,8 @@ use Rattle.filter.proofs.Turns.{mirrored, reflect_turn, reflect_done}
 use Rattle.filter.proofs.work.reflect.Given as goal
 
 abbrev pub invariant-loop-k : goal.invariant-loop-k
-invariant-loop-k l = (length l.out ≡ length l.p)
-    × (take l.k l.out ++ reflected (get_or l.x l.about nan) (reverse (take (length l.p - l.k) (drop (l.end - length l.p) l.x))) ≡ mirrored (get_or l.x l.about nan) (length l.p) l.end l.x)
+invariant-loop-k l = (length l.out ≡ length l.initial.out)
+    × (take l.k l.out ++ reflected (get_or l.x l.about nan) (reverse (take (length l.initial.out - l.k) (drop (l.end - length l.initial.out) l.x))) ≡ mirrored (get_or l.x l.about nan) (length l.initial.out) l.end l.x)
 
 abbrev pub decreases-loop-k : goal.decreases-loop-k
-decreases-loop-k l = length l.p - l.k
+decreases-loop-k l = length l.initial.out - l.k

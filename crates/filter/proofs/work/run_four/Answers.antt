@@ -15,7 +15,7 @@ loop-i-init c = (refl, let s = c.args in ap (λ (m : BiquadMemory). through_four
 
 pub offset_bounds-x-i-in-loop-i : goal.offset_bounds-x-i-in-loop-i
 offset_bounds-x-i-in-loop-i c =
-    omega (arith, c.loop-i-test.true, c.loop-i.invariant.0, c.well-formed.1.1.1.1.0)
+    omega (arith, c.loop-i-test.true, c.loop-i.invariant.0)
 
 pub bounds-x-i-in-loop-i : goal.bounds-x-i-in-loop-i
 bounds-x-i-in-loop-i c =
@@ -23,7 +23,7 @@ bounds-x-i-in-loop-i c =
 
 pub overflow_add-i : goal.overflow_add-i
 overflow_add-i c =
-    omega (arith, c.loop-i-test.true, c.loop-i.invariant.0, c.well-formed.1.1.1.1.0)
+    omega (arith, c.loop-i-test.true, c.loop-i.invariant.0)
 
 pub loop-i-smaller : goal.loop-i-smaller
 loop-i-smaller c =

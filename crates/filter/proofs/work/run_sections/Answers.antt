@@ -14,7 +14,7 @@ loop-at-init c = (refl, search rules, refl)
 
 pub overflow_add-at-then-sections-at-ge20-3 : goal.overflow_add-at-then-sections-at-ge20-3
 overflow_add-at-then-sections-at-ge20-3 c =
-    omega (arith, c.if-sections-at-ge20.true, c.well-formed.0)
+    omega (arith, c.if-sections-at-ge20.true)
 
 pub loop-at-smaller-then-sections-at-ge20 : goal.loop-at-smaller-then-sections-at-ge20
 loop-at-smaller-then-sections-at-ge20 c = omega (arith, c.if-sections-at-ge20.true)
@@ -25,7 +25,7 @@ loop-at-preserved-then-sections-at-ge20 c =
     let s = c.args in (
       search rules,
       omega (arith, c.if-sections-at-ge20.true),
-      four_more s.sections.now l.x c.run_four.new.1.1.1.1.0 _ l.at c.section_at-a.result c.section_at-b.result
+      four_more s.sections.now l.x c.run_four.new.x _ l.at c.section_at-a.result c.section_at-b.result
           c.section_at-c.result c.section_at-d.result
           c.section_at-a.ensures c.section_at-b.ensures c.section_at-c.ensures c.section_at-d.ensures l.invariant.2
           c.run_four.ensures,
@@ -36,7 +36,7 @@ loop-at-preserved c =
     let l = c.loop-at in (
       search rules,
       search rules,
-      one_more c.args.sections.now l.x c.run_section.new.1.0 _ l.at c.section_at.result
+      one_more c.args.sections.now l.x c.run_section.new.x _ l.at c.section_at.result
           c.section_at.ensures l.invariant.2 c.run_section.ensures,
     )
 

@@ -14,12 +14,11 @@ pub bounds-s-base : goal.bounds-s-base
 bounds-s-base c = omega (arith, c.loop-r.invariant.1.only.long)
 
 pub loop-r-preserved : goal.loop-r-preserved
-loop-r-preserved c =
-(
-      omega arith,
-      based_more _ c.loop-r.s c.args.base c.loop-r.r (omega arith) (omega (arith, c.loop-r.invariant.1.only.long)) _ c.loop-r.invariant.1
-          c.run_at-v.ensures,
-    )
+loop-r-preserved c = (
+  omega arith,
+  based_more _ c.loop-r.s c.args.base c.loop-r.r (omega arith) (omega (arith, c.loop-r.invariant.1.only.long)) _ c.loop-r.invariant.1
+      c.run_at-v.ensures,
+)
 
 pub shape_of-s : goal.shape_of-s
 shape_of-s c = c.loop-r.invariant.1.only.long

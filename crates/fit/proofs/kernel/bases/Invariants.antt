@@ -5,7 +5,7 @@ use Rattle.std.proofs.Common.{◌≡◌, ◌-◌, ◌*◌, ◌≤◌, arith, rul
 use Rattle.fit.proofs.kernel.bases.Given as goal
 
 abbrev pub invariant-loop-r : goal.invariant-loop-r
-invariant-loop-r l = (l.r ≤ 3 * l.r-end) × Based l.base l.s l.n l.r
+invariant-loop-r l = (l.r ≤ 3 * l.n) × Based l.initial.s l.s l.base l.r
 
 abbrev pub decreases-loop-r : goal.decreases-loop-r
-decreases-loop-r l = 3 * l.r-end - l.r
+decreases-loop-r l = 3 * l.n - l.r

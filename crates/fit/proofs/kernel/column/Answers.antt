@@ -17,12 +17,11 @@ pub bounds-s-base-in-loop-r : goal.bounds-s-base-in-loop-r
 bounds-s-base-in-loop-r c = omega (arith, c.loop-r.invariant.1.only.long)
 
 pub loop-r-preserved : goal.loop-r-preserved
-loop-r-preserved c =
-(
-      omega arith,
-      columned_more _ c.loop-r.s c.args.base c.loop-r.r (omega arith) (omega (arith, c.loop-r.invariant.1.only.long)) c.args.i
-          (omega arith) _ c.loop-r.invariant.1 c.run_at.ensures,
-    )
+loop-r-preserved c = (
+  omega arith,
+  columned_more _ c.loop-r.s c.args.base c.loop-r.r (omega arith) (omega (arith, c.loop-r.invariant.1.only.long)) c.args.i
+      (omega arith) _ c.loop-r.invariant.1 c.run_at.ensures,
+)
 
 pub shape_of-s : goal.shape_of-s
 shape_of-s c = c.loop-r.invariant.1.only.long

@@ -5,7 +5,7 @@ use Rattle.std.proofs.Common.{◌≡◌, ◌-◌, ◌*◌, ◌≤◌, arith, rul
 use Rattle.fit.proofs.kernel.column.Given as goal
 
 abbrev pub invariant-loop-r : goal.invariant-loop-r
-invariant-loop-r l = (l.r ≤ 3 * l.i) × Columned l.base l.s l.n l.r l.r-end
+invariant-loop-r l = (l.r ≤ 3 * l.n) × Columned l.initial.s l.s l.base l.r l.i
 
 abbrev pub decreases-loop-r : goal.decreases-loop-r
-decreases-loop-r l = 3 * l.i - l.r
+decreases-loop-r l = 3 * l.n - l.r

@@ -16,12 +16,11 @@ partial-requires c =
     (c.requires.0, omega arith, omega arith, omega (arith, c.loop-i.invariant.1.apart.long), c.requires.3, c.requires.4)
 
 pub loop-i-preserved : goal.loop-i-preserved
-loop-i-preserved c =
-(
-      omega arith,
-      designed_more _ _ _ _ _ c.args.base (3 * c.args.n) c.loop-i.i (omega arith) (omega arith) c.loop-i.invariant.1
-          c.partial.ensures,
-    )
+loop-i-preserved c = (
+  omega arith,
+  designed_more _ _ _ _ _ c.args.base (3 * c.args.n) c.loop-i.i (omega arith) (omega arith) c.loop-i.invariant.1
+      c.partial.ensures,
+)
 
 pub shape_of-s : goal.shape_of-s
 shape_of-s c = c.loop-i.invariant.1.apart.long

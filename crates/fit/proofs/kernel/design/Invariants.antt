@@ -9,7 +9,7 @@ use Rattle.inputs.specs.Inputs.{model_of}
 use Rattle.fit.proofs.kernel.design.Given as goal
 
 abbrev pub invariant-loop-i : goal.invariant-loop-i
-invariant-loop-i l = (l.i ≤ 15) × Designed (λ (j : ℕ). run_of (attraction_of J2 (model_of l.degree l.model)) l.arc (moved_of l.p j)) l.arc.steps l.base l.s l.n (3 * l.initial.s) l.i
+invariant-loop-i l = (l.i ≤ 15) × Designed (λ (j : ℕ). run_of (attraction_of J2 (model_of l.degree l.model)) l.arc (moved_of l.p j)) l.arc.steps l.initial.s l.s l.base (3 * l.n) l.i
 
 abbrev pub decreases-loop-i : goal.decreases-loop-i
 decreases-loop-i l = 15 - l.i

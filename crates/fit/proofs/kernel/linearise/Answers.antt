@@ -8,14 +8,13 @@ use Rattle.inputs.specs.Inputs.{model_of}
 use Rattle.fit.proofs.kernel.linearise.Goals as goal
 
 pub design-requires : goal.design-requires
-design-requires c =
-(
-      c.requires.0,
-      c.requires.1,
-      omega (arith, c.bases.ensures.only.long, c.fly-2.ensures.1.long, c.misfits.ensures.only.long, c.fly.ensures.1.long, c.requires.2),
-      c.requires.3,
-      c.requires.4,
-    )
+design-requires c = (
+  c.requires.0,
+  c.requires.1,
+  omega (arith, c.bases.ensures.only.long, c.fly-2.ensures.1.long, c.misfits.ensures.only.long, c.fly.ensures.1.long, c.requires.2),
+  c.requires.3,
+  c.requires.4,
+)
 
 pub returns : goal.returns
 returns c =

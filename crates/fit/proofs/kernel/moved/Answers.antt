@@ -7,4 +7,4 @@ use Rattle.fit.proofs.kernel.moved.Goals as goal
 pub returns : goal.returns
 unfolding moved_of
 returns c =
-    ap (λ (v : Float). set c.args.t1 c.args.i (get_or c.args.t1 c.args.i nan ⊕ v)) c.parameter_scale.ensures
+    ap (λ (v : Float). set c.args.p c.args.i (get_or c.args.p c.args.i nan ⊕ v)) c.parameter_scale.ensures

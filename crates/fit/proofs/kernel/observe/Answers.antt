@@ -12,12 +12,11 @@ note-n-requires c =
     (c.requires.0, c.requires.1, c.loop-c.invariant.1.few, omega arith, omega (arith, c.loop-c.invariant.1.only.long))
 
 pub loop-c-preserved : goal.loop-c-preserved
-loop-c-preserved c =
-(
-      omega arith,
-      sofar_more (state_for c.args.keys.now c.args.states.now) c.args.arc.t0 _ _ _ c.args.base c.loop-c.c _ _ c.loop-c.invariant.1
-          c.note-n.ensures,
-    )
+loop-c-preserved c = (
+  omega arith,
+  sofar_more (state_for c.args.keys.now c.args.states.now) c.args.arc.t0 _ _ _ c.args.base c.loop-c.c _ _ c.loop-c.invariant.1
+      c.note-n.ensures,
+)
 
 pub shape_of-s : goal.shape_of-s
 shape_of-s c = c.loop-c.invariant.1.only.long

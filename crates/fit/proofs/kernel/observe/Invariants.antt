@@ -5,7 +5,7 @@ use Rattle.std.proofs.Common.{◌+◌, ◌-◌, ◌/◌, ◌≤◌, arith, rules
 use Rattle.fit.proofs.kernel.observe.Given as goal
 
 abbrev pub invariant-loop-c : goal.invariant-loop-c
-invariant-loop-c l = (l.c ≤ l.arc.steps / 5 + 1) × Sofar (state_for l.keys l.states) l.arc.t0 l.base l.s l.c-end l.c l.n
+invariant-loop-c l = (l.c ≤ l.arc.steps / 5 + 1) × Sofar (state_for l.keys l.states) l.arc.t0 l.initial.s l.s l.base l.c l.n
 
 abbrev pub decreases-loop-c : goal.decreases-loop-c
 decreases-loop-c l = l.arc.steps / 5 + 1 - l.c

@@ -12,18 +12,18 @@ pub returns-then-i-keys : goal.returns-then-i-keys
 unfolding state_for
 returns-then-i-keys c =
     let a = c.args in
-    let p : lookup a.keys.now (whole_second a.t) ≡ At c.found-1.given.0.0 = sym (c.place-found.ensures c.requires.0) ∙ c.found-1.given.1 in
+    let p : lookup a.keys.now (whole_second a.t) ≡ At c.in-At.i = sym (c.place-found.ensures c.requires.0) ∙ c.in-At.is in
     ap Known c.state_in-s.ensures ∙ sym (ap (held_at a.states.now) p)
 
 pub returns-else-i-keys : goal.returns-else-i-keys
 unfolding state_for
 returns-else-i-keys c =
     let a = c.args in
-    let p : lookup a.keys.now (whole_second a.t) ≡ At c.found-1.given.0.0 = sym (c.place-found.ensures c.requires.0) ∙ c.found-1.given.1 in
-    absurd (omega (arith, found_below a.keys.now (whole_second a.t) c.found-1.given.0.0 p, c.if-i-keys.false))
+    let p : lookup a.keys.now (whole_second a.t) ≡ At c.in-At.i = sym (c.place-found.ensures c.requires.0) ∙ c.in-At.is in
+    absurd (omega (arith, found_below a.keys.now (whole_second a.t) c.in-At.i p, c.if-i-keys.false))
 
 pub returns-in-Nothing : goal.returns-in-Nothing
 unfolding state_for
 returns-in-Nothing c =
     let a = c.args in
-    sym (ap (held_at a.states.now) (sym (c.place-found.ensures c.requires.0) ∙ c.enum_told-1.given.1))
+    sym (ap (held_at a.states.now) (sym (c.place-found.ensures c.requires.0) ∙ c.in-Nothing.is))

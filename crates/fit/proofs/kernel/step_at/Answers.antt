@@ -4,4 +4,4 @@ use Rattle.fit.proofs.kernel.step_at.Goals as goal
 
 pub returns : goal.returns
 unfolding step_at
-returns c = c.step_of_lem.ensures
+returns c = c.step_of.ensures

@@ -7,7 +7,7 @@ use Rattle.fit.proofs.kernel.step_of.Goals as goal
 
 pub truncating_f64_to_u64-k-requires : goal.truncating_f64_to_u64-k-requires
 unfolding of_bits neg
-truncating_f64_to_u64-k-requires c = (subst T (sym c.if-x.true) tt, subst T (sym c.if-x-2.true) tt)
+truncating_f64_to_u64-k-requires c = record { lower_bound = subst T (sym c.if-x.true) tt; upper_bound = subst T (sym c.if-x-2.true) tt }
 
 pub returns-then-k-le5302 : goal.returns-then-k-le5302
 unfolding step_number of_bits neg

@@ -12,13 +12,12 @@ unfolding row
 loop-i-init c = (omega arith, refl, refl)
 
 pub loop-i-preserved : goal.loop-i-preserved
-loop-i-preserved c =
-(
-      omega arith,
-      simp length-set c.loop-i.invariant.1,
-      row_more c.loop-i.q _ c.loop-i.i _ c.loop-i.invariant.2 (omega arith)
-          (ap (λ (v : Float). get_or c.args.t1 c.loop-i.i nan ⊕ get_or c.args.t2 c.loop-i.i nan ⊗ v) c.parameter_scale.ensures),
-    )
+loop-i-preserved c = (
+  omega arith,
+  simp length-set c.loop-i.invariant.1,
+  row_more c.loop-i.q _ c.loop-i.i _ c.loop-i.invariant.2 (omega arith)
+      (ap (λ (v : Float). get_or c.args.p c.loop-i.i nan ⊕ get_or c.args.beta c.loop-i.i nan ⊗ v) c.parameter_scale.ensures),
+)
 
 pub returns : goal.returns
 unfolding updated_of

@@ -15,7 +15,7 @@ pub fit_each-requires : goal.fit_each-requires
 fit_each-requires c =
     let pre = c.requires in
     let k = c.clear_outputs.auto in
-    (pre.0, pre.1, k.0 ∙ pre.2, k.1.0 ∙ pre.3, k.1.1.0 ∙ pre.4)
+    (pre.0, pre.1, k.outkeys ∙ pre.2, k.outstates ∙ pre.3, k.rms ∙ pre.4)
 
 pub returns : goal.returns
 returns c =

@@ -39,7 +39,7 @@ returns-in-Fitted c =
     let f = fits_here (covers (lent_list a.model 3)) (full_force (model_of a.degree a.model)) (state_for a.keys.now a.states.now) a.from a.to pre.1 a.degree a.keys.now
     (length a.states.now) a.s.now _ _ _ c.arc_between-arc.ensures pre.0 c.fit_arc-fitted.ensures in
     fitted_adds_at (covers (lent_list a.model 3)) (full_force (model_of a.degree a.model)) (state_for a.keys.now a.states.now) a.from a.to pre.1 a.degree a.s.now _ _ _
-    a.done (outputs a.outkeys.now a.outstates.now a.rms.now) _ c.fitted-1.given.0.0 _ _ _ _ _ c.fitted-1.given.1
+    a.done (outputs a.outkeys.now a.outstates.now a.rms.now) _ c.in-Fitted.x _ _ _ _ _ c.in-Fitted.is
     (c.front_size-base.ensures.0 pre.0.degree) c.arc_between-arc.ensures f c.keep-n.ensures c.put_rms-w.ensures.0 c.put_rms-w.ensures.1
 
 pub returns-in-Refused : goal.returns-in-Refused
@@ -49,4 +49,4 @@ returns-in-Refused c =
     let f = fits_here (covers (lent_list a.model 3)) (full_force (model_of a.degree a.model)) (state_for a.keys.now a.states.now) a.from a.to pre.1 a.degree a.keys.now
     (length a.states.now) a.s.now _ _ _ c.arc_between-arc.ensures pre.0 c.fit_arc-fitted.ensures in
     refused_adds (covers (lent_list a.model 3)) (full_force (model_of a.degree a.model)) (state_for a.keys.now a.states.now) a.from a.to pre.1 a.degree a.s.now _ a.done
-    (outputs a.outkeys.now a.outstates.now a.rms.now) _ _ c.enum_told-1.given.1 f
+    (outputs a.outkeys.now a.outstates.now a.rms.now) _ _ c.in-Refused.is f

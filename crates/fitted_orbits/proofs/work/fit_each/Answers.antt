@@ -38,7 +38,7 @@ loop-w-preserved c =
     let a = c.args in
     let l = c.loop-w in (
       omega (arith, c.loop-w-test.true),
-      c.window-done.auto.1.1.1.1.1.1.1.1.1.1.0 ∙ l.invariant.1,
+      c.window-done.auto.s ∙ l.invariant.1,
       each_more (window_fit (covers (lent_list a.model 3)) (full_force (model_of a.degree a.model)) (state_for a.keys.now a.states.now)) a.nodes.now l.w l.done _
           (outputs a.outkeys.now a.outstates.now a.rms.now) (outputs l.outkeys l.outstates l.rms) _ c.loop-w-test.true l.invariant.2 c.window-done.ensures,
     )

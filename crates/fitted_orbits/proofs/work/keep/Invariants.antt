@@ -6,7 +6,7 @@ use borrow.Author.Rules.{rules}
 use Rattle.fitted_orbits.proofs.work.keep.Given as goal
 
 abbrev pub invariant-loop-k : goal.invariant-loop-k
-invariant-loop-k l = (l.k ≤ l.steps + 1) × Keeping l.t0 l.from l.to l.s l.base l.first l.k l.n l.k-end l.outkeys l.initial.outkeys l.outstates
+invariant-loop-k l = (l.k ≤ l.steps + 1) × Keeping l.t0 l.from l.to l.s l.base l.first l.k l.n l.initial.outkeys l.outkeys l.initial.outstates l.outstates
 
 abbrev pub decreases-loop-k : goal.decreases-loop-k
 decreases-loop-k l = l.steps + 1 - l.k

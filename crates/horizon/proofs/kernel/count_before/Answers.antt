@@ -1,7 +1,5 @@
 -- `horizon::kernel::count_before`, from the last time to the first: the count is that of the times seen, and `last` ends their run. Assumes nothing.
-use Rattle.std.proofs.Common.{◌≡◌, ◌+◌, ◌-◌, ◌<◌, ◌≤◌, length, drop, arith, rules}
-use Rattle.finality.specs.Sheet.{count as count_of}
-use Rattle.horizon.specs.Horizon.{end_at}
+use Rattle.std.proofs.Common.{◌≡◌, ◌+◌, ◌-◌, ◌≤◌, length, arith, rules}
 use Rattle.horizon.proofs.FromTheBack.{count_none, count_turn, count_small, count_all}
 use Rattle.horizon.proofs.kernel.count_before.Goals as goal
 

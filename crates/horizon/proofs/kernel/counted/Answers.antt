@@ -1,4 +1,4 @@
-use Rattle.std.proofs.Common.{add-one, rules}
+use Rattle.std.proofs.Common.{add-one}
 use Rattle.horizon.specs.Horizon.{counted}
 use Rattle.laws.specs.Runs.{splits}
 use Rattle.horizon.proofs.kernel.counted.Goals as goal

@@ -1,9 +1,8 @@
 -- `horizon::kernel::horizon`, from the last node to the first: no node seen so far is reached. Assumes nothing.
-use Rattle.std.proofs.Common.{◌≡◌, ◌-◌, ◌≤◌, length, drop, rules}
+use Rattle.std.proofs.Common.{◌≡◌, ◌≤◌, length, drop}
 use mathlib.Core.Option.{none}
 use Rattle.finality.specs.Sheet.{largest, reached_by}
 use Rattle.horizon.specs.Horizon.{ends_of}
-use Rattle.horizon.proofs.FromTheBack.{no_nodes, node_passes, node_fails, none_passes}
 use Rattle.horizon.proofs.kernel.horizon.Given as goal
 
 abbrev pub invariant-loop-i : goal.invariant-loop-i

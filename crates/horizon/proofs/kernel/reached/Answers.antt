@@ -1,5 +1,4 @@
 -- `horizon::kernel::reached`: whether all six lists reach far enough beyond z, from what each call ensures, by rewriting. Assumes nothing.
-use Rattle.std.proofs.Common.{rules}
 use Rattle.horizon.proofs.kernel.reached.Goals as goal
 
 pub returns : goal.returns

@@ -1,4 +1,3 @@
-use Rattle.std.proofs.Common.{rules}
 use Rattle.horizon.proofs.FromTheBack.{reaches_none, reaches_last}
 use lib.Ieee.{Float, nan}
 use Rattle.horizon.proofs.kernel.reaches.Goals as goal

@@ -1,5 +1,5 @@
 -- `horizon::kernel::reaches_key`: a list reaches a time where its last key does; an empty one reaches none. Assumes nothing.
-use Rattle.std.proofs.Common.{◌-◌, length, get_or, pos, w64, rules}
+use Rattle.std.proofs.Common.{◌-◌, length, get_or, pos, w64}
 use mir.ValLaws.{to_z-of_z}
 use Rattle.laws.specs.Times.{second_time}
 use Rattle.horizon.proofs.FromTheBack.{reaches_none, reaches_last}

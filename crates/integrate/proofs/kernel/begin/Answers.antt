@@ -4,4 +4,4 @@ use Rattle.std.proofs.Common.{rules}
 use Rattle.integrate.proofs.kernel.begin.Goals as goal
 
 pub returns-in-J2 : goal.returns-in-J2
-returns-in-J2 c = let s = c.args in begun_j2 s.force _ s.w.now s.w.now _ c.enum_told-in-J2-1.given.1
+returns-in-J2 c = let s = c.args in begun_j2 s.force _ s.w.now s.w.now _ c.in-J2.is

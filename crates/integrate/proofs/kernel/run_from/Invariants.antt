@@ -11,9 +11,9 @@ use Rattle.integrate.proofs.kernel.run_from.Given as goal
 
 abbrev pub invariant-loop-k : goal.invariant-loop-k
 invariant-loop-k l =
-    (l.k ≤ l.arc.steps) × (l.state ≡ state_at (acceleration_of (attraction_of l.force (model_of l.degree l.model)) l.arc l.e) l.arc.t0 l.initial.known l.k)
-    × Orbit l.w l.base (state_at (acceleration_of (attraction_of l.force (model_of l.degree l.model)) l.arc l.e) l.arc.t0 l.initial.known) (l.k + 1)
-    × ReadyFor l.force (model_of l.degree l.model) l.w l.known × Only 0 (l.base + run_size) l.k-end l.w
+    (l.k ≤ l.arc.steps) × (l.state ≡ state_at (acceleration_of (attraction_of l.force (model_of l.degree l.model)) l.arc l.e) l.arc.t0 l.initial.state l.k)
+    × Orbit l.w l.base (state_at (acceleration_of (attraction_of l.force (model_of l.degree l.model)) l.arc l.e) l.arc.t0 l.initial.state) (l.k + 1)
+    × ReadyFor l.force (model_of l.degree l.model) l.w l.known × Only 0 (l.base + run_size) l.initial.w l.w
 
 abbrev pub decreases-loop-k : goal.decreases-loop-k
 decreases-loop-k l = l.arc.steps - l.k

@@ -12,7 +12,7 @@ pub float_to_bits-result-then-b : goal.float_to_bits-result-then-b
 float_to_bits-result-then-b c = eq_no_nan _ c.if-b.true
 
 pub returns-then-b : goal.returns-then-b
-returns-then-b c = λ h. value_of_bits _ _ (subst T (sym c.well-formed.0.1) tt) (subst T (sym c.well-formed.1.0.1) tt) (eqb-true _ _ h)
+returns-then-b c = λ h. value_of_bits _ _ (subst T (sym c.well_formed.0.1) tt) (subst T (sym c.well_formed.1.0.1) tt) (eqb-true _ _ h)
 
 pub returns-else-b : goal.returns-else-b
 returns-else-b c = λ h. absurd (false≢true h)

@@ -16,11 +16,10 @@ acceleration-p3-requires c =
     (c.requires.0, omega (arith, c.acceleration-p2.ensures.only.long, c.acceleration-p1.ensures.only.long, c.requires.1))
 
 pub acceleration-p4-requires : goal.acceleration-p4-requires
-acceleration-p4-requires c =
-(
-      c.requires.0,
-      omega (arith, c.acceleration-p3.ensures.only.long, c.acceleration-p2.ensures.only.long, c.acceleration-p1.ensures.only.long, c.requires.1),
-    )
+acceleration-p4-requires c = (
+  c.requires.0,
+  omega (arith, c.acceleration-p3.ensures.only.long, c.acceleration-p2.ensures.only.long, c.acceleration-p1.ensures.only.long, c.requires.1),
+)
 
 pub shape_of-w : goal.shape_of-w
 shape_of-w c =

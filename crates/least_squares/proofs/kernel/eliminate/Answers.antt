@@ -1,11 +1,11 @@
 -- `least_squares::kernel::eliminate`: after i rows the array holds the matrix with column c eliminated from these rows. Assumes nothing.
 use mathlib.Core.Path.{◌≡◌, ◌∙◌}
-use mathlib.Core.Logic.{⊎_elim}
 use Prim.Native.Nat.{◌+◌, ◌-◌, ◌≤◌}
 use native.Mathlib.Omega.{arith}
 use Rattle.least_squares.proofs.MatrixLoops.{Holds, as_it_is, whole, flat_holds, holds_same, eliminated_none, eliminated_skip, eliminated_more}
 use Rattle.least_squares.specs.Flat.{eliminated_to, reduced_to, view}
 use Rattle.least_squares.proofs.kernel.eliminate.Goals as goal
+use Rattle.least_squares.proofs.kernel.eliminate.Goals.{then-i-c, else-i-c}
 
 pub loop-i-init : goal.loop-i-init
 loop-i-init c =
@@ -21,15 +21,15 @@ loop-i-preserved c =
     let loop = c.loop-i in
     let m = view s.a.now in
     let h = loop.invariant.1 in
-    ⊎_elim
-    (λ w. (
-      omega arith,
-      rw (w.3 ∙ w.2.ensures)
-          (holds_same _ _ _ (flat_holds (reduced_to s.c loop.i (s.p + 1) (view loop.a)))
-          (λ i j a b. eliminated_more s.c loop.i (s.p + 1) m (view loop.a) w.0.taken (omega arith) (omega arith) h.at i j a b)),
-    ))
-    (λ w. (omega arith, rw w.1 (holds_same _ _ _ h (λ i j a b. eliminated_skip s.c loop.i (s.p + 1) m w.0.left i j))))
-    c.if-i-c.branch
+    elim c.if-i-c.branch [
+      | then-i-c w ↦ (
+        omega arith,
+        rw (w.a-is ∙ w.reduce_row.ensures)
+            (holds_same _ _ _ (flat_holds (reduced_to s.c loop.i (s.p + 1) (view loop.a)))
+            (λ i j a b. eliminated_more s.c loop.i (s.p + 1) m (view loop.a) w.if-i-c.true (omega arith) (omega arith) h.at i j a b)),
+      )
+      | else-i-c w ↦ (omega arith, rw w.a-is (holds_same _ _ _ h (λ i j a b. eliminated_skip s.c loop.i (s.p + 1) m w.if-i-c.false i j)))
+    ]
 
 pub returns : goal.returns
 returns c =

@@ -9,7 +9,7 @@ use Rattle.least_squares.proofs.kernel.eliminate.Given as goal
 
 abbrev pub invariant-loop-i : goal.invariant-loop-i
 invariant-loop-i l =
-    (l.i ≤ l.c) × Holds l.a (eliminated_to l.initial.a l.i (l.c + 1) (view l.p))
+    (l.i ≤ l.p) × Holds l.a (eliminated_to l.c l.i (l.p + 1) (view l.initial.a))
 
 abbrev pub decreases-loop-i : goal.decreases-loop-i
-decreases-loop-i l = l.c - l.i
+decreases-loop-i l = l.p - l.i

@@ -11,17 +11,16 @@ use Rattle.least_squares.proofs.kernel.entry.Goals as goal
 
 pub loop-r-init : goal.loop-r-init
 unfolding sum_to
-loop-r-init c = (omega arith, refl, refl)
+loop-r-init c = (omega arith, refl)
 
 pub loop-r-preserved : goal.loop-r-preserved
 loop-r-preserved c = (
   omega arith,
-  refl,
-  sum_more _ _ _ _ c.loop-r.invariant.2 (simp (c.value.ensures, c.value-in-loop-r.ensures)),
+  sum_more _ _ _ _ c.loop-r.invariant.1 (simp (c.value.ensures, c.value-in-loop-r.ensures)),
 )
 
 pub returns : goal.returns
 unfolding normal_at
 returns c =
     let end : c.loop-r.r ≡ length c.args.y.now = omega arith in
-    rw end at c.loop-r.invariant.2
+    rw end at c.loop-r.invariant.1

@@ -11,7 +11,7 @@ use Rattle.least_squares.proofs.kernel.entry.Given as goal
 
 abbrev pub invariant-loop-r : goal.invariant-loop-r
 invariant-loop-r l =
-    (l.r ≤ l.initial.r) × (l.initial.r ≡ length l.y) × (l.s ≡ sum_to (λ (t : ℕ). value_at l.rows l.y l.p t l.i ⊗ value_at l.rows l.y l.p t l.j) l.r)
+    (l.r ≤ length l.y) × (l.s ≡ sum_to (λ (t : ℕ). value_at l.rows l.y l.p t l.i ⊗ value_at l.rows l.y l.p t l.j) l.r)
 
 abbrev pub decreases-loop-r : goal.decreases-loop-r
-decreases-loop-r l = l.initial.r - l.r
+decreases-loop-r l = length l.y - l.r

@@ -12,14 +12,14 @@ use Rattle.least_squares.proofs.kernel.normal.Given as goal
 
 abbrev pub invariant-loop-j : goal.invariant-loop-j
 invariant-loop-j l =
-    (l.j ≤ l.i) × ((x : Matrix) → Holds l.w (filled l.initial.a l.i 0 (normal_at l.rows l.y l.p) x) → Holds l.a (filled l.initial.a l.i l.j (normal_at l.rows l.y l.p) x))
+    (l.j ≤ l.w) × ((x : Matrix) → Holds l.initial.a (filled l.i l.w 0 (normal_at l.rows l.y l.p) x) → Holds l.a (filled l.i l.w l.j (normal_at l.rows l.y l.p) x))
 
 abbrev pub decreases-loop-j : goal.decreases-loop-j
-decreases-loop-j l = l.i - l.j
+decreases-loop-j l = l.w - l.j
 
 abbrev pub invariant-loop-i : goal.invariant-loop-i
 invariant-loop-i l =
-    (l.i ≤ l.p) × (l.initial.a ≡ l.p + 1) × Holds l.a (filled l.i l.initial.a 0 (normal_at l.rows l.y l.p) (view l.w))
+    (l.i ≤ l.p) × (l.w ≡ l.p + 1) × Holds l.a (filled l.i l.w 0 (normal_at l.rows l.y l.p) (view l.initial.a))
 
 abbrev pub decreases-loop-i : goal.decreases-loop-i
 decreases-loop-i l = l.p - l.i

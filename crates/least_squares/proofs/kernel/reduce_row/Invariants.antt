@@ -9,7 +9,7 @@ use Rattle.least_squares.proofs.kernel.reduce_row.Given as goal
 
 abbrev pub invariant-loop-k : goal.invariant-loop-k
 invariant-loop-k l =
-    (l.k ≤ l.initial.a) × (l.initial.a ≡ l.c + 1) × Holds l.a (reduced_to l.i l.f l.k (view l.p))
+    (l.k ≤ l.w) × (l.w ≡ l.p + 1) × Holds l.a (reduced_to l.c l.i l.k (view l.initial.a))
 
 abbrev pub decreases-loop-k : goal.decreases-loop-k
-decreases-loop-k l = l.initial.a - l.k
+decreases-loop-k l = l.w - l.k

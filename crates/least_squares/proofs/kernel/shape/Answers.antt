@@ -12,7 +12,7 @@ returns-then-p-gt15 c = simp (lt-ltb _ _ c.if-p-gt15.true)
 
 -- a slice of f64 has fewer than 2 ^ 60 places
 pub overflow_mul-y : goal.overflow_mul-y
-overflow_mul-y c = omega (arith, mul-le-mul (le_refl (length c.args.y.now)) c.if-p-gt15.false, c.well-formed.1.0.1)
+overflow_mul-y c = omega (arith, mul-le-mul (le_refl (length c.args.y.now)) c.if-p-gt15.false)
 
 pub returns-then-rows-y : goal.returns-then-rows-y
 unfolding shape_fits

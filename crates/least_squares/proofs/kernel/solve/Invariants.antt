@@ -11,7 +11,7 @@ use Rattle.least_squares.proofs.kernel.solve.Given as goal
 
 abbrev pub invariant-loop-c : goal.invariant-loop-c
 invariant-loop-c l =
-    (l.c ≤ l.initial.a) × (fine_in l.initial.a l.p l.c ≡ true) × (l.a ≡ stage_in l.initial.a l.p l.c) × (length l.a ≡ 240)
+    (l.c ≤ l.p) × (fine_in l.p l.initial.a l.c ≡ true) × (l.a ≡ stage_in l.p l.initial.a l.c) × (length l.a ≡ 240)
 
 abbrev pub decreases-loop-c : goal.decreases-loop-c
-decreases-loop-c l = l.initial.a - l.c
+decreases-loop-c l = l.p - l.c

@@ -29,8 +29,8 @@ loop-n-preserved c =
     let r = c.blend_row in (
       omega arith,
       omega (arith, tri_next l.n),
-      r.auto.1.1.1.1.1.1.1.0 ∙ l.invariant.2,
-      rows_turn (blended a.start a.w a.field.now a.a.now a.b.now) l.out r.new.1.1.1.1.1.1.1.0 l.k l.n l.invariant.3 r.ensures,
+      r.auto.out ∙ l.invariant.2,
+      rows_turn (blended a.start a.w a.field.now a.a.now a.b.now) l.out r.new.out l.k l.n l.invariant.3 r.ensures,
     )
 
 pub returns : goal.returns

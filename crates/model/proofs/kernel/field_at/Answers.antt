@@ -6,13 +6,12 @@ use borrow.Author.Rules.{rules}
 use Rattle.model.proofs.kernel.field_at.Goals as goal
 
 pub blend_both-requires : goal.blend_both-requires
-blend_both-requires c =
-(
-      c.requires.degree,
-      c.requires.static,
-      bracket_fields (lent_list c.args.t2 3) c.args.t c.bracket-j.result _ _ c.bracket-j.ensures c.requires.count c.requires.fields,
-      c.requires.room,
-    )
+blend_both-requires c = (
+  c.requires.degree,
+  c.requires.static,
+  bracket_fields (lent_list c.args.model 3) c.args.t c.bracket-j.result _ _ c.bracket-j.ensures c.requires.count c.requires.fields,
+  c.requires.room,
+)
 
 pub returns : goal.returns
 returns c = search (rules, field_is)

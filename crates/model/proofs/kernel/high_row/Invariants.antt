@@ -10,7 +10,7 @@ use borrow.Author.Rules.{rules}
 use Rattle.model.proofs.kernel.high_row.Given as goal
 
 abbrev pub invariant-loop-m : goal.invariant-loop-m
-invariant-loop-m l = (l.m ≤ l.initial.out) × (length l.out ≡ length l.fa) × (take (l.k + l.m) l.out ≡ take l.k l.fa ++ row (high_at l.start l.k l.w l.field l.a l.b l.fb l.end) l.m)
+invariant-loop-m l = (l.m ≤ l.end) × (length l.out ≡ length l.initial.out) × (take (l.k + l.m) l.out ≡ take l.k l.initial.out ++ row (high_at l.start l.k l.w l.field l.a l.b l.fa l.fb) l.m)
 
 abbrev pub decreases-loop-m : goal.decreases-loop-m
-decreases-loop-m l = l.initial.out - l.m
+decreases-loop-m l = l.end - l.m

@@ -10,7 +10,7 @@ use borrow.Author.Rules.{rules}
 use Rattle.model.proofs.kernel.low_row.Given as goal
 
 abbrev pub invariant-loop-m : goal.invariant-loop-m
-invariant-loop-m l = (l.m ≤ l.initial.out) × (length l.out ≡ length l.end) × (take (l.k + l.m) l.out ≡ take l.k l.end ++ row (low_at l.start l.k l.w l.field) l.m)
+invariant-loop-m l = (l.m ≤ l.end) × (length l.out ≡ length l.initial.out) × (take (l.k + l.m) l.out ≡ take l.k l.initial.out ++ row (low_at l.start l.k l.w l.field) l.m)
 
 abbrev pub decreases-loop-m : goal.decreases-loop-m
-decreases-loop-m l = l.initial.out - l.m
+decreases-loop-m l = l.end - l.m

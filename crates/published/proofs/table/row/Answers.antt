@@ -3,4 +3,4 @@ use Rattle.std.proofs.Common.{rules}
 use Rattle.published.proofs.table.row.Goals as goal
 
 pub returns : goal.returns
-returns c = simp (c.count.ensures, c.is_Within.ensures)
+returns c = simp (c.count.ensures, c.is_within-within.ensures)

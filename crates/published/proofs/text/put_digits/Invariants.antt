@@ -3,7 +3,7 @@ use Rattle.std.proofs.Common.{◌≡◌, ◌≤◌, length, rules}
 use Rattle.published.proofs.text.put_digits.Given as goal
 
 abbrev pub invariant-loop-at : goal.invariant-loop-at
-invariant-loop-at l = (length l.line ≡ length l.end) × (l.at ≤ l.places) × (l.places ≤ length l.end) × (l.initial.line ≤ 4294967295)
+invariant-loop-at l = (length l.line ≡ length l.initial.line) × (l.at ≤ l.end) × (l.end ≤ length l.initial.line) × (l.places ≤ 4294967295)
 
 abbrev pub decreases-loop-at : goal.decreases-loop-at
 decreases-loop-at l = l.at

@@ -3,7 +3,7 @@ use Rattle.std.proofs.Common.{◌≡◌, ◌+◌, ◌-◌, ◌≤◌, length, ru
 use Rattle.published.proofs.text.put_text.Given as goal
 
 abbrev pub invariant-loop-k : goal.invariant-loop-k
-invariant-loop-k l = (length l.line ≡ length l.at) × (l.room + l.initial.line ≤ length l.at) × (l.k ≤ length l.text)
+invariant-loop-k l = (length l.line ≡ length l.initial.line) × (l.at + l.room ≤ length l.initial.line) × (l.k ≤ length l.text)
 
 abbrev pub decreases-loop-k : goal.decreases-loop-k
 decreases-loop-k l = length l.text - l.k

@@ -5,4 +5,4 @@ use Rattle.published.proofs.text.whole.Goals as goal
 
 pub truncating_f64_to_u64-requires : goal.truncating_f64_to_u64-requires
 unfolding of_bits neg
-truncating_f64_to_u64-requires c = (subst T (sym c.if-y.true) tt, subst T (sym c.if-y-2.true) tt)
+truncating_f64_to_u64-requires c = record { lower_bound = subst T (sym c.if-y.true) tt; upper_bound = subst T (sym c.if-y-2.true) tt }

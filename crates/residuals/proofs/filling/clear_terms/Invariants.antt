@@ -9,7 +9,7 @@ use borrow.Author.Rules.{rules}
 use Rattle.residuals.proofs.filling.clear_terms.Given as goal
 
 abbrev pub invariant-loop-i : goal.invariant-loop-i
-invariant-loop-i l = (length l.list ≡ length l.nothing) × (take l.i l.list ++ replicate (length l.nothing - l.i) l.initial.list ≡ replicate (length l.nothing) l.initial.list)
+invariant-loop-i l = (length l.list ≡ length l.initial.list) × (take l.i l.list ++ replicate (length l.initial.list - l.i) l.nothing ≡ replicate (length l.initial.list) l.nothing)
 
 abbrev pub decreases-loop-i : goal.decreases-loop-i
-decreases-loop-i l = length l.nothing - l.i
+decreases-loop-i l = length l.initial.list - l.i

@@ -28,26 +28,17 @@ turn-filled-requires c =
     let p = c.requires in
     (p.0, p.1, p.2, p.3, p.4, c.loop-i-test.true, p.5, p.6, c.loop-i.invariant.7)
 
-pub overflow_add-i : goal.overflow_add-i
-overflow_add-i c =
-    omega (arith, c.loop-i-test.true, c.well-formed.1.1.1.1.1.1.0.0)
-
-pub loop-i-smaller : goal.loop-i-smaller
-loop-i-smaller c =
-    omega (arith, c.loop-i-test.true)
-
 pub loop-i-preserved : goal.loop-i-preserved
-loop-i-preserved c =
-(
-      omega (arith, c.loop-i-test.true),
-      (c.turn-filled.auto.1.1.1.1.1.1.1.1.1.1.1.1.0 ∙ c.loop-i.invariant.1),
-      (c.turn-filled.auto.1.1.1.1.1.1.1.1.1.1.1.1.1.0 ∙ c.loop-i.invariant.2),
-      (c.turn-filled.auto.1.1.1.1.1.1.1.1.1.1.1.1.1.1.0 ∙ c.loop-i.invariant.3),
-      (c.turn-filled.auto.1.1.1.1.1.1.1.1.1.1.1.1.1.1.1.0 ∙ c.loop-i.invariant.4),
-      (c.turn-filled.auto.1.1.1.1.1.1.1.1.1.1.1.1.1.1.1.1.0 ∙ c.loop-i.invariant.5),
-      (c.turn-filled.auto.1.1.1.1.1.1.1.1.1.1.1.1.1.1.1.1.1.0 ∙ c.loop-i.invariant.6),
-      c.turn-filled.ensures,
-    )
+loop-i-preserved c = (
+  omega (arith, c.loop-i-test.true),
+  (c.turn-filled.auto.outtimes ∙ c.loop-i.invariant.1),
+  (c.turn-filled.auto.outresiduals ∙ c.loop-i.invariant.2),
+  (c.turn-filled.auto.outterms ∙ c.loop-i.invariant.3),
+  (c.turn-filled.auto.outmids ∙ c.loop-i.invariant.4),
+  (c.turn-filled.auto.outvels ∙ c.loop-i.invariant.5),
+  (c.turn-filled.auto.w ∙ c.loop-i.invariant.6),
+  c.turn-filled.ensures,
+)
 
 pub shape_of-outtimes : goal.shape_of-outtimes
 shape_of-outtimes c =

@@ -1,6 +1,5 @@
 use mathlib.Core.Path.{refl}
 use Rattle.sun_moon.specs.SunMoon.{angle}
-use borrow.Author.Rules.{rules}
 use Rattle.sun_moon.proofs.kernel.angle.Goals as goal
 
 pub returns : goal.returns

@@ -1,7 +1,6 @@
 use Rattle.laws.specs.WholeNumbers.{number}
 use lib.Ieee.{of_bits, of_int, neg}
 use Rattle.sun_moon.specs.SunMoon.{distance, distance_terms}
-use borrow.Author.Rules.{rules}
 use Rattle.sun_moon.proofs.kernel.distance.Goals as goal
 
 pub returns : goal.returns

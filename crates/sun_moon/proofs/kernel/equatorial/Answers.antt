@@ -2,7 +2,6 @@ use Rattle.laws.specs.WholeNumbers.{number}
 use Rattle.numbers.specs.Numbers.{sine_cosine}
 use lib.Ieee.{of_bits, of_int, round}
 use Rattle.sun_moon.specs.SunMoon.{equatorial}
-use borrow.Author.Rules.{rules}
 use Rattle.sun_moon.proofs.kernel.equatorial.Goals as goal
 
 pub returns : goal.returns

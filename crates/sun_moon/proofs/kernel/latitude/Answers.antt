@@ -1,7 +1,6 @@
 use Rattle.laws.specs.WholeNumbers.{number}
 use lib.Ieee.{of_bits, of_int, neg}
 use Rattle.sun_moon.specs.SunMoon.{latitude, latitude_terms}
-use borrow.Author.Rules.{rules}
 use Rattle.sun_moon.proofs.kernel.latitude.Goals as goal
 
 pub returns : goal.returns

@@ -1,7 +1,6 @@
 use Rattle.laws.specs.WholeNumbers.{number}
 use lib.Ieee.{of_bits, of_int, neg}
 use Rattle.sun_moon.specs.SunMoon.{longitude, longitude_terms}
-use borrow.Author.Rules.{rules}
 use Rattle.sun_moon.proofs.kernel.longitude.Goals as goal
 
 pub returns : goal.returns

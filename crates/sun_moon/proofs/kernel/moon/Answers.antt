@@ -1,5 +1,4 @@
 use Rattle.sun_moon.specs.SunMoon.{moon}
-use borrow.Author.Rules.{rules}
 use Rattle.sun_moon.proofs.kernel.moon.Goals as goal
 
 pub returns : goal.returns

@@ -1,9 +1,8 @@
 -- `sun_moon::kernel::sine_terms`: the sum so far, with the terms left added to it, is the sum over all terms. Assumes nothing.
-use mathlib.Core.Path.{◌≡◌, refl}
-use Prim.Native.Nat.{◌<◌, ◌≤◌, ◌-◌}
-use lib.ListN.{length, drop}
+use mathlib.Core.Path.{refl}
+use Prim.Native.Nat.{◌<◌, ◌≤◌}
+use lib.ListN.{length}
 use borrow.Author.Rules.{rules}
-use Rattle.sun_moon.specs.SunMoon.{sine_terms}
 use Rattle.sun_moon.proofs.Series.{sine_step, sine_end}
 use Rattle.sun_moon.proofs.kernel.sine_terms.Goals as goal
 

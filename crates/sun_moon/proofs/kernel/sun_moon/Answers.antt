@@ -1,5 +1,4 @@
 use Rattle.sun_moon.specs.SunMoon.{sun_moon}
-use borrow.Author.Rules.{rules}
 use Rattle.sun_moon.proofs.kernel.sun_moon.Goals as goal
 
 pub returns : goal.returns

@@ -6,7 +6,8 @@ use Rattle.windows.proofs.CutNumbers.{above_cut, below_cut, cut_bound, ceil_next
 use Rattle.windows.proofs.kernel.ceil.Goals as goal
 
 pub truncating_f64_to_u64-n-requires : goal.truncating_f64_to_u64-n-requires
-truncating_f64_to_u64-n-requires c = (above_cut c.args.x c.requires.0, below_cut c.args.x c.requires.1)
+truncating_f64_to_u64-n-requires c =
+    record { lower_bound = above_cut c.args.x c.requires.0; upper_bound = below_cut c.args.x c.requires.1 }
 
 pub overflow_add-result : goal.overflow_add-result
 overflow_add-result c =

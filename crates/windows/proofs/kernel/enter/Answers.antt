@@ -13,5 +13,5 @@ pub returns : goal.returns
 returns c =
     let a = c.args in
     entered a.s.now _ a.at (whole_second a.t) a.state (omega arith)
-    (subst (λ (x : Float). Stored (set a.s.now a.at x) c.put_state.new.0 (a.at + 1) a.state) c.second_of.ensures
+    (subst (λ (x : Float). Stored (set a.s.now a.at x) c.put_state.new.w (a.at + 1) a.state) c.second_of.ensures
     c.put_state.ensures)

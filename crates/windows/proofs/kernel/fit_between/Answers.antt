@@ -43,7 +43,7 @@ returns-in-Fitted c =
     (length a.states.now) a.s.now _ a.base _ _ c.start-t0.ensures c.steps-n.ensures.0 pre.0 c.steps-n.ensures.1 pre.3 pre.1
     (omega (arith, pre.6, pre.7)) pre.2 c.fit_arc-fitted.ensures in
     fitted_leaves (covers (lent_list a.model 3)) (full_force (model_of a.degree a.model)) (state_for a.keys.now a.states.now) a.from a.to pre.4 pre.5 a.s.now _ _ a.base
-    a.at _ _ _ _ _ c.enum_told-1.given.1 c.start-t0.ensures c.steps-n.ensures.0 (omega (arith, pre.6)) fit c.keep.ensures
+    a.at _ _ _ _ _ c.in-Fitted.is c.start-t0.ensures c.steps-n.ensures.0 (omega (arith, pre.6)) fit c.keep.ensures
 
 pub shape_of-s-in-Refused : goal.shape_of-s-in-Refused
 shape_of-s-in-Refused c =
@@ -62,4 +62,4 @@ returns-in-Refused c =
     (length a.states.now) a.s.now _ a.base _ _ c.start-t0.ensures c.steps-n.ensures.0 pre.0 c.steps-n.ensures.1 pre.3 pre.1
     (omega (arith, pre.6, pre.7)) pre.2 c.fit_arc-fitted.ensures in
     refused_leaves (covers (lent_list a.model 3)) (full_force (model_of a.degree a.model)) (state_for a.keys.now a.states.now) a.from a.to pre.4 pre.5 a.s.now _ a.base
-    a.at _ _ c.enum_told-in-Refused-1.given.1 (omega (arith, pre.6)) fit
+    a.at _ _ c.in-Refused.is (omega (arith, pre.6)) fit

@@ -10,7 +10,7 @@ use Rattle.windows.proofs.kernel.fit_each.Given as goal
 
 abbrev pub invariant-loop-w : goal.invariant-loop-w
 invariant-loop-w l = (l.w ≤ length l.nodes - 1)
-    × Filled (window_by (covers (lent_list l.model 3)) (full_force (model_of l.degree l.model)) (state_for l.keys l.states)) l.nodes l.w l.base l.s l.first l.initial.s
+    × Filled (window_by (covers (lent_list l.model 3)) (full_force (model_of l.degree l.model)) (state_for l.keys l.states)) l.nodes l.w l.initial.s l.s l.base l.first
 
 abbrev pub decreases-loop-w : goal.decreases-loop-w
 decreases-loop-w l = length l.nodes - l.w

@@ -22,7 +22,7 @@ returns-then-x-2 c =
 pub truncating_f64_to_u64-requires : goal.truncating_f64_to_u64-requires
 truncating_f64_to_u64-requires c =
     let x = c.args.x in
-    (above_cut x (not_below x c.requires.1 (subst (λ (b : Bool). T (not b)) (sym c.if-x-2.false) tt)), below_cut x c.requires.1)
+    record { lower_bound = above_cut x (not_below x c.requires.1 (subst (λ (b : Bool). T (not b)) (sym c.if-x-2.false) tt)); upper_bound = below_cut x c.requires.1 }
 
 pub returns : goal.returns
 unfolding number

@@ -1,9 +1,0 @@
--- `published::sky::sun_distance`, by whether the places were found. Assumes nothing.
-use Rattle.std.proofs.Common.{rules}
-use Rattle.published.proofs.sky.sun_distance.Goals as goal
-
-pub returns-in-Found : goal.returns-in-Found
-returns-in-Found c = simp (c.norm.ensures, c.places-1.given.1)
-
-pub returns-in-Refused : goal.returns-in-Refused
-returns-in-Refused c = simp c.places-in-Refused-1.given.1
