@@ -5,96 +5,79 @@ use mathlib.Core.List.{List, [], ◌∷◌, ◌++◌, append_assoc, append-nil}
 use Prim.Native.Nat.{ℕ, zero, suc, ◌+◌, ◌-◌, ◌*◌, ◌/◌, ◌<◌, ◌≤◌}
 use native.Mathlib.Omega.{arith}
 use borrow.Author.Tests.{not-true, not-false, lt-ltb, le-ltb, ltb-false, le-leb}
-use lib.Dec.{ltb, eqb}
-use lib.ListN.{length, take, drop, get_or, set, length-append, drop_of_length-le, get_or-eq_default}
-use lib.Ieee.{Float, nan, binary64, of_bits, to_bits}
+use lib.Dec.{ltb}
+use lib.ListN.{length, take, drop, get_or, set, length-append, drop_of_length-le}
+use lib.Ieee.{Float, nan, binary64, to_bits}
 use Rattle.laws.specs.Loops.{head_at, fill_turn, fill_done, take_set}
-use Rattle.hexadecimal.specs.Digits.{word_at, digits_of, written, decimal_of, is_word, bits_of, float_at}
-use Rattle.hexadecimal.specs.declared.Parsed.{Parsed}
-use Rattle.hexadecimal.specs.declared.Parsed.TheVariants.{Value, Malformed}
+use Rattle.hexadecimal.specs.Digits.{digits_of, written, decimal_of, float_at}
+use Rattle.std.specs.Prelude.{Result, Ok, Err}
 use Rattle.hexadecimal.proofs.Printing.{then, written_prints}
 use Rattle.hexadecimal.proofs.DigitLoops.{digits_length}
 use Rattle.hexadecimal.specs.Printing.{line_feed, refused_text, Printed}
 use lib.Ieee.Scale.{finite}
 use borrow.Author.Tests.{eq-eqb}
 use borrow.Rule.Slice.PartMut.{mid_of, mid_len}
-use Rattle.laws.specs.Checks.{all, is_time, rising}
+use Rattle.std.specs.List.{list_all}
+use Rattle.laws.specs.Checks.{is_time, rising}
 use Rattle.laws.specs.Loops.{cleared}
 use Rattle.laws.specs.Runs.{runs_of}
 use Rattle.slices.specs.Calls.{left, left_clear, handed, settled}
-use Rattle.slices.specs.declared.Outcome.{Outcome}
-use Rattle.slices.specs.declared.Outcome.TheVariants.{Accepted, Refused}
+use Rattle.slices.specs.Calls.{Verdict, accepted}
+use Rattle.slices.specs.Answers.{number_of}
+use Rattle.slices.specs.declared.refusal.Refusal.{Refusal}
+use Rattle.slices.specs.declared.refusal.Refusal.TheVariants.{Value, Order, NotFinite}
+use Rattle.band_pass_program.specs.declared.Fault.{Fault}
+use Rattle.band_pass_program.specs.declared.Fault.TheVariants.{Bounds, Format}
 use Rattle.filter.specs.Filter.{band_pass}
 use Rattle.filter.specs.Calls.{long_runs, band_refusal, band_pass_call}
-use Rattle.band_pass_program.specs.Text.{is_line, refusal_from, text_refusal, column, line_text, lines_text, summary_text, passed_text, unless_refused, numbers_refusal, numbers_text, answer}
-
--- ---- words
-
-pub float_value : (text : List ℕ) (at : ℕ) (w : Parsed) (n : ℕ) (r : Float) → w ≡ word_at text at → w ≡ Value n → r ≡ of_bits binary64 n → r ≡ float_at text at
-unfolding float_at
-float_value text at w n r e h er = er ∙ ap (λ (p : Parsed). of_bits binary64 (bits_of p)) (sym h ∙ e)
-
-pub float_none : (text : List ℕ) (at : ℕ) (w : Parsed) (r : Float) → w ≡ word_at text at → w ≡ Malformed → r ≡ of_bits binary64 0 → r ≡ float_at text at
-unfolding float_at
-float_none text at w r e h er = er ∙ ap (λ (p : Parsed). of_bits binary64 (bits_of p)) (sym h ∙ e)
-
--- ---- lines
-
-never : (a b : Bool) → false ≡ (a && (b && false))
-never true true = refl
-never true false = refl
-never false b = refl
-
-pub line_short : (text : List ℕ) (at : ℕ) → length text ≤ at + 32 → false ≡ is_line text at
-unfolding is_line
-line_short text at h = rw (get_or-eq_default text 0 {n = at + 32} h) (never (is_word (word_at text at)) (is_word (word_at text (at + 16))))
-
-pub line_tested : (text : List ℕ) (at : ℕ) (b1 b2 b3 r : Bool) → b1 ≡ is_word (word_at text at) → b2 ≡ is_word (word_at text (at + 16)) →
-    b3 ≡ (b2 && eqb (get_or text (at + 32) 0) 10) → r ≡ (b1 && b3) → r ≡ is_line text at
-unfolding is_line
-line_tested text at b1 b2 b3 r e1 e2 e3 er = er ∙ (λ i. e1 i && (e3 ∙ ap (λ (b : Bool). b && eqb (get_or text (at + 32) 0) 10) e2) i)
+use Rattle.band_pass_program.specs.Text.{is_line, refusal_from, text_refusal, column, line_text, lines_text, summary_text, passed_text, unless_refused, numbers_refusal, numbers_text, fault_number, answer}
 
 -- ---- the refusal of a text
 
-module _ (text : List ℕ) (at : ℕ) (goal : ℕ) where
-  pub scan_ends : (left : ℕ) → length text ≤ at → refusal_from left text at ≡ goal → 0 ≡ goal
+module _ (text : List ℕ) (line : ℕ) (goal : Result Unit Fault) where
+  pub scan_ends : (left : ℕ) → length text ≤ 33 * line → refusal_from left text (33 * line) ≡ goal → Ok tt ≡ goal
   unfolding refusal_from
-  scan_ends zero h inv = sym (rw (le-ltb at (length text) h)) ∙ inv
-  scan_ends (suc k) h inv = sym (rw (le-ltb at (length text) h)) ∙ inv
+  scan_ends zero h inv = sym (rw (le-ltb (33 * line) (length text) h)) ∙ inv
+  scan_ends (suc k) h inv = sym (rw (le-ltb (33 * line) (length text) h)) ∙ inv
 
-  pub scan_over : (left : ℕ) → left ≤ 0 → at < length text → refusal_from left text at ≡ goal → 2 ≡ goal
+  pub scan_over : (left : ℕ) → left ≤ 0 → 33 * line < length text → refusal_from left text (33 * line) ≡ goal → Err Bounds ≡ goal
   unfolding refusal_from
-  scan_over zero z h inv = sym (rw (lt-ltb at (length text) h)) ∙ inv
+  scan_over zero z h inv = sym (rw (lt-ltb (33 * line) (length text) h)) ∙ inv
   scan_over (suc k) z h inv = absurd (omega arith)
 
-  pub scan_bad : (left : ℕ) (b : Bool) → 0 < left → at < length text → b ≡ is_line text at → not b ≡ true → refusal_from left text at ≡ goal → 11 ≡ goal
+  pub scan_bad : (b : Bool) → line < 4096 → 33 * line < length text → b ≡ is_line text (33 * line) → not b ≡ true → refusal_from (4096 - line) text (33 * line) ≡ goal → Err Format ≡ goal
   unfolding refusal_from
-  scan_bad zero b z h e n inv = absurd (omega arith)
-  scan_bad (suc k) b z h e n inv = let f : is_line text at ≡ false = sym e ∙ not-true b n in sym (rw (lt-ltb at (length text) h, f)) ∙ inv
+  scan_bad b z h e n inv =
+      let f : is_line text (33 * line) ≡ false = sym e ∙ not-true b n in
+      let s : 4096 - line ≡ suc (4096 - (line + 1)) = omega arith in
+      let i : refusal_from (suc (4096 - (line + 1))) text (33 * line) ≡ goal = rw s at inv in
+      sym (rw (lt-ltb (33 * line) (length text) h, f)) ∙ i
 
-  pub scan_goes : (left : ℕ) (b : Bool) → 0 < left → at < length text → b ≡ is_line text at → not b ≡ false → refusal_from left text at ≡ goal → refusal_from (left - 1) text (at + 33) ≡ goal
+  pub scan_goes : (b : Bool) → line < 4096 → 33 * line < length text → b ≡ is_line text (33 * line) → not b ≡ false → refusal_from (4096 - line) text (33 * line) ≡ goal →
+      refusal_from (4096 - (line + 1)) text (33 * (line + 1)) ≡ goal
   unfolding refusal_from
-  scan_goes zero b z h e n inv = absurd (omega arith)
-  scan_goes (suc k) b z h e n inv =
-      let f : is_line text at ≡ true = sym e ∙ not-false b n in
-      let j : suc k - 1 ≡ k = omega arith in
-      rw j (sym (rw (lt-ltb at (length text) h, f)) ∙ inv)
+  scan_goes b z h e n inv =
+      let f : is_line text (33 * line) ≡ true = sym e ∙ not-false b n in
+      let s : 4096 - line ≡ suc (4096 - (line + 1)) = omega arith in
+      let p : 33 * (line + 1) ≡ 33 * line + 33 = omega arith in
+      let i : refusal_from (suc (4096 - (line + 1))) text (33 * line) ≡ goal = rw s at inv in
+      rw p (sym (rw (lt-ltb (33 * line) (length text) h, f)) ∙ i)
 
-over_zero : (b : Bool) (n at x : ℕ) → ltb at n ≡ b → cond b (suc x) 0 ≡ 0 → n ≤ at
-over_zero true n at x e h = absurd (omega arith)
-over_zero false n at x e h = ltb-false at n e
+over_none : (b : Bool) (n at : ℕ) (f : Fault) (goal : Result Unit Fault) → ltb at n ≡ b → cond b (Err f) goal ≡ goal → goal ≡ Ok tt → n ≤ at
+over_none true n at f goal e h g = cc
+over_none false n at f goal e h g = ltb-false at n e
 
-line_zero : (b c : Bool) (n at m r : ℕ) → ltb at n ≡ b → cond b (cond c r 11) 0 ≡ 0 → (r ≡ 0 → n ≤ m) → at ≤ m → n ≤ m
-line_zero true true n at m r e h f g = f h
-line_zero true false n at m r e h f g = absurd (omega arith)
-line_zero false c n at m r e h f g = let k : n ≤ at = ltb-false at n e in omega arith
+line_none : (b c : Bool) (n at m : ℕ) (r goal : Result Unit Fault) → ltb at n ≡ b → cond b (cond c r (Err Format)) goal ≡ goal → goal ≡ Ok tt → (r ≡ goal → n ≤ m) → at ≤ m → n ≤ m
+line_none true true n at m r goal e h k f g = f h
+line_none true false n at m r goal e h k f g = cc
+line_none false c n at m r goal e h k' f g = let k : n ≤ at = ltb-false at n e in omega arith
 
 -- a text of lines has 33 bytes a line
-pub refusal_length : (k : ℕ) (text : List ℕ) (at : ℕ) → refusal_from k text at ≡ 0 → length text ≤ at + 33 * k
+pub refusal_length : (k : ℕ) (text : List ℕ) (at : ℕ) → refusal_from k text at ≡ Ok tt → length text ≤ at + 33 * k
 unfolding refusal_from
-refusal_length zero text at h = let k : length text ≤ at = over_zero (ltb at (length text)) (length text) at 1 refl h in omega arith
+refusal_length zero text at h = let k : length text ≤ at = over_none (ltb at (length text)) (length text) at Bounds (Ok tt) refl h refl in omega arith
 refusal_length (suc k) text at h =
-    line_zero (ltb at (length text)) (is_line text at) (length text) at (at + 33 * suc k) (refusal_from k text (at + 33)) refl h
+    line_none (ltb at (length text)) (is_line text at) (length text) at (at + 33 * suc k) (refusal_from k text (at + 33)) (Ok tt) refl h refl
     (λ z. omega (arith, refusal_length k text (at + 33) z)) (omega arith)
 
 -- ---- columns
@@ -189,31 +172,29 @@ passed_prints ts ys m n o o1 o2 r p em en q =
 
 -- ---- the numbers
 
--- what is printed after an outcome
-abbrev outcome_text : Outcome → List ℕ → List ℕ
-outcome_text Accepted text = text
-outcome_text (Refused n) text = refused_text n
-
 abbrev head : List (List Float) → List Float
 head [] = []
 head (x ∷ xs) = x
 
-told : (b1 b2 b3 b4 : Bool) (w y o s s' : List Float) (r : Outcome) (f : List Float → List ℕ) → all finite w ≡ b4 →
-    left r (y ∷ []) s' ≡ settled Accepted Refused (cond b1 (cond b2 (cond b3 0 5) 4) 4) 0 (w ∷ []) (o ∷ []) s →
-    outcome_text r (f y) ≡ unless_refused (cond b1 (cond b2 (cond b3 (cond b4 0 10) 5) 4) 4) (f w)
+abbrev outcome_text : Verdict → List ℕ → List ℕ
+outcome_text v text = unless_refused number_of v text
+
+told : (b1 b2 b3 b4 : Bool) (w y o s s' : List Float) (r : Verdict) (f : List Float → List ℕ) → list_all finite w ≡ b4 →
+    left r (y ∷ []) s' ≡ settled (cond b1 (cond b2 (cond b3 accepted (Err Order)) (Err Value)) (Err Value)) accepted (w ∷ []) (o ∷ []) s →
+    outcome_text r (f y) ≡ outcome_text (cond b1 (cond b2 (cond b3 (cond b4 accepted (Err NotFinite)) (Err Order)) (Err Value)) (Err Value)) (f w)
 told true true true true w y o s s' r f e4 e =
-    let g : left r (y ∷ []) s' ≡ left Accepted (w ∷ []) (cleared s) = e ∙ ap (λ (b : Bool). handed Accepted Refused (b && true) (w ∷ []) (o ∷ []) s) e4 in
+    let g : left r (y ∷ []) s' ≡ left accepted (w ∷ []) (cleared s) = e ∙ ap (λ (b : Bool). handed tt (b && true) (w ∷ []) (o ∷ []) s) e4 in
     (λ i. outcome_text (g i).answer (f (head (g i).outputs)))
 told true true true false w y o s s' r f e4 e =
-    let g : left r (y ∷ []) s' ≡ left_clear (Refused 10) (o ∷ []) s = e ∙ ap (λ (b : Bool). handed Accepted Refused (b && true) (w ∷ []) (o ∷ []) s) e4 in
+    let g : left r (y ∷ []) s' ≡ left_clear (Err NotFinite) (o ∷ []) s = e ∙ ap (λ (b : Bool). handed tt (b && true) (w ∷ []) (o ∷ []) s) e4 in
     (λ i. outcome_text (g i).answer (f y))
 told true true false b4 w y o s s' r f e4 e = (λ i. outcome_text (e i).answer (f y))
 told true false b3 b4 w y o s s' r f e4 e = (λ i. outcome_text (e i).answer (f y))
 told false b2 b3 b4 w y o s s' r f e4 e = (λ i. outcome_text (e i).answer (f y))
 
-module _ (ts x o s y s' : List Float) (r : Outcome) (lx : length x ≡ length ts) (lo : length o ≡ length ts) (few : length ts ≤ 4096) (room : 32768 ≤ length s)
+module _ (ts x o s y s' : List Float) (r : Verdict) (lx : length x ≡ length ts) (lo : length o ≡ length ts) (few : length ts ≤ 4096) (room : 32768 ≤ length s)
     (e : left r (y ∷ []) s' ≡ band_pass_call ts x o s) where
-  refusal_is : band_refusal ts x (length o) (length s) ≡ cond (all is_time ts) (cond (all finite x) (cond (rising ts) 0 5) 4) 4
+  refusal_is : band_refusal ts x (length o) (length s) ≡ cond (list_all is_time ts) (cond (list_all finite x) (cond (rising ts) accepted (Err Order)) (Err Value)) (Err Value)
   unfolding band_refusal
   refusal_is =
       rw (le-leb (length ts) 100000 (omega arith), eq-eqb (length x) (length ts) lx, eq-eqb (length o) (length ts) lo, le-leb (8 * length ts) (length s) (omega arith))
@@ -221,16 +202,16 @@ module _ (ts x o s y s' : List Float) (r : Outcome) (lx : length x ≡ length ts
   outcome_says : outcome_text r (passed_text ts y) ≡ numbers_text ts x
   unfolding numbers_text numbers_refusal
   outcome_says =
-      told (all is_time ts) (all finite x) (rising ts) (all finite (band_pass ts x)) (band_pass ts x) y o s s' r (passed_text ts) refl
-      (e ∙ ap (λ (n : ℕ). settled Accepted Refused n 0 (band_pass ts x ∷ []) (o ∷ []) s) refusal_is)
+      told (list_all is_time ts) (list_all finite x) (rising ts) (list_all finite (band_pass ts x)) (band_pass ts x) y o s s' r (passed_text ts) refl
+      (e ∙ ap (λ (v : Verdict). settled v accepted (band_pass ts x ∷ []) (o ∷ []) s) refusal_is)
 
-  pub accepted_prints : (out out' : List ℕ) (k : ℕ) → r ≡ Accepted → Printed (passed_text ts y) out 0 out' k → Printed (numbers_text ts x) out 0 out' k
-  accepted_prints out out' k h p =
-      mathlib.Core.Path.subst (λ (t : List ℕ). Printed t out 0 out' k) (ap (λ (q : Outcome). outcome_text q (passed_text ts y)) (sym h) ∙ outcome_says) p
+  pub accepted_prints : (u : Unit {0}) (out out' : List ℕ) (k : ℕ) → r ≡ Ok u → Printed (passed_text ts y) out 0 out' k → Printed (numbers_text ts x) out 0 out' k
+  accepted_prints u out out' k h p =
+      mathlib.Core.Path.subst (λ (t : List ℕ). Printed t out 0 out' k) (ap (λ (q : Verdict). outcome_text q (passed_text ts y)) (sym h) ∙ outcome_says) p
 
-  pub refused_numbers : (out out' : List ℕ) (k n : ℕ) → r ≡ Refused n → Printed (refused_text n) out 0 out' k → Printed (numbers_text ts x) out 0 out' k
-  refused_numbers out out' k n h p =
-      mathlib.Core.Path.subst (λ (t : List ℕ). Printed t out 0 out' k) (ap (λ (q : Outcome). outcome_text q (passed_text ts y)) (sym h) ∙ outcome_says) p
+  pub refused_numbers : (out out' : List ℕ) (k n : ℕ) (f : Refusal) → r ≡ Err f → n ≡ number_of f → Printed (refused_text n) out 0 out' k → Printed (numbers_text ts x) out 0 out' k
+  refused_numbers out out' k n f h g p =
+      mathlib.Core.Path.subst (λ (t : List ℕ). Printed t out 0 out' k) (ap refused_text g ∙ ap (λ (q : Verdict). outcome_text q (passed_text ts y)) (sym h) ∙ outcome_says) p
 
 pub lines_print : (text : List ℕ) (n : ℕ) (ts xs : List Float) (out out' : List ℕ) (r : ℕ) (xs₀ : List Float) → ts ≡ column text 0 n → xs ≡ column text 16 (length xs₀) → length xs₀ ≡ n →
     Printed (numbers_text ts xs) out 0 out' r → Printed (numbers_text (column text 0 n) (column text 16 n)) out 0 out' r
@@ -238,25 +219,21 @@ lines_print text n ts xs out out' r xs₀ et ex l p = mathlib.Core.Path.subst (�
 
 -- ---- the whole
 
-pub text_refused : (text out out' : List ℕ) (n r : ℕ) → n ≡ text_refusal text → (n ≡ 0 → ⊥) → Printed (refused_text n) out 0 out' r → Printed (answer text) out 0 out' r
+pub text_refused : (text out out' : List ℕ) (f : Fault) (n r : ℕ) → text_refusal text ≡ Err f → n ≡ fault_number f → Printed (refused_text n) out 0 out' r → Printed (answer text) out 0 out' r
 unfolding answer
-text_refused text out out' n r e h p =
-    mathlib.Core.Path.subst (λ (t : List ℕ). Printed t out 0 out' r) (some n h _ ∙
-    ap (λ (k : ℕ). unless_refused k (numbers_text (column text 0 (length text / 33)) (column text 16 (length text / 33)))) e) p
-  where
-    some : (n : ℕ) → (n ≡ 0 → ⊥) → (t : List ℕ) → refused_text n ≡ unless_refused n t
-    some zero h t = absurd (h refl)
-    some (suc n) h t = refl
+text_refused text out out' f n r e g p =
+    mathlib.Core.Path.subst (λ (t : List ℕ). Printed t out 0 out' r)
+    (ap refused_text g ∙ ap (λ (v : Result Unit Fault). unless_refused fault_number v (numbers_text (column text 0 (length text / 33)) (column text 16 (length text / 33)))) (sym e)) p
 
-pub text_lines : (text : List ℕ) → text_refusal text ≡ 0 → length text / 33 ≤ 4096
+pub text_lines : (text : List ℕ) → text_refusal text ≡ Ok tt → length text / 33 ≤ 4096
 text_lines text h = let k : length text ≤ 0 + 33 * 4096 = refusal_length 4096 text 0 h in omega arith
 
-pub text_answered : (text : List ℕ) (times : List Float) (out out' : List ℕ) (n m r : ℕ) → n ≡ text_refusal text → n ≡ 0 → m ≡ length text / 33 → m ≤ 4096 → 4096 ≤ length times →
+pub text_answered : (text : List ℕ) (times : List Float) (out out' : List ℕ) (m r : ℕ) → text_refusal text ≡ Ok tt → m ≡ length text / 33 → m ≤ 4096 → 4096 ≤ length times →
     Printed (numbers_text (column text 0 (length (mid_of 0 (m - 0) times))) (column text 16 (length (mid_of 0 (m - 0) times)))) out 0 out' r → Printed (answer text) out 0 out' r
 unfolding answer
-text_answered text times out out' n m r e h em few room p =
+text_answered text times out out' m r e em few room p =
     let z : m - 0 ≡ m = omega arith in
     let ek : length (mid_of 0 (m - 0) times) ≡ length text / 33 = mid_len 0 m times (omega arith) ∙ z ∙ em in
     mathlib.Core.Path.subst (λ (t : List ℕ). Printed t out 0 out' r)
-    ((λ i. numbers_text (column text 0 (ek i)) (column text 16 (ek i))) ∙ ap (λ (j : ℕ). unless_refused j
-    (numbers_text (column text 0 (length text / 33)) (column text 16 (length text / 33)))) (sym h ∙ e)) p
+    ((λ i. numbers_text (column text 0 (ek i)) (column text 16 (ek i))) ∙ ap (λ (v : Result Unit Fault). unless_refused fault_number v
+    (numbers_text (column text 0 (length text / 33)) (column text 16 (length text / 33)))) (sym e)) p

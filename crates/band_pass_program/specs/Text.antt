@@ -1,15 +1,20 @@
 -- The band-pass program (document 01, "The band-pass program"): what its input says, and what it prints. Bytes are ASCII. Assumes nothing.
-use Rattle.std.specs.Prelude.{Bool, cond, ◌&&◌, List, [], ◌∷◌, ◌++◌, ℕ, zero, suc, ◌+◌, ◌/◌, ltb, eqb, length, get_or, Float}
+use Rattle.std.specs.Prelude.{Result, Ok, Err, Bool, cond, ◌&&◌, List, [], ◌∷◌, ◌++◌, ℕ, zero, suc, ◌+◌, ◌/◌, ltb, eqb, length, get_or, Float}
 use Rattle.std.specs.Float.{binary64}
 use Rattle.std.specs.Float.Ieee.{to_bits}
 use Rattle.std.specs.Float.Ieee.Scale.{finite}
-use Rattle.laws.specs.Checks.{all, is_time, rising}
+use Rattle.std.specs.List.{list_all}
+use Rattle.laws.specs.Checks.{is_time, rising}
 use Rattle.laws.specs.Runs.{runs_of}
 use Rattle.hexadecimal.specs.Digits.{word_at, digits_of, decimal_of, is_word, float_at}
 use Rattle.hexadecimal.specs.Printing.{line_feed, refused_text}
-use Rattle.slices.specs.Calls.{first_failed}
+use Rattle.slices.specs.Calls.{Verdict, first_failed}
+use Rattle.slices.specs.Answers.{number_of}
+use Rattle.slices.specs.declared.refusal.Refusal.TheVariants.{Value, Order, NotFinite}
 use Rattle.filter.specs.Filter.{band_pass}
 use Rattle.filter.specs.Calls.{long_runs}
+use Rattle.band_pass_program.specs.declared.Fault.{Fault}
+use Rattle.band_pass_program.specs.declared.Fault.TheVariants.{Bounds, Format}
 
 -- ---- input
 
@@ -17,12 +22,12 @@ use Rattle.filter.specs.Calls.{long_runs}
 unfoldable pub is_line : List ℕ → ℕ → Bool
 is_line text at = is_word (word_at text at) && (is_word (word_at text (at + 16)) && eqb (get_or text (at + 32) 0) 10)
 
--- the refusal of the text from `at` on, where k more lines may come; 0 where all of it is lines
-unfoldable pub refusal_from : ℕ → List ℕ → ℕ → ℕ
-refusal_from zero text at = cond (ltb at (length text)) 2 0
-refusal_from (suc k) text at = cond (ltb at (length text)) (cond (is_line text at) (refusal_from k text (at + 33)) 11) 0
+-- the refusal of the text from `at` on, where k more lines may come
+unfoldable pub refusal_from : ℕ → List ℕ → ℕ → Result Unit Fault
+refusal_from zero text at = cond (ltb at (length text)) (Err Bounds) (Ok tt)
+refusal_from (suc k) text at = cond (ltb at (length text)) (cond (is_line text at) (refusal_from k text (at + 33)) (Err Format)) (Ok tt)
 
-abbrev pub text_refusal : List ℕ → ℕ
+abbrev pub text_refusal : List ℕ → Result Unit Fault
 text_refusal text = refusal_from 4096 text 0
 
 -- the doubles of n lines, from the words at `at` on
@@ -47,22 +52,27 @@ summary_text runs passed =
 
 -- ---- the whole
 
--- the lowest refusal about the numbers, and 0 for none
-unfoldable pub numbers_refusal : List Float → List Float → ℕ
-numbers_refusal ts x = first_failed ((all is_time ts, 4) ∷ (all finite x, 4) ∷ (rising ts, 5) ∷ (all finite (band_pass ts x), 10) ∷ [])
+-- the first refusal about the numbers
+unfoldable pub numbers_refusal : List Float → List Float → Verdict
+numbers_refusal ts x = first_failed ((list_all is_time ts, Value) ∷ (list_all finite x, Value) ∷ (rising ts, Order) ∷ (list_all finite (band_pass ts x), NotFinite) ∷ [])
+
+-- the number of a fault of the text, among those of the refusals
+abbrev pub fault_number : Fault → ℕ
+fault_number Bounds = 2
+fault_number Format = 11
 
 -- what is printed of passed samples
 abbrev pub passed_text : List Float → List Float → List ℕ
 passed_text ts y = lines_text ts y ++ summary_text (length (runs_of ts)) (long_runs (runs_of ts))
 
 -- a refusal prints its one line only
-abbrev pub unless_refused : ℕ → List ℕ → List ℕ
-unless_refused zero text = text
-unless_refused (suc n) text = refused_text (suc n)
+abbrev pub unless_refused : {E : Type 0} → (E → ℕ) → Result Unit E → List ℕ → List ℕ
+unless_refused number (Ok _) text = text
+unless_refused number (Err e) text = refused_text (number e)
 
 unfoldable pub numbers_text : List Float → List Float → List ℕ
-numbers_text ts x = unless_refused (numbers_refusal ts x) (passed_text ts (band_pass ts x))
+numbers_text ts x = unless_refused number_of (numbers_refusal ts x) (passed_text ts (band_pass ts x))
 
 -- what the program prints for a text
 unfoldable pub answer : List ℕ → List ℕ
-answer text = unless_refused (text_refusal text) (numbers_text (column text 0 (length text / 33)) (column text 16 (length text / 33)))
+answer text = unless_refused fault_number (text_refusal text) (numbers_text (column text 0 (length text / 33)) (column text 16 (length text / 33)))

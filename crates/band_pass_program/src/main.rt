@@ -3,108 +3,83 @@
 
 ghost use Rattle.std.specs.Prelude.{◌≡◌, ◌++◌, ◌+◌, ◌*◌, ◌/◌, ◌≤◌, ◌<◌, length, take};
 ghost use Rattle.io.specs.Counts.{IsPrefixLen};
-ghost use Rattle.hexadecimal.specs.Digits.{word_at, decimal_of, is_word, float_at};
-ghost use Rattle.hexadecimal.specs.Printing.{refused_text, Printed};
-ghost use Rattle.band_pass_program.specs.Text.{is_line, text_refusal, column, line_text, lines_text, summary_text, passed_text, numbers_text};
+ghost use Rattle.hexadecimal.specs.Digits.{float_at};
+ghost use Rattle.hexadecimal.specs.Printing.{Printed};
+ghost use Rattle.band_pass_program.specs.Text.{fault_number, is_line, text_refusal, column, line_text, lines_text, summary_text, passed_text, numbers_text};
 ghost use Rattle.band_pass_program.specs.Text.{answer as answer_of};
 
-use filter;
-use hexadecimal;
-use slices;
-use streams;
+// Why a text is refused.
+#[derive(Clone, Copy, Debug, PartialEq, Eq)]
+enum Fault {
+    // There are more than 4,096 lines.
+    Bounds,
+    // The text is not lines of two words.
+    Format,
+}
 
-fn is_word(text: &[u8], at: usize) -> bool
-    ensures { result ≡ is_word (word_at text.now at) }
-{
-    let word = hexadecimal::word(text, at);
-    match word {
-        hexadecimal::Parsed::Value(_) => true,
-        hexadecimal::Parsed::Malformed => false,
+// The number that is printed.
+impl From<Fault> for u8 {
+    ghost from_gives = { λ f n. n ≡ fault_number f };
+
+    fn from(fault: Fault) -> u8 {
+        match fault {
+            Fault::Bounds => 2,
+            Fault::Format => 11,
+        }
     }
 }
 
 // The double whose bits stand at `at`.
+#[tactic(auto, unfolding(hexadecimal::specs::Digits::float_at))]
 fn float_at(text: &[u8], at: usize) -> f64
     ensures { result ≡ float_at text.now at }
 {
-    let word = hexadecimal::word(text, at);
-    match word {
-        hexadecimal::Parsed::Value(bits) => hexadecimal::float(bits),
-        hexadecimal::Parsed::Malformed => hexadecimal::float(0),
-    }
+    hexadecimal::float(hexadecimal::word(text, at).unwrap_or(0))
 }
 
 // Whether two words and a line feed stand from `at` on.
+#[tactic(auto, using(std::proofs::lemmas::Bool::Decides::nat_tests), unfolding(crate::specs::Text::is_line))]
 fn is_line(text: &[u8], at: usize) -> bool
     requires { at < 1000000 }
     ensures { result ≡ is_line text.now at }
 {
     let last = at + 32;
-    if text.len() <= last {
-        return false;
-    }
-    let fed = text[last] == 10;
-    slices::both(is_word(text, at), slices::both(is_word(text, at + 16), fed))
+    last < text.len()
+        && hexadecimal::word(text, at).is_some()
+        && hexadecimal::word(text, at + 16).is_some()
+        && text[last] == b'\n'
 }
 
-// The refusal of a text, 0 where it is lines and not too many.
-fn refusal(text: &[u8]) -> u8
+// Refuses a text that is not lines, or too many.
+#[tactic(auto, using(crate::proofs::ProgramText::scan_ends, crate::proofs::ProgramText::scan_over, crate::proofs::ProgramText::scan_bad, crate::proofs::ProgramText::scan_goes))]
+fn refusal(text: &[u8]) -> Result<(), Fault>
     ensures { result ≡ text_refusal text.now }
 {
-    let mut left: usize = 4096;
-    let mut at: usize = 0;
-    while 0 < left {
+    for line in 0..4096 {
+        let at = 33 * line;
         if text.len() <= at {
-            return 0;
+            return Ok(());
         }
         if !is_line(text, at) {
-            return 11;
+            return Err(Fault::Format);
         }
-        left -= 1;
-        at += 33;
     }
-    if at < text.len() { 2 } else { 0 }
+    if 135168 < text.len() {
+        Err(Fault::Bounds)
+    } else {
+        Ok(())
+    }
 }
 
 // The doubles that stand at `from` in each line.
+#[tactic(auto, using(crate::proofs::ProgramText::column_turn, crate::proofs::ProgramText::column_done))]
 fn read_column(text: &[u8], from: usize, out: &mut [f64])
     requires { (from ≤ 16) × (length out.old ≤ 4096) }
     ensures { out.new ≡ column text.now from (length out.old) }
 {
-    let mut k = 0;
-    while k < out.len() {
+    for k in 0..out.len() {
         out[k] = float_at(text, from + 33 * k);
-        k += 1;
     }
-}
-
-fn put_bytes(bytes: &[u8], out: &mut [u8], at: usize) -> usize
-    requires { at + length bytes.now ≤ length out.old }
-    ensures { Printed bytes.now out.old at out.new result }
-{
-    let mut k = 0;
-    while k < bytes.len() {
-        out[at + k] = bytes[k];
-        k += 1;
-    }
-    at + k
-}
-
-fn put_count(n: usize, out: &mut [u8], at: usize) -> usize
-    requires { at + 20 ≤ length out.old }
-    ensures { (Printed (decimal_of n) out.old at out.new result) × (result ≤ at + 20) }
-{
-    let k = hexadecimal::put_decimal(n as u64, out, at);
-    at + k
-}
-
-fn put_refusal(n: u8, out: &mut [u8]) -> usize
-    requires { 64 ≤ length out.old }
-    ensures { Printed (refused_text n) out.old 0 out.new result }
-{
-    let a = put_bytes(b"refused ", out, 0);
-    let b = put_count(n as usize, out, a);
-    put_bytes(b"\n", out, b)
 }
 
 fn put_line(time: f64, value: f64, out: &mut [u8], at: usize)
@@ -113,7 +88,7 @@ fn put_line(time: f64, value: f64, out: &mut [u8], at: usize)
 {
     hexadecimal::put_word(hexadecimal::pattern(time), out, at);
     hexadecimal::put_word(hexadecimal::pattern(value), out, at + 16);
-    out[at + 32] = 10;
+    out[at + 32] = b'\n';
 }
 
 fn put_lines(times: &[f64], values: &[f64], out: &mut [u8])
@@ -121,10 +96,8 @@ fn put_lines(times: &[f64], values: &[f64], out: &mut [u8])
     ensures { Printed (lines_text times.now values.now) out.old 0 out.new
         (33 * length times.now) }
 {
-    let mut i = 0;
-    while i < times.len() {
+    for i in 0..times.len() {
         put_line(times[i], values[i], out, 33 * i);
-        i += 1;
     }
 }
 
@@ -132,13 +105,14 @@ fn put_summary(runs: usize, passed: usize, out: &mut [u8], at: usize) -> usize
     requires { at + 64 ≤ length out.old }
     ensures { Printed (summary_text runs passed) out.old at out.new result }
 {
-    let a = put_bytes(b"runs ", out, at);
-    let b = put_count(runs, out, a);
-    let c = put_bytes(b" passed ", out, b);
-    let d = put_count(passed, out, c);
-    put_bytes(b"\n", out, d)
+    let a = hexadecimal::put_bytes(b"runs ", out, at);
+    let b = hexadecimal::put_count(runs, out, a);
+    let c = hexadecimal::put_bytes(b" passed ", out, b);
+    let d = hexadecimal::put_count(passed, out, c);
+    hexadecimal::put_bytes(b"\n", out, d)
 }
 
+#[tactic(auto, using(crate::proofs::ProgramText::passed_prints))]
 fn put_passed(times: &[f64], values: &[f64], out: &mut [u8]) -> usize
     requires { (length values.now ≡ length times.now) × (length times.now ≤ 4096) × (135300 ≤ length out.old) }
     ensures { Printed (passed_text times.now values.now) out.old 0 out.new result }
@@ -159,10 +133,9 @@ fn answer_numbers(
         (32768 ≤ length scratch.old) × (135300 ≤ length out.old) }
     ensures { Printed (numbers_text times.now values.now) out.old 0 out.new result }
 {
-    let outcome = filter::band_pass(times, values, passed, scratch);
-    match outcome {
-        slices::Outcome::Accepted => put_passed(times, &passed[..], out),
-        slices::Outcome::Refused(n) => put_refusal(n, out),
+    match filter::band_pass(times, values, passed, scratch) {
+        Ok(()) => put_passed(times, passed, out),
+        Err(refusal) => hexadecimal::put_refused(u8::from(refusal), out),
     }
 }
 
@@ -182,12 +155,12 @@ fn answer_lines(
 {
     read_column(text, 0, times);
     read_column(text, 16, values);
-    answer_numbers(&times[..], &values[..], passed, scratch, out)
+    answer_numbers(times, values, passed, scratch, out)
 }
 
 // How many lines a text of lines has.
 fn count_lines(text: &[u8]) -> usize
-    requires { text_refusal text.now ≡ 0 }
+    requires { text_refusal text.now ≡ Ok tt }
     ensures { (result ≡ length text.now / 33) × (result ≤ 4096) }
 {
     text.len() / 33
@@ -206,16 +179,15 @@ fn answer(
         (135300 ≤ length out.old) }
     ensures { (Printed (answer_of text.now) out.old 0 out.new result) × IsPrefixLen result out.new }
 {
-    let refused = refusal(text);
-    if refused != 0 {
-        return put_refusal(refused, out);
+    if let Err(fault) = refusal(text) {
+        return hexadecimal::put_refused(u8::from(fault), out);
     }
     let n = count_lines(text);
     answer_lines(
         text,
-        &mut times[0..n],
-        &mut values[0..n],
-        &mut passed[0..n],
+        &mut times[..n],
+        &mut values[..n],
+        &mut passed[..n],
         scratch,
         out,
     )
@@ -242,9 +214,8 @@ fn say_answer(text: &[u8]) {
 // An input that cannot be read has no answer, and one that ends has.
 fn main(rt: HostRuntime) {
     let mut text = [0u8; 135169];
-    let got = streams::read(&mut rt.stdin(), &mut text);
-    match got {
-        streams::Got::Bytes(n) => say_answer(&text[..n]),
-        streams::Got::Failed => streams::say_unread(),
+    match streams::read(&mut rt.stdin(), &mut text) {
+        Ok(n) => say_answer(&text[..n]),
+        Err(_) => streams::say_unread(),
     }
 }

@@ -1,5 +1,5 @@
 -- The columns that follow from times and raw values: what comes out of the scratch, the zeros behind the first n entries, the guard. Assumes nothing.
-use mathlib.Core.Path.{◌≡◌, refl, sym, ap, ◌∙◌, subst}
+use mathlib.Core.Path.{◌≡◌, refl, sym, ap, ◌∙◌}
 use mathlib.Core.Bool.{Bool, true, false, cond, ◌&&◌}
 use mathlib.Core.List.{List, [], ◌∷◌, ◌++◌, append-nil}
 use Prim.Native.Nat.{ℕ, ◌+◌, ◌-◌, ◌*◌, ◌/◌, ◌≤◌}
@@ -13,7 +13,8 @@ use borrow.Author.Tests.{eq-eqb, le-leb}
 use borrow.Rule.Slice.PartMut.{mid_of, put_mid, same_len_mid}
 use Rattle.laws.specs.Floats.{zero64}
 use Rattle.laws.specs.Lists.{All, all_map}
-use Rattle.laws.specs.Checks.{all, all_says}
+use Rattle.std.specs.List.{list_all}
+use Rattle.laws.specs.Checks.{all_says}
 use Rattle.laws.specs.Bools.{holds, clash}
 use Rattle.laws.specs.Loops.{cleared, filled_front}
 use Rattle.finality.specs.Sheet.{published}
@@ -105,7 +106,7 @@ pub served : (n times : ℕ) (others : List ℕ) (room : ℕ) (b : Bool) → b �
 unfolding columns_serve
 served n times others room b e h =
     let count = leb n times in
-    let long = all (λ (k : ℕ). eqb k times) others in
+    let long = list_all (λ (k : ℕ). eqb k times) others in
     let enough = leb n (room / 8) in
     let t : T (count && (long && enough)) = holds (count && (long && enough)) (sym e ∙ h) in
     let r : T (long && enough) = and_r count (long && enough) t in
@@ -119,9 +120,9 @@ served n times others room b e h =
 
 module _ (serves : Bool) (nodes : List Float) (n : ℕ) (times raws d d' p p' s s' : List Float) (b : Bool) (e : b ≡ serves) where
   pub columns_filled : b ≡ true → n ≤ length times → length raws ≡ length times → length s' ≡ length s → d' ≡ published (length times) (first_detrended nodes n times raws) →
-      p' ≡ published (length times) (band_pass (take n times) (take n d')) → ColumnsFilled serves nodes n times raws (d ∷ p ∷ []) (d' ∷ p' ∷ []) s s' true
+      p' ≡ published (length times) (band_pass (take n times) (take n d')) → ColumnsFilled serves nodes n times raws (d ∷ p ∷ []) (d' ∷ p' ∷ []) s s' b
   columns_filled h hn er l ed ep = record {
-    says = sym h ∙ e;
+    says = e;
     long = l;
     columns = λ _.
         let first : take n d' ≡ first_detrended nodes n times raws
@@ -131,9 +132,9 @@ module _ (serves : Bool) (nodes : List Float) (n : ℕ) (times raws d d' p p' s 
   }
 
 pub columns_unfit : (serves : Bool) (nodes : List Float) (n : ℕ) (times raws : List Float) (outputs : List (List Float)) (s : List Float) (b : Bool) → b ≡ serves → b ≡ false →
-    ColumnsFilled serves nodes n times raws outputs outputs s s false
+    ColumnsFilled serves nodes n times raws outputs outputs s s b
 columns_unfit serves nodes n times raws outputs s b e h = record {
-  says = sym h ∙ e;
+  says = e;
   long = refl;
   columns = λ t. clash serves t (sym e ∙ h);
   unfit = λ _. (refl, refl);

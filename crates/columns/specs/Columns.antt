@@ -1,13 +1,13 @@
 -- The detrended and the passed column of a sheet (document 01, module 8): of the first n entries, +0.0 behind them. Assumes nothing.
 use Rattle.std.specs.Prelude.{◌≡◌, Bool, true, false, ◌&&◌, List, [], ◌∷◌, map, ℕ, ◌/◌, leb, eqb, length, take, Float}
-use Rattle.laws.specs.Checks.{all}
+use Rattle.std.specs.List.{list_all}
 use Rattle.finality.specs.Sheet.{published}
 use Rattle.detrend.specs.Revolutions.{removed_of}
 use Rattle.filter.specs.Filter.{band_pass}
 
 -- n times at least, the other lists as long as the times, and eight numbers of scratch an entry
 unfoldable pub columns_serve : ℕ → ℕ → List ℕ → ℕ → Bool
-columns_serve n times others room = leb n times && (all (λ (k : ℕ). eqb k times) others && leb n (room / 8))
+columns_serve n times others room = leb n times && (list_all (λ (k : ℕ). eqb k times) others && leb n (room / 8))
 
 -- the first n entries detrended, and each of their runs passed
 abbrev pub first_detrended : List Float → ℕ → List Float → List Float → List Float

@@ -1,4 +1,5 @@
 // The detrended and the passed column of a sheet, from the times and raw values of its first entries.
+// kept: the columns are lent one by one, some read and some written; a struct of them would be taken apart in each function.
 #![tactic(auto)]
 
 ghost use Rattle.std.specs.Prelude.{◌≡◌, [], ◌∷◌, map, ◌*◌, ◌≤◌, length, take};
@@ -7,23 +8,12 @@ ghost use Rattle.detrend.specs.Revolutions.{removed_of};
 ghost use Rattle.filter.specs.Filter.{band_pass};
 ghost use Rattle.columns.specs.Columns.{columns_serve, first_detrended, ColumnsFilled};
 
-use detrend;
-use filter;
-use slices;
-
+#[tactic(auto, unfolding(crate::specs::Columns::columns_serve))]
 fn serve(n: usize, times: usize, raws: usize, detrended: usize, passed: usize, room: usize) -> bool
     ensures { result ≡ columns_serve n times (raws ∷ detrended ∷ passed ∷ []) room }
 {
-    slices::both(
-        n <= times,
-        slices::both(
-            raws == times,
-            slices::both(
-                detrended == times,
-                slices::both(passed == times, n <= room / 8),
-            ),
-        ),
-    )
+    let long = raws == times && (detrended == times && passed == times);
+    n <= times && (long && n <= room / 8)
 }
 
 // Times and values go into the scratch, and the values come out without each revolution's fit.
@@ -39,6 +29,7 @@ fn remove(nodes: &[f64], times: &[f64], raws: &[f64], out: &mut [f64], s: &mut [
     slices::copy(&s[n..m], out);
 }
 
+#[tactic(auto, using(crate::proofs::Filling::detrended_column))]
 fn detrend_column(
     nodes: &[f64],
     n: usize,
@@ -57,6 +48,7 @@ fn detrend_column(
     slices::clear(&mut detrended[n..end]);
 }
 
+#[tactic(auto, using(crate::proofs::Filling::passed_column))]
 fn pass_column(n: usize, times: &[f64], detrended: &[f64], passed: &mut [f64], s: &mut [f64])
     requires { (n ≤ length times.now) × (length detrended.now ≡ length times.now) × (length passed.old ≡ length times.now)
         × (8 * n ≤ length s.old) }
@@ -82,17 +74,17 @@ pub fn fill(
         times.now raws.now (detrended.old ∷ passed.old ∷ []) (detrended.new ∷ passed.new ∷ [])
         s.old s.new result }
 {
-    if serve(
+    let served = serve(
         n,
         times.len(),
         raws.len(),
         detrended.len(),
         passed.len(),
         s.len(),
-    ) {
+    );
+    if served {
         detrend_column(nodes, n, times, raws, detrended, s);
-        pass_column(n, times, &detrended[..], passed, s);
-        return true;
+        pass_column(n, times, detrended, passed, s);
     }
-    false
+    served
 }

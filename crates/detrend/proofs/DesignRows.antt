@@ -1,42 +1,15 @@
 -- The rows of the fit of one revolution, six numbers a sample, filled one after another. Assumes nothing.
 use mathlib.Core.Path.{◌≡◌, refl, sym, ap, ◌∙◌}
 use mathlib.Core.List.{List, [], ◌∷◌, ◌++◌, append_assoc, append-nil}
-use mathlib.Core.Bool.{Bool, true, false, not, ◌&&◌}
 use Prim.Native.Nat.{ℕ, ◌+◌, ◌-◌, ◌*◌, ◌<◌, ◌≤◌}
 use native.Mathlib.Numerals.{add-one}
 use native.Mathlib.Omega.{arith}
-use lib.Ieee.{Float, nan, eq, ne}
-use lib.ListN.{length, take, drop, get_or, set, length-take, length-drop, length-append, drop_of_length-le}
+use lib.Ieee.{Float, nan}
+use lib.ListN.{length, take, drop, get_or, length-take, length-drop, length-append}
 use lib.Seq.{take-suc, get_or-drop}
 use borrow.Rule.Slice.PartMut.{mid_of, put_mid, same_len_mid}
-use Rattle.laws.specs.Floats.{◌⊖◌, ◌⊗◌, ◌⊘◌, zero64, one64, two64}
-use Rattle.numbers.specs.declared.SineCosine.{SineCosine}
-use Rattle.numbers.specs.Numbers.{sine_cosine}
-use Rattle.numbers.specs.Constants.{angle_from}
-use Rattle.laws.specs.Loops.{head_at}
-use Rattle.detrend.specs.Fit.{row_of, rows_of, all_zero}
+use Rattle.detrend.specs.Fit.{row_of, rows_of}
 use Rattle.detrend.proofs.PartsInPlace.{put_on, put_none, get_before, length_mid}
-
--- ---- a row is written
-
-six : (row : List Float) (v0 v1 v2 v3 v4 v5 : Float) → length row ≡ 6 →
-    set (set (set (set (set (set row 0 v0) 1 v1) 2 v2) 3 v3) 4 v4) 5 v5 ≡ v0 ∷ v1 ∷ v2 ∷ v3 ∷ v4 ∷ v5 ∷ []
-six [] v0 v1 v2 v3 v4 v5 h = absurd (omega arith)
-six (a ∷ []) v0 v1 v2 v3 v4 v5 h = absurd (omega arith)
-six (a ∷ b ∷ []) v0 v1 v2 v3 v4 v5 h = absurd (omega arith)
-six (a ∷ b ∷ c ∷ []) v0 v1 v2 v3 v4 v5 h = absurd (omega arith)
-six (a ∷ b ∷ c ∷ d ∷ []) v0 v1 v2 v3 v4 v5 h = absurd (omega arith)
-six (a ∷ b ∷ c ∷ d ∷ e ∷ []) v0 v1 v2 v3 v4 v5 h = absurd (omega arith)
-six (a ∷ b ∷ c ∷ d ∷ e ∷ f ∷ []) v0 v1 v2 v3 v4 v5 h = refl
-six (a ∷ b ∷ c ∷ d ∷ e ∷ f ∷ g ∷ l) v0 v1 v2 v3 v4 v5 h = absurd (omega arith)
-
-pub row_written : (row : List Float) (t start period : Float) (once twice : SineCosine) → length row ≡ 6 →
-    once ≡ sine_cosine (angle_from start period t) → twice ≡ sine_cosine (two64 ⊗ angle_from start period t) →
-    set (set (set (set (set (set row 0 one64) 1 ((t ⊖ start) ⊘ period)) 2 once.cosine) 3 once.sine) 4 twice.cosine) 5 twice.sine ≡ row_of start period t
-unfolding row_of sine_cosine
-row_written row t start period once twice h e1 e2 =
-    six row one64 ((t ⊖ start) ⊘ period) once.cosine once.sine twice.cosine twice.sine h
-    ∙ (λ i. one64 ∷ ((t ⊖ start) ⊘ period) ∷ (e1 i).cosine ∷ (e1 i).sine ∷ (e2 i).cosine ∷ (e2 i).sine ∷ [])
 
 pub length_row : (start period t : Float) → length (row_of start period t) ≡ 6
 unfolding row_of
@@ -96,25 +69,3 @@ pub rows_length : (start period : Float) (from count to i : ℕ) (s s₀ : List 
 rows_length start period from count to i s s₀ h b t inv =
     ap length inv ∙ same_len_mid to (6 * i) s₀ (rows_of start period (mid_of from i s₀))
     (length_rows start period (mid_of from i s₀) ∙ simp (length-take, length-drop) (omega arith))
-
--- ---- zero values
-
-pub zero_goes : (x : List Float) (g : Bool) (i : ℕ) → i < length x → ne (get_or x i nan) zero64 ≡ false → all_zero (drop i x) ≡ g → all_zero (drop (i + 1) x) ≡ g
-unfolding all_zero ne
-zero_goes x g i h e inv = sym (rw (head_at x i nan h) (by_not (eq (get_or x i nan) zero64) (all_zero (drop (i + 1) x)) e)) ∙ inv
-  where
-    by_not : (b c : Bool) → not b ≡ false → b && c ≡ c
-    by_not true c q = refl
-    by_not false c q = absurd (let z : ◌≡◌ {A = ℕ} 0 1 = cc in omega arith)
-
-pub zero_stops : (x : List Float) (g : Bool) (i : ℕ) → i < length x → ne (get_or x i nan) zero64 ≡ true → all_zero (drop i x) ≡ g → false ≡ g
-unfolding all_zero ne
-zero_stops x g i h e inv = sym (rw (head_at x i nan h) (by_not (eq (get_or x i nan) zero64) (all_zero (drop (i + 1) x)) e)) ∙ inv
-  where
-    by_not : (b c : Bool) → not b ≡ true → b && c ≡ false
-    by_not true c q = absurd (let z : ◌≡◌ {A = ℕ} 0 1 = cc in omega arith)
-    by_not false c q = refl
-
-pub zero_done : (x : List Float) (g : Bool) (i : ℕ) → length x ≤ i → all_zero (drop i x) ≡ g → true ≡ g
-unfolding all_zero
-zero_done x g i h inv = sym (ap all_zero (drop_of_length-le x h)) ∙ inv

@@ -2,7 +2,7 @@
 use mathlib.Core.Path.{◌≡◌, refl, sym, ap, ◌∙◌, subst}
 use mathlib.Core.List.{List, [], ◌∷◌, ◌++◌, map, append_assoc, append-nil}
 use mathlib.Core.Bool.{Bool, true, false, cond}
-use Prim.Native.Nat.{ℕ, zero, suc, ◌+◌, ◌-◌, ◌/◌, ◌<◌, ◌≤◌}
+use Prim.Native.Nat.{ℕ, zero, suc, ◌+◌, ◌-◌, ◌<◌, ◌≤◌}
 use native.Mathlib.Numerals.{add-one}
 use native.Mathlib.Omega.{arith}
 use lib.Dec.{T, leb, eqb}
@@ -11,13 +11,21 @@ use lib.Ieee.Bits.{is_true}
 use lib.ListN.{length, length-replicate, take, drop, get_or, set, replicate, length-set, length-map, take-append-drop}
 use lib.Seq.{drop-set-lt, length-take-le}
 use borrow.Author.Tests.{le-leb, lt-leb, eqb-true}
-use Rattle.laws.specs.Checks.{all, is_time, rising}
+use Rattle.std.specs.List.{list_all}
+use Rattle.laws.specs.Checks.{is_time, rising}
 use Rattle.laws.specs.Floats.{◌⊖◌, zero64}
 use Rattle.laws.specs.Loops.{head_at, take_set, filled_up}
 use Rattle.laws.specs.Order.{lt_tr}
 use Rattle.laws.specs.Bools.{left_true, right_true}
 use Rattle.slices.proofs.Calls.{cond_passes}
-use Rattle.slices.specs.declared.Counted.TheVariants.{Counted as Found, Refused as NotCounted}
+use Rattle.std.specs.Prelude.{Ok}
+use Rattle.std.specs.List.Sorted.{IsPartitionedBy, IsPartitionPoint}
+use Rattle.laws.specs.Signed.{lt_or_ge}
+use Rattle.std.proofs.lemmas.List.{get_or_default}
+use Rattle.std.proofs.Common.{inl, inr, ◌⊎◌}
+use Rattle.slices.specs.Calls.{Verdict, accepted}
+use Rattle.slices.specs.declared.refusal.Refusal.TheVariants.{Count, Length, Value, Order}
+use Rattle.detrend.proofs.Consecutive.{count_le}
 use Rattle.detrend.specs.Revolutions.{count_before, Revolution, revolutions_of}
 use Rattle.detrend.specs.Calls.{revolutions_refusal, listed, Listed, listed_unless}
 
@@ -60,12 +68,30 @@ count_short b (t ∷ ts) (suc m) h e = go (lt t b) (count_short b ts m (omega ar
     go true q = omega arith
     go false q = omega arith
 
-pub halving_up : (b : Float) (ts : List Float) (lo hi : ℕ) → lo < hi → hi ≤ length ts → rising ts ≡ true → lt (get_or ts (lo + (hi - lo) / 2) nan) b ≡ true →
-    lo + (hi - lo) / 2 + 1 ≤ count_before b ts
-halving_up b ts lo hi h l r e = omega (arith, count_past b ts (lo + (hi - lo) / 2) (omega arith) r e)
+-- each that counts lies before b
+counted : (b : Float) (ts : List Float) (m : ℕ) (d : Float) → m < count_before b ts → lt (get_or ts m d) b ≡ true
+counted b [] m d h = absurd (omega (arith, count_le b []))
+counted b (t ∷ ts) zero d h = is_true (lt t b) (head_before b t ts zero h)
+counted b (t ∷ ts) (suc m) d h = counted b ts m d (omega (arith, count_more b t ts (head_before b t ts (suc m) h)))
 
-pub halving_down : (b : Float) (ts : List Float) (lo hi : ℕ) → lo < hi → hi ≤ length ts → lt (get_or ts (lo + (hi - lo) / 2) nan) b ≡ false → count_before b ts ≤ lo + (hi - lo) / 2
-halving_down b ts lo hi h l e = count_short b ts (lo + (hi - lo) / 2) (omega arith) e
+-- the times before b stand in front
+pub in_front : (b : Float) (ts : List Float) → rising ts ≡ true → IsPartitionedBy (λ (t : Float). lt t b) ts
+in_front b ts r i j d h l e = counted b ts i d (omega (arith, count_past b ts j l r (ap (λ (t : Float). lt t b) (get_or_default ts j nan d l) ∙ e)))
+
+pub divided : (b : Float) (ts : List Float) (m : ℕ) → rising ts ≡ true → m ≤ length ts → IsPartitionPoint (λ (t : Float). lt t b ≡ true) (λ (t : Float). lt t b ≡ false) ts m
+    → m ≡ count_before b ts
+divided b ts m r h (front, back) = squeezed (least m h front) (most (lt_or_ge m (length ts)))
+  where
+    squeezed : m ≤ count_before b ts → count_before b ts ≤ m → m ≡ count_before b ts
+    squeezed l k = omega arith
+
+    least : (n : ℕ) → n ≤ length ts → ((k : ℕ) (d : Float) → 0 ≤ k → k < n → lt (get_or ts k d) b ≡ true) → n ≤ count_before b ts
+    least zero l f = omega arith
+    least (suc n) l f = omega (arith, count_past b ts n (omega arith) r (f n nan (omega arith) (omega arith)))
+
+    most : (m < length ts) ⊎ (length ts ≤ m) → count_before b ts ≤ m
+    most (inr l) = omega (arith, count_le b ts)
+    most (inl l) = count_short b ts m l (back m nan (omega arith) l)
 
 -- ---- a list filled from its front: count places hold what was written, `rest` is to come, and nothing else stands behind
 
@@ -230,54 +256,22 @@ listing_done ts ns k count fs es ss ps h q l =
 
 -- ---- the call
 
-pub revolutions_refused : (ts ns : List Float) (f e s p k r1 r2 r3 r4 r5 r6 r7 r8 r9 r10 : ℕ) (b7 b8 b9 b10 : Bool) → k ≡ length ns - 1 →
-    b9 ≡ rising ts → b10 ≡ rising ns → b7 ≡ all is_time ts → b8 ≡ all is_time ns →
-    r10 ≡ cond b10 0 5 → r9 ≡ cond b9 r10 5 → r8 ≡ cond b8 r9 4 → r7 ≡ cond b7 r8 4 →
-    r6 ≡ cond (eqb p k) r7 3 → r5 ≡ cond (eqb s k) r6 3 → r4 ≡ cond (eqb e k) r5 3 → r3 ≡ cond (eqb f k) r4 3 →
-    r2 ≡ cond (leb (length ns) 64) r3 2 → r1 ≡ cond (leb (length ts) 100000) r2 2 → r1 ≡ revolutions_refusal ts ns f e s p
-unfolding revolutions_refusal
-revolutions_refused ts ns f e s p k r1 r2 r3 r4 r5 r6 r7 r8 r9 r10 b7 b8 b9 b10 ek h9 h10 h7 h8 e10 e9 e8 e7 e6 e5 e4 e3 e2 e1 =
-    simp (e1, e2, e3, e4, e5, e6, e7, e8, e9, e10, h7, h8, h9, h10, ek)
-
-module _ (ts ns : List Float) (f e s p r : ℕ) (er : r ≡ revolutions_refusal ts ns f e s p) (h : r ≡ 0) where
-  revolutions_fine : (f ≡ length ns - 1) × (e ≡ length ns - 1) × (s ≡ length ns - 1) × (p ≡ length ns - 1) × (rising ts ≡ true)
+module _ (ts ns : List Float) (f e s p : ℕ) (h : revolutions_refusal ts ns f e s p ≡ accepted) where
+  -- what the listing asks for
+  pub revolutions_fine : (rising ts ≡ true) × (f ≡ length ns - 1) × (e ≡ length ns - 1) × (s ≡ length ns - 1) × (p ≡ length ns - 1)
   unfolding revolutions_refusal
   revolutions_fine =
-      let a1 = cond_passes (leb (length ts) 100000) _ 1 (sym er ∙ h) in
-      let a2 = cond_passes (leb (length ns) 64) _ 1 a1.1 in
-      let a3 = cond_passes (eqb f (length ns - 1)) _ 2 a2.1 in
-      let a4 = cond_passes (eqb e (length ns - 1)) _ 2 a3.1 in
-      let a5 = cond_passes (eqb s (length ns - 1)) _ 2 a4.1 in
-      let a6 = cond_passes (eqb p (length ns - 1)) _ 2 a5.1 in
-      let a7 = cond_passes (all is_time ts) _ 3 a6.1 in
-      let a8 = cond_passes (all is_time ns) _ 3 a7.1 in
-      let a9 = cond_passes (rising ts) _ 4 a8.1 in
-      (eqb-true f (length ns - 1) a3.0, eqb-true e (length ns - 1) a4.0, eqb-true s (length ns - 1) a5.0, eqb-true p (length ns - 1) a6.0, a9.0)
+      let a1 = cond_passes (leb (length ts) 100000) _ Count h in
+      let a2 = cond_passes (leb (length ns) 64) _ Count a1.1 in
+      let a3 = cond_passes (eqb f (length ns - 1)) _ Length a2.1 in
+      let a4 = cond_passes (eqb e (length ns - 1)) _ Length a3.1 in
+      let a5 = cond_passes (eqb s (length ns - 1)) _ Length a4.1 in
+      let a6 = cond_passes (eqb p (length ns - 1)) _ Length a5.1 in
+      let a7 = cond_passes (list_all is_time ts) _ Value a6.1 in
+      let a8 = cond_passes (list_all is_time ns) _ Value a7.1 in
+      let a9 = cond_passes (rising ts) _ Order a8.1 in
+      (a9.0, eqb-true f (length ns - 1) a3.0, eqb-true e (length ns - 1) a4.0, eqb-true s (length ns - 1) a5.0, eqb-true p (length ns - 1) a6.0)
 
-  pub places_first : f ≡ length ns - 1
-  places_first = revolutions_fine.0
-
-  pub places_end : e ≡ length ns - 1
-  places_end = revolutions_fine.1
-
-  pub places_start : s ≡ length ns - 1
-  places_start = revolutions_fine.2
-
-  pub places_period : p ≡ length ns - 1
-  places_period = revolutions_fine.3
-
-  pub times_rise : rising ts ≡ true
-  times_rise = revolutions_fine.4
-
-unless_refused_law : (n places : ℕ) (rs : List Revolution) (fs es : List ℕ) (ss ps : List Float) → (n ≡ 0 → ⊥) → listed (NotCounted n) fs es ss ps ≡ listed_unless n places rs fs es ss ps
-unless_refused_law zero places rs fs es ss ps h = absurd (h refl)
-unless_refused_law (suc n) places rs fs es ss ps h = refl
-
-pub listed_refused : (n g places : ℕ) (rs : List Revolution) (fs es : List ℕ) (ss ps : List Float) → n ≡ g → (n ≡ 0 → ⊥) → listed (NotCounted n) fs es ss ps ≡ listed_unless g places rs fs es ss ps
-listed_refused n g places rs fs es ss ps e h = unless_refused_law n places rs fs es ss ps h ∙ ap (λ (k : ℕ). listed_unless k places rs fs es ss ps) e
-
-pub listed_counted : (n g count : ℕ) (ts ns : List Float) (fs es fs₀ es₀ : List ℕ) (ss ps ss₀ ps₀ : List Float) → n ≡ g → n ≡ 0 → Listed ts ns count fs es ss ps →
-    listed (Found count) fs es ss ps ≡ listed_unless g (length ns - 1) (revolutions_of ts ns) fs₀ es₀ ss₀ ps₀
-listed_counted n g count ts ns fs es fs₀ es₀ ss ps ss₀ ps₀ e z l =
-    (λ i. listed (Found (l.counted i)) (l.firsts i) (l.ends i) (l.starts i) (l.periods i))
-    ∙ ap (λ (k : ℕ). listed_unless k (length ns - 1) (revolutions_of ts ns) fs₀ es₀ ss₀ ps₀) (sym z ∙ e)
+pub listed_counted : (v : Verdict) (count : ℕ) (ts ns : List Float) (fs es fs₀ es₀ : List ℕ) (ss ps ss₀ ps₀ : List Float) → v ≡ accepted → Listed ts ns count fs es ss ps →
+    listed (Ok count) fs es ss ps ≡ listed_unless v (length ns - 1) (revolutions_of ts ns) fs₀ es₀ ss₀ ps₀
+listed_counted v count ts ns fs es fs₀ es₀ ss ps ss₀ ps₀ h l = rw h (λ i. listed (Ok (l.counted i)) (l.firsts i) (l.ends i) (l.starts i) (l.periods i))

@@ -5,23 +5,22 @@ use mathlib.Core.Bool.{Bool, true, false, cond, not}
 use Prim.Native.Nat.{ℕ, ◌+◌, ◌-◌, ◌*◌, ◌<◌, ◌≤◌}
 use native.Mathlib.Omega.{arith}
 use lib.Dec.{leb, ltb, eqb}
-use borrow.Author.Tests.{eqb-true, leb-true, le-leb, lt-leb, lt-ltb, le-ltb, ltb-true, ltb-false, not-true, not-false}
+use borrow.Author.Tests.{eqb-true, leb-true, ltb-true, ltb-false, not-true, not-false}
 use borrow.Rule.Slice.PartMut.{mid_of, put_mid, same_len_mid}
 use lib.Ieee.{Float, nan}
 use lib.ListN.{length, take, drop, get_or, drop_of_length-le}
 use Rattle.detrend.specs.Fit.{revolution_of}
 use Rattle.detrend.specs.Revolutions.{revolutions_in, detrended_in, detrended_by, detrended_of}
 use Rattle.detrend.specs.Work.{Detrended, DetrendedAll}
-use lib.Ieee.Scale.{finite}
-use Rattle.laws.specs.Checks.{all, is_time, rising}
 use Rattle.laws.specs.Loops.{head_at}
-use Rattle.slices.specs.Calls.{first_failed}
+use Rattle.slices.specs.Calls.{accepted}
+use Rattle.slices.specs.declared.refusal.Refusal.TheVariants.{Count, Length}
 use Rattle.laws.specs.Bools.{by}
 use Rattle.slices.specs.Slices.{copied}
 use Rattle.slices.proofs.Calls.{cond_passes}
 use Rattle.slices.proofs.SliceLoops.{copied_all}
 use Rattle.detrend.specs.Ranges.{ranges_fit, range_fits}
-use Rattle.detrend.specs.Calls.{detrend_numbers, detrend_refusal}
+use Rattle.detrend.specs.Calls.{detrend_refusal}
 use Rattle.detrend.proofs.PartsInPlace.{take_mid, mid_same, length_mid}
 
 ranges_end : (fs : List ℕ) (n : ℕ) → ranges_fit fs [] n ≡ true
@@ -42,18 +41,6 @@ ranges_at fs es k n h =
     (λ t. let q : length es ≤ k = ltb-false k (length es) t in
     ap (λ (l : List ℕ). ranges_fit (drop k fs) l n) (drop_of_length-le es q) ∙ ranges_end (drop k fs) n
     ∙ sym (simp t (ap (λ (l : List ℕ). ranges_fit (drop (k + 1) fs) l n) (drop_of_length-le es {i = k + 1} (omega arith)) ∙ ranges_end (drop (k + 1) fs) n)))
-
-pub range_yes : (fs es : List ℕ) (k n : ℕ) → k < length es → get_or fs k 0 ≤ get_or es k 0 → leb (get_or es k 0) n ≡ range_fits fs es k n
-unfolding range_fits
-range_yes fs es k n h l = simp (lt-ltb k (length es) h, le-leb (get_or fs k 0) (get_or es k 0) l)
-
-pub range_no : (fs es : List ℕ) (k n : ℕ) → k < length es → get_or es k 0 < get_or fs k 0 → false ≡ range_fits fs es k n
-unfolding range_fits
-range_no fs es k n h l = simp (lt-ltb k (length es) h, lt-leb (get_or fs k 0) (get_or es k 0) l)
-
-pub range_none : (fs es : List ℕ) (k n : ℕ) → length es ≤ k → true ≡ range_fits fs es k n
-unfolding range_fits
-range_none fs es k n h = simp (le-ltb k (length es) h)
 
 pub ranges_go : (fs es : List ℕ) (k n : ℕ) (b g : Bool) → k < length fs → b ≡ range_fits fs es k n → not b ≡ false → ranges_fit (drop k fs) (drop k es) n ≡ g
     → ranges_fit (drop (k + 1) fs) (drop (k + 1) es) n ≡ g
@@ -164,64 +151,18 @@ pub room_kept : (ts vs s c1 c2 : List Float) → length ts ≡ length vs → 8 *
 room_kept ts vs s c1 c2 h room k1 k2 =
     omega (arith, same_len_mid 0 (length ts - 0) s c1 k1, same_len_mid (length ts) (length ts + length ts - length ts) (put_mid 0 (length ts - 0) s c1) c2 k2)
 
-pub numbers_refused : (ts vs ss ps : List Float) (r9 r10 r11 r12 r13 r14 : ℕ) (b9 b10 b11 b12 b13 b14 : Bool) →
-    b13 ≡ rising ts → b14 ≡ rising ss → b11 ≡ all is_time ss → b12 ≡ all finite ps → b9 ≡ all is_time ts → b10 ≡ all finite vs →
-    r14 ≡ cond b14 0 5 → r13 ≡ cond b13 r14 5 → r12 ≡ cond b12 r13 4 → r11 ≡ cond b11 r12 4 → r10 ≡ cond b10 r11 4 → r9 ≡ cond b9 r10 4 → r9 ≡ first_failed (detrend_numbers ts vs ss ps)
-unfolding detrend_numbers
-numbers_refused ts vs ss ps r9 r10 r11 r12 r13 r14 b9 b10 b11 b12 b13 b14 h13 h14 h11 h12 h9 h10 e14 e13 e12 e11 e10 e9 =
-    simp (e9, e10, e11, e12, e13, e14, h9, h10, h11, h12, h13, h14)
-
-pub detrend_refused : (ts vs : List Float) (fs es : List ℕ) (ss ps : List Float) (room r1 r2 r3 r4 r5 r6 r7 r8 r9 : ℕ) (b3 : Bool) →
-    b3 ≡ ranges_fit fs es (length ts) → r9 ≡ first_failed (detrend_numbers ts vs ss ps) →
-    r8 ≡ cond (leb (8 * length ts) room) r9 3 → r7 ≡ cond (eqb (length ps) (length fs)) r8 3 → r6 ≡ cond (eqb (length ss) (length fs)) r7 3 → r5 ≡ cond (eqb (length es) (length fs)) r6 3 →
-    r4 ≡ cond (eqb (length vs) (length ts)) r5 3 → r3 ≡ cond b3 r4 2 → r2 ≡ cond (leb (length ss) 63) r3 2 → r1 ≡ cond (leb (length ts) 100000) r2 2 → r1 ≡ detrend_refusal ts vs fs es ss ps room
+-- what the call on the scratch asks for
+pub detrend_fine : (ts vs : List Float) (fs es : List ℕ) (ss ps : List Float) (room : ℕ) → detrend_refusal ts vs fs es ss ps room ≡ accepted →
+    (length ts ≡ length vs) × (8 * length vs ≤ room) × (length es ≡ length fs) × (length ss ≡ length fs) × (length ps ≡ length fs) × (ranges_fit fs es (length ts) ≡ true)
 unfolding detrend_refusal
-detrend_refused ts vs fs es ss ps room r1 r2 r3 r4 r5 r6 r7 r8 r9 b3 h3 h9 e8 e7 e6 e5 e4 e3 e2 e1 =
-    simp (e1, e2, e3, e4, e5, e6, e7, e8, h3, h9)
-
-pub record Fits (ts vs : List Float) (fs es : List ℕ) (ss ps : List Float) (room : ℕ) : Type 0 where
-  pub inside : ranges_fit fs es (length ts) ≡ true
-  pub values : length vs ≡ length ts
-  pub ends : length es ≡ length fs
-  pub starts : length ss ≡ length fs
-  pub periods : length ps ≡ length fs
-  pub enough : 8 * length ts ≤ room
-
-module _ (ts vs : List Float) (fs es : List ℕ) (ss ps : List Float) (room r : ℕ) (e : r ≡ detrend_refusal ts vs fs es ss ps room) (h : r ≡ 0) where
-  detrend_fine : Fits ts vs fs es ss ps room
-  unfolding detrend_refusal
-  detrend_fine =
-      let a1 = cond_passes (leb (length ts) 100000) _ 1 (sym e ∙ h) in
-      let a2 = cond_passes (leb (length ss) 63) _ 1 a1.1 in
-      let a3 = cond_passes (ranges_fit fs es (length ts)) _ 1 a2.1 in
-      let a4 = cond_passes (eqb (length vs) (length ts)) _ 2 a3.1 in
-      let a5 = cond_passes (eqb (length es) (length fs)) _ 2 a4.1 in
-      let a6 = cond_passes (eqb (length ss) (length fs)) _ 2 a5.1 in
-      let a7 = cond_passes (eqb (length ps) (length fs)) _ 2 a6.1 in
-      let a8 = cond_passes (leb (8 * length ts) room) _ 2 a7.1 in
-      record {
-        inside = a3.0;
-        values = eqb-true (length vs) (length ts) a4.0;
-        ends = eqb-true (length es) (length fs) a5.0;
-        starts = eqb-true (length ss) (length fs) a6.0;
-        periods = eqb-true (length ps) (length fs) a7.0;
-        enough = leb-true (8 * length ts) room a8.0;
-      }
-
-  pub fits_values : length ts ≡ length vs
-  fits_values = sym detrend_fine.values
-
-  pub fits_room : 8 * length vs ≤ room
-  fits_room = omega (arith, detrend_fine.values, detrend_fine.enough)
-
-  pub fits_ends : length es ≡ length fs
-  fits_ends = detrend_fine.ends
-
-  pub fits_starts : length ss ≡ length fs
-  fits_starts = detrend_fine.starts
-
-  pub fits_periods : length ps ≡ length fs
-  fits_periods = detrend_fine.periods
-
-  pub fits_inside : ranges_fit fs es (length ts) ≡ true
-  fits_inside = detrend_fine.inside
+detrend_fine ts vs fs es ss ps room h =
+    let a1 = cond_passes (leb (length ts) 100000) _ Count h in
+    let a2 = cond_passes (leb (length ss) 63) _ Count a1.1 in
+    let a3 = cond_passes (ranges_fit fs es (length ts)) _ Count a2.1 in
+    let a4 = cond_passes (eqb (length vs) (length ts)) _ Length a3.1 in
+    let a5 = cond_passes (eqb (length es) (length fs)) _ Length a4.1 in
+    let a6 = cond_passes (eqb (length ss) (length fs)) _ Length a5.1 in
+    let a7 = cond_passes (eqb (length ps) (length fs)) _ Length a6.1 in
+    let a8 = cond_passes (leb (8 * length ts) room) _ Length a7.1 in
+    let values : length vs ≡ length ts = eqb-true (length vs) (length ts) a4.0 in
+    (sym values, rw values (leb-true (8 * length ts) room a8.0), eqb-true (length es) (length fs) a5.0, eqb-true (length ss) (length fs) a6.0, eqb-true (length ps) (length fs) a7.0, a3.0)

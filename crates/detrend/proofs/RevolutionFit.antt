@@ -10,16 +10,28 @@ use lib.Ieee.{Float, nan}
 use lib.ListN.{length, take, drop, get_or, set}
 use lib.Seq.{get_or-drop, get_or-take, drop-drop, take_all}
 use borrow.Rule.Slice.PartMut.{mid_of, put_mid, put_same, same_len_mid}
-use Rattle.laws.specs.Floats.{◌⊖◌}
+use Rattle.laws.specs.Floats.{◌⊖◌, ◌⊗◌}
 use Rattle.laws.specs.Bools.{by}
-use Rattle.least_squares.specs.LeastSquares.{solvable, solved}
-use Rattle.least_squares.specs.Kernel.{solvable_for, coefficients_of, solved_else}
-use Rattle.least_squares.proofs.KernelShapes.{kernel_is}
+use Rattle.std.specs.Prelude.{cond, Option, Some, None}
+use Rattle.laws.specs.Sums.{sum_to, sum_same}
+use Rattle.least_squares.specs.LeastSquares.{solvable, solved, fitted_at}
+use Rattle.least_squares.specs.Kernel.{estimate}
+use Rattle.least_squares.proofs.KernelShapes.{estimate_is}
 use Rattle.detrend.specs.Fit.{row_of, rows_of, fitted_by, less_fit, all_zero, revolution_of}
 use Rattle.detrend.specs.Revolutions.{revolved_of}
 use Rattle.detrend.specs.Work.{less_rows, Detrended}
 use Rattle.detrend.proofs.PartsInPlace.{take_mid, mid_behind, mid_ahead, mid_mid, mid_same, mid_put_in, put_more, put_none, get_after, length_mid}
 use Rattle.detrend.proofs.DesignRows.{length_rows}
+
+-- ---- what an estimate says
+
+some_says : {A : Type 0} (b : Bool) (x y : A) → cond b (Some x) None ≡ Some y → (b ≡ true) × (y ≡ x)
+some_says true x y e = (refl, cc)
+some_says false x y e = cc
+
+none_says : {A : Type 0} (b : Bool) (x : A) → cond b (Some x) None ≡ None → b ≡ false
+none_says true x e = cc
+none_says false x e = refl
 
 -- ---- values less what their rows give
 
@@ -44,6 +56,12 @@ less_is b start period [] [] h = refl
 less_is b start period [] (v ∷ vs) h = absurd (omega arith)
 less_is b start period (t ∷ ts) [] h = absurd (omega arith)
 less_is b start period (t ∷ ts) (v ∷ vs) h = ap (λ (l : List Float). (v ⊖ fitted_by b (row_of start period t)) ∷ l) (less_is b start period ts vs (omega arith))
+
+-- one row alone
+pub row_fitted : (b row : List Float) (v : Float) → length b ≡ 6 → v ≡ fitted_at row b 6 0 → v ≡ fitted_by b row
+unfolding fitted_at fitted_by
+row_fitted b row v l e =
+    e ∙ sum_same 6 (λ i h. ap (λ (n : ℕ). get_or row n nan ⊗ get_or b i nan) (omega arith)) ∙ sym (ap (sum_to (λ (j : ℕ). get_or row j nan ⊗ get_or b j nan)) l)
 
 pub less_none : (from : ℕ) (s l : List Float) → s ≡ put_mid from 0 s (take 0 l)
 less_none from s l = sym (put_none from s)
@@ -178,28 +196,23 @@ module _ (n first count : ℕ) (start period : Float) (s : List Float) (h : firs
     all_stay : mid_of n n s1 ≡ mid_of n n s
     all_stay = ap (mid_of n n) e1 ∙ mid_ahead n n (n + n) (6 * count) s rows (omega arith) (omega arith) length_rows'
 
-    module _ (b0 : List Float) (eb : length b0 ≡ 6) (f : Bool)
-        (ef : f ≡ solvable_for (mid_of (n + n) (n + n + 6 * count - (n + n)) s1) (mid_of (n + first) (n + first + count - (n + first)) s1) 6 (length b0)) where
-      kernel : (solvable_for (rows_of start period Ts) Vs 6 (length b0) ≡ solvable (rows_of start period Ts) Vs 6)
-          × (coefficients_of (rows_of start period Ts) Vs 6 b0 ≡ solved_else (rows_of start period Ts) Vs 6 b0)
-      kernel = kernel_is (rows_of start period Ts) Vs b0 6 (length_rows start period Ts ∙ omega (arith, length_times, length_values)) (omega arith) eb
+    module _ (o : Option (List Float)) (eo : o ≡ estimate (mid_of (n + n) (n + n + 6 * count - (n + n)) s1) (mid_of (n + first) (n + first + count - (n + first)) s1) 6) where
+      estimated : cond (solvable (rows_of start period Ts) Vs 6) (Some (solved (rows_of start period Ts) Vs 6)) None ≡ o
+      estimated =
+          sym (estimate_is (rows_of start period Ts) Vs 6 (length_rows start period Ts ∙ omega (arith, length_times, length_values)) (omega arith))
+          ∙ sym (λ i. estimate (rows_lent i) (values_lent i) 6) ∙ sym eo
 
-      solvable_is : (g : Bool) → f ≡ g → solvable (rows_of start period Ts) Vs 6 ≡ g
-      solvable_is g q = sym kernel.0 ∙ sym (λ i. solvable_for (rows_lent i) (values_lent i) 6 (length b0)) ∙ sym ef ∙ q
-
-      pub part_none : (z : Bool) → z ≡ all_zero (mid_of (n + first) (n + first + count - (n + first)) s) → z ≡ false → f ≡ false → Detrended n first count start period s s1
-      part_none z e q fq = record {
+      pub part_none : (z : Bool) → z ≡ all_zero (mid_of (n + first) (n + first + count - (n + first)) s) → z ≡ false → o ≡ None → Detrended n first count start period s s1
+      part_none z e q oq = record {
         times = times_stay;
-        values = all_stay ∙ sym (ap (put_mid first count (mid_of n n s)) (revolution_none start period Ts Vs (zero_is z false e q) (solvable_is false fq)) ∙ put_same first count (mid_of n n s));
+        values = all_stay ∙ sym (ap (put_mid first count (mid_of n n s)) (revolution_none start period Ts Vs (zero_is z false e q) (none_says _ _ (estimated ∙ oq))) ∙ put_same first count (mid_of n n s));
       }
 
-      pub part_found : (z : Bool) (b1 s2 : List Float) → z ≡ all_zero (mid_of (n + first) (n + first + count - (n + first)) s) → z ≡ false → f ≡ true →
-          b1 ≡ coefficients_of (mid_of (n + n) (n + n + 6 * count - (n + n)) s1) (mid_of (n + first) (n + first + count - (n + first)) s1) 6 b0 →
+      pub part_found : (z : Bool) (b1 s2 : List Float) → z ≡ all_zero (mid_of (n + first) (n + first + count - (n + first)) s) → z ≡ false → o ≡ Some b1 →
           s2 ≡ put_mid (n + first) count s1 (less_rows b1 (mid_of (n + n) (6 * count) s1) (mid_of (n + first) count s1)) → Detrended n first count start period s s2
-      unfolding solved_else
-      part_found z b1 s2 e q fq e2 es =
-          let so : solvable (rows_of start period Ts) Vs 6 ≡ true = solvable_is true fq in
-          let eb1 : b1 ≡ solved (rows_of start period Ts) Vs 6 = e2 ∙ (λ i. coefficients_of (rows_lent i) (values_lent i) 6 b0) ∙ kernel.1 ∙ simp so in
+      part_found z b1 s2 e q oq es =
+          let so : solvable (rows_of start period Ts) Vs 6 ≡ true = (some_says _ _ b1 (estimated ∙ oq)).0 in
+          let eb1 : b1 ≡ solved (rows_of start period Ts) Vs 6 = (some_says _ _ b1 (estimated ∙ oq)).1 in
           let l : List Float = less_rows b1 (mid_of (n + n) (6 * count) s1) (mid_of (n + first) count s1) in
           let el : l ≡ less_fit (solved (rows_of start period Ts) Vs 6) start period Ts Vs =
           (λ i. less_rows (eb1 i) (rows_are i) (values_stay i)) ∙ less_is (solved (rows_of start period Ts) Vs 6) start period Ts Vs (length_times ∙ sym length_values) in

@@ -4,7 +4,7 @@ use Rattle.std.specs.Prelude.{ℕ, Bool, cond, List, [], ◌∷◌, ◌++◌, Fl
 use Rattle.std.specs.Float.{nan}
 use Rattle.std.specs.Float.Ieee.{eq}
 use Rattle.laws.specs.Floats.{◌⊖◌, ◌⊗◌, ◌⊘◌, zero64, one64, two64}
-use Rattle.laws.specs.Checks.{all}
+use Rattle.std.specs.List.{list_all}
 use Rattle.laws.specs.Sums.{sum_to}
 use Rattle.numbers.specs.Numbers.{sine, cosine}
 use Rattle.numbers.specs.Constants.{angle_from}
@@ -38,7 +38,7 @@ less_fit coefficients start period (t ∷ ts) (v ∷ vs) = (v ⊖ fitted_by coef
 
 -- +0.0 and −0.0 alike
 unfoldable pub all_zero : List Float → Bool
-all_zero vs = all (λ (v : Float). eq v zero64) vs
+all_zero vs = list_all (λ (v : Float). eq v zero64) vs
 
 -- the values of a revolution less their fit; all-zero values and singular fits are passed over
 unfoldable pub revolution_of : Float → Float → List Float → List Float → List Float

@@ -6,9 +6,7 @@ ghost use Rattle.detrend.specs.Work.{RemovedWithin};
 pub fn remove_within(work: &mut [f64], n: usize, nodes: &[f64])
     ensures { RemovedWithin n nodes.now work.old work.new }
 {
-    if n <= work.len() / 8 {
-        if 0 < nodes.len() {
-            crate::work::remove_all(work, n, nodes);
-        }
+    if n <= work.len() / 8 && !nodes.is_empty() {
+        crate::work::remove_all(work, n, nodes);
     }
 }

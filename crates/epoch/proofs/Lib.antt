@@ -1,10 +1,8 @@
 -- Laws of one epoch.
 --
 --   Records   an epoch keeps its time, and its gravity is that of the published series
---   Lookups   what the search for a key answers is what is given of the row found by the key
 --   Kept      the observations as one list, the epochs that are kept of the first of them, and lists filled up
 --   Making    one record made, or none, in a work slice that stays usable
 pub mod Records
-pub mod Lookups
 pub mod Kept
 pub mod Making

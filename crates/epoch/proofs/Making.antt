@@ -1,7 +1,7 @@
 -- One record made, or none, in a work slice that stays usable. Assumes nothing.
 use mathlib.Core.Path.{◌≡◌, refl, sym, ap, ◌∙◌, subst}
-use mathlib.Core.Bool.{Bool, true, false, cond, ◌&&◌, false≢true}
-use mathlib.Core.Option.{Option, none, some}
+use mathlib.Core.Bool.{Bool, true, false, cond, ◌&&◌}
+use Rattle.std.specs.Prelude.{Option, None, Some}
 use mathlib.Core.List.{List, ◌++◌}
 use Prim.Native.Nat.{ℕ, ◌+◌, ◌-◌, ◌≤◌}
 use native.Mathlib.Omega.{arith}
@@ -9,11 +9,11 @@ use lib.Dec.{leb}
 use lib.Ieee.{Float, nan}
 use lib.ListN.{length, take, drop, get_or, replicate, length-append, length-drop, length-replicate}
 use lib.Seq.{length-take-le, get_or-append-add, get_or-drop}
-use borrow.Author.Tests.{leb-true, leb-false, le-leb}
+use borrow.Author.Tests.{leb-true, leb-false}
 use borrow.Rule.Slice.PartMut.{mid_of, put_mid}
 use Rattle.laws.specs.Floats.{zero64}
 use Rattle.laws.specs.Loops.{cleared}
-use Rattle.laws.specs.Bools.{by, both_true}
+use Rattle.laws.specs.Bools.{by}
 use Rattle.finality.specs.Brackets.{covers}
 use Rattle.finality.specs.Sheet.{where_found}
 use Rattle.legendre.specs.Prepared.{prepared}
@@ -25,10 +25,9 @@ use Rattle.integrate.specs.Room.{Only}
 use Rattle.integrate.specs.Work.{front_at}
 use Rattle.integrate.specs.declared.kernel.State.{State}
 use Rattle.epoch.specs.declared.Sighting.{Sighting}
-use Rattle.epoch.specs.declared.Made.{Made}
 use Rattle.epoch.specs.Epoch.{epoch_with}
 use Rattle.epoch.specs.Kept.{record_at, seen_by, is_good, observation}
-use Rattle.epoch.specs.Work.{sighting_from, sighting_of, made_of, Usable, Recorded, Tried, Opened}
+use Rattle.epoch.specs.Work.{sighting_of, Usable, Recorded, Tried, Opened}
 use Rattle.integrate.proofs.Places.{only_same}
 use Rattle.integrate.proofs.Front.{at_length, at_again, prepared_length, front_length, front_gravity, put_front}
 
@@ -100,59 +99,48 @@ not_opened N base w h = record { usable = λ e l. absurd (h l); only = only_same
 
 -- ---- kept or not
 
-module _ (f : State → State → Float → Float → Epoch) where
-  kept_made : (g : Bool) (x y : Option State) (p q : Option Float) (s : Sighting) → s ≡ sighting_of x y p q → (g && s.all) ≡ true →
-      record { kept = true; epoch = f s.c s.d s.axc s.axd } ≡ made_of (cond g (where_found f x y p q) none)
-  unfolding sighting_from
-  kept_made g x y p q s e h = subst (λ (s : Sighting). (g && s.all) ≡ true → record { kept = true; epoch = f s.c s.d s.axc s.axd } ≡ made_of (cond g (where_found f x y p q) none)) (sym e)
-      (cases g x y p q) h
-    where
-      cases : (g : Bool) (x y : Option State) (p q : Option Float) → (g && (sighting_of x y p q).all) ≡ true →
-          record { kept = true; epoch = f (sighting_of x y p q).c (sighting_of x y p q).d (sighting_of x y p q).axc (sighting_of x y p q).axd } ≡ made_of (cond g (where_found f x y p q) none)
-      cases true (some x) (some y) (some p) (some q) h = refl
-      cases true (some x) (some y) (some p) none h = absurd (false≢true h)
-      cases true (some x) (some y) none q h = absurd (false≢true h)
-      cases true (some x) none p q h = absurd (false≢true h)
-      cases true none y p q h = absurd (false≢true h)
-      cases false x y p q h = absurd (false≢true h)
+-- what four look-ups found is found whatever is made of it
+found_is : (f : State → State → Float → Float → Epoch) (x y : Option State) (p q : Option Float) (s : Sighting) → Some s ≡ sighting_of x y p q →
+    Some (f s.c s.d s.axc s.axd) ≡ where_found f x y p q
+found_is f (Some x) (Some y) (Some p) (Some q) s e =
+    let same : s ≡ record { c = x; d = y; axc = p; axd = q } = cc in ap (λ (s : Sighting). Some (f s.c s.d s.axc s.axd)) same
+found_is f (Some x) (Some y) (Some p) None s e = absurd (cc)
+found_is f (Some x) (Some y) None q s e = absurd (cc)
+found_is f (Some x) None p q s e = absurd (cc)
+found_is f None y p q s e = absurd (cc)
 
-  none_made : (g : Bool) (x y : Option State) (p q : Option Float) (s : Sighting) → s ≡ sighting_of x y p q → (g && s.all) ≡ false →
-      made_of none ≡ made_of (cond g (where_found f x y p q) none)
-  unfolding sighting_from
-  none_made g x y p q s e h = cases g x y p q (sym (ap (λ (s : Sighting). g && s.all) e) ∙ h)
-    where
-      cases : (g : Bool) (x y : Option State) (p q : Option Float) → (g && (sighting_of x y p q).all) ≡ false → made_of none ≡ made_of (cond g (where_found f x y p q) none)
-      cases true (some x) (some y) (some p) (some q) h = absurd (false≢true (sym h))
-      cases true (some x) (some y) (some p) none h = refl
-      cases true (some x) (some y) none q h = refl
-      cases true (some x) none p q h = refl
-      cases true none y p q h = refl
-      cases false x y p q h = refl
+missing_is : (f : State → State → Float → Float → Epoch) (x y : Option State) (p q : Option Float) → None ≡ sighting_of x y p q → None ≡ where_found f x y p q
+missing_is f (Some x) (Some y) (Some p) (Some q) e = absurd (cc)
+missing_is f (Some x) (Some y) (Some p) None e = refl
+missing_is f (Some x) (Some y) None q e = refl
+missing_is f (Some x) None p q e = refl
+missing_is f None y p q e = refl
 
-pub first_true : (a b r : Bool) → r ≡ (a && b) → r ≡ true → a ≡ true
-first_true a b r e h = (both_true a b (sym e ∙ h)).0
+module _ (M : Model) (t v : Float) (good base : ℕ) (w : List Float) where
+  abbrev wanted : Bool
+  wanted = is_good good && covers M.fields.field_times t
 
-module _ (M : Model) (t v : Float) (good base : ℕ) (w : List Float) (s : Sighting) (k r : Bool)
-    (ek : k ≡ ((is_good good && covers M.fields.field_times t) && s.all)) (er : r ≡ (leb base (length w) && k)) where
-  -- there is room where a record is made
-  pub has_room : r ≡ true → base ≤ length w
-  has_room h = leb-true base (length w) (first_true (leb base (length w)) k r er h)
-
-  pub tried_kept : (w' : List Float) (e : Epoch) → r ≡ true → Recorded M base w w' (record_at M t v s.c s.d s.axc s.axd) e →
-      Tried M (observation t v good) base s w w' (record { kept = true; epoch = e })
+  pub tried_kept : (w' : List Float) (found : Option Sighting) (s : Sighting) (e : Epoch) → found ≡ Some s → wanted ≡ true
+      → Recorded M base w w' (record_at M t v s.c s.d s.axc s.axd) e → Tried M (observation t v good) base found w w' (Some e)
   unfolding seen_by
-  tried_kept w' e h m = record {
-    is = λ l u x y p q f. ap (λ (e : Epoch). record { kept = true; epoch = e }) (m.is u)
-        ∙ kept_made (record_at M t v) (is_good good && covers M.fields.field_times t) x y p q s f (sym ek ∙ (both_true (leb base (length w)) k (sym er ∙ h)).1);
+  tried_kept w' found s e z h m = record {
+    is = λ l u x y p q f. ap (λ (e : Epoch). Some e) (m.is u) ∙ found_is (record_at M t v) x y p q s (sym z ∙ f) ∙ rw h;
     usable = λ l u. m.usable u;
     only = m.only;
   }
 
-  pub tried_not : (m : Made) → r ≡ false → m ≡ made_of none → Tried M (observation t v good) base s w w m
+  pub tried_not : (found : Option Sighting) → (base ≤ length w → wanted ≡ false) → Tried M (observation t v good) base found w w None
   unfolding seen_by
-  tried_not m h em = record {
-    is = λ l u x y p q f. em
-        ∙ none_made (record_at M t v) (is_good good && covers M.fields.field_times t) x y p q s f (sym ek ∙ sym (ap (λ (z : Bool). z && k) (le-leb base (length w) l)) ∙ sym er ∙ h);
+  tried_not found h = record { is = λ l u x y p q f. rw (h l); usable = λ l u. u; only = only_same 0 base w }
+
+  pub tried_missing : (found : Option Sighting) (r : Option Epoch) → found ≡ None → r ≡ None → Tried M (observation t v good) base found w w r
+  unfolding seen_by
+  tried_missing found r z n = record {
+    is = λ l u x y p q f. n ∙ sym (always wanted _ (missing_is (record_at M t v) x y p q (sym z ∙ f)));
     usable = λ l u. u;
     only = only_same 0 base w;
   }
+    where
+      always : (b : Bool) (o : Option Epoch) → None ≡ o → cond b o None ≡ None
+      always true o e = sym e
+      always false o e = refl

@@ -1,6 +1,6 @@
 -- One epoch over rows by whole second, and the epochs that are kept (document 01, module 5). Assumes nothing.
 use Rattle.std.specs.Prelude.{ℕ, Bool, cond, ◌&&◌, List, ltb, Float, get_or}
-use Rattle.std.proofs.Math.Option.{Option, none}
+use Rattle.std.specs.Prelude.{Option, None}
 use Rattle.std.specs.Float.{nan}
 use Rattle.numbers.specs.Seconds.{whole_second}
 use Rattle.finality.specs.Brackets.{covers}
@@ -29,7 +29,7 @@ Seen = Observation → Option State → Option State → Option Float → Option
 
 -- of a good and covered observation
 abbrev pub seen_with : (Float → Float → State → State → Float → Float → Epoch) → List Float → Seen
-seen_with make times o x y p q = cond (o.good && covers times o.at) (where_found (make o.at o.observed) x y p q) none
+seen_with make times o x y p q = cond (o.good && covers times o.at) (where_found (make o.at o.observed) x y p q) None
 
 unfoldable pub seen_by : Model → Seen
 seen_by m o x y p q = seen_with (record_at m) m.fields.field_times o x y p q

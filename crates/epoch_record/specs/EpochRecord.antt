@@ -2,7 +2,8 @@
 -- Assumes nothing.
 use Rattle.std.specs.Prelude.{Bool, ◌&&◌, List, [], ◌∷◌, map, Float}
 use Rattle.std.specs.Float.Ieee.Scale.{finite}
-use Rattle.laws.specs.Checks.{all, is_time}
+use Rattle.std.specs.List.{list_all}
+use Rattle.laws.specs.Checks.{is_time}
 use Rattle.epoch_record.specs.declared.Epoch.{Epoch}
 
 abbrev pub time : Epoch → Float
@@ -19,7 +20,7 @@ residuals_of es = map residual es
 
 -- a time within its bounds, and every other number finite
 unfoldable pub epoch_fits : Epoch → Bool
-epoch_fits e = is_time e.t && (finite e.residual && (all finite e.terms && (all finite e.mid && all finite e.vel)))
+epoch_fits e = is_time e.t && (finite e.residual && (list_all finite e.terms && (list_all finite e.mid && list_all finite e.vel)))
 
 -- the record with another residual
 abbrev pub with_residual : Epoch → Float → Epoch

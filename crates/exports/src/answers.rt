@@ -1,187 +1,120 @@
 // Answers told in numbers: 0 for acceptance, or the refusal's number; values in a lent list that has a place for each.
-ghost use Rattle.std.specs.Prelude.{◌≡◌, cond, leb, length, replicate};
-ghost use Rattle.laws.specs.Loops.{cleared};
-ghost use Rattle.slices.specs.Answers.{outcome_number, counted_number};
-ghost use Rattle.fields.specs.Calls.{partials_number, judged_partials};
-ghost use Rattle.fit.specs.Calls.{fit_number};
-ghost use Rattle.sheet.specs.Calls.{sheet_number};
-ghost use Rattle.horizon.specs.Calls.{horizon_number};
-ghost use Rattle.exports.specs.Answers.{one, two, four, count_in, counts_in, rms_in, partials_in, time_in};
+ghost use Rattle.std.specs.Prelude.{◌≡◌, ℕ, List, Float, length, replicate};
+ghost use Rattle.slices.specs.Answers.{answer_number};
+ghost use Rattle.exports.specs.Answers.{one, two, four, time, told_in};
 
-pub fn number(outcome: slices::Outcome) -> u8
-    ensures { result ≡ outcome_number outcome }
-{
-    match outcome {
-        slices::Outcome::Accepted => 0,
-        slices::Outcome::Refused(n) => n,
+use slices::Refusal;
+
+// The values of an answer as a list of numbers.
+pub trait Values<A> {
+    // How many numbers there are, and which.
+    ghost places: { ℕ };
+
+    ghost listed: { Self → List A };
+
+    fn put(self, out: &mut [A])
+        requires { length out.old ≡ places }
+        ensures { out.new ≡ listed self };
+}
+
+impl Values<usize> for usize {
+    ghost places = { 1 };
+
+    ghost listed = { one };
+
+    fn put(self, out: &mut [usize]) {
+        out[0] = self;
     }
 }
 
-// ---- values into their places
+impl Values<f64> for f64 {
+    ghost places = { 1 };
 
-fn put_count(counts: &mut [usize], k: usize)
-    requires { length counts.old ≡ 1 }
-    ensures { counts.new ≡ one k }
-{
-    counts[0] = k;
-}
+    ghost listed = { one };
 
-fn put_counts(counts: &mut [usize], kept: usize, last: usize)
-    requires { length counts.old ≡ 2 }
-    ensures { counts.new ≡ two (kept, last) }
-{
-    counts[0] = kept;
-    counts[1] = last;
-}
-
-fn put_number(out: &mut [f64], x: f64)
-    requires { length out.old ≡ 1 }
-    ensures { out.new ≡ one x }
-{
-    out[0] = x;
-}
-
-fn put_four(out: &mut [f64], p: legendre::Partials)
-    requires { length out.old ≡ 4 }
-    ensures { out.new ≡ four p }
-{
-    out[0] = p.v;
-    out[1] = p.dr;
-    out[2] = p.dlat;
-    out[3] = p.dlon;
-}
-
-// ---- after refusal n: 0 in each place where the work was begun, nothing where it was not
-
-fn forget_count(counts: &mut [usize], n: u8)
-    requires { length counts.old ≡ 1 }
-    ensures { counts.new ≡ cond (leb n 5) counts.old (replicate (length counts.old) 0) }
-{
-    if n > 5 {
-        put_count(counts, 0);
+    #[tactic(auto, using(crate::proofs::AnswersTold::one_set))]
+    fn put(self, out: &mut [f64]) {
+        out[0] = self;
     }
 }
 
-fn forget_counts(counts: &mut [usize], n: u8)
-    requires { length counts.old ≡ 2 }
-    ensures { counts.new ≡ cond (leb n 5) counts.old (replicate (length counts.old) 0) }
-{
-    if n > 5 {
-        put_counts(counts, 0, 0);
+// The kept epochs, the final ones.
+impl Values<usize> for sheet::Counts {
+    ghost places = { 2 };
+
+    ghost listed = { two };
+
+    fn put(self, out: &mut [usize]) {
+        out[0] = self.kept;
+        out[1] = self.finals;
     }
 }
 
-fn forget(out: &mut [f64], n: u8)
-    ensures { out.new ≡ cond (leb n 5) out.old (cleared out.old) }
-{
-    if n > 5 {
-        slices::clear(out);
-    }
-}
+impl Values<f64> for legendre::Partials {
+    ghost places = { 4 };
 
-// ---- answers
+    ghost listed = { four };
 
-pub fn store_count(answer: slices::Counted, counts: &mut [usize]) -> u8
-    requires { length counts.old ≡ 1 }
-    ensures number { result ≡ counted_number answer }
-    ensures places { counts.new ≡ count_in answer counts.old }
-{
-    match answer {
-        slices::Counted::Counted(k) => {
-            put_count(counts, k);
-            0
-        }
-        slices::Counted::Refused(n) => {
-            forget_count(counts, n);
-            n
-        }
+    #[tactic(auto, using(crate::proofs::AnswersTold::four_set))]
+    fn put(self, out: &mut [f64]) {
+        out[0] = self.v;
+        out[1] = self.dr;
+        out[2] = self.dlat;
+        out[3] = self.dlon;
     }
-}
-
-// The kept and the final epochs.
-pub fn store_counts(answer: sheet::SheetAnswer, counts: &mut [usize]) -> u8
-    requires { length counts.old ≡ 2 }
-    ensures number { result ≡ sheet_number answer }
-    ensures places { counts.new ≡ counts_in answer counts.old }
-{
-    match answer {
-        sheet::SheetAnswer::Accepted(kept, last) => {
-            put_counts(counts, kept, last);
-            0
-        }
-        sheet::SheetAnswer::Refused(n) => {
-            forget_counts(counts, n);
-            n
-        }
-    }
-}
-
-pub fn store_rms(answer: fit::kernel::Fitted, rms: &mut [f64]) -> u8
-    requires { length rms.old ≡ 1 }
-    ensures number { result ≡ fit_number answer }
-    ensures places { rms.new ≡ rms_in answer rms.old }
-{
-    match answer {
-        fit::kernel::Fitted::Fitted(x) => {
-            put_number(rms, x);
-            0
-        }
-        fit::kernel::Fitted::Refused(n) => {
-            forget(rms, n);
-            n
-        }
-    }
-}
-
-pub fn store_partials(answer: fields::PartialsAnswer, out: &mut [f64]) -> u8
-    requires { length out.old ≡ 4 }
-    ensures number { result ≡ partials_number answer }
-    ensures places { out.new ≡ partials_in answer out.old }
-{
-    match answer {
-        fields::PartialsAnswer::Value(p) => {
-            put_four(out, p);
-            0
-        }
-        fields::PartialsAnswer::Refused(n) => {
-            forget(out, n);
-            n
-        }
-    }
-}
-
-// The four numbers where all are finite, else 10 and +0.0.
-pub fn hand_out(p: legendre::Partials, out: &mut [f64]) -> u8
-    requires { length out.old ≡ 4 }
-    ensures number { result ≡ partials_number (judged_partials p) }
-    ensures places { out.new ≡ partials_in (judged_partials p) out.old }
-{
-    put_four(out, p);
-    if slices::all_finite(&out[..]) {
-        return 0;
-    }
-    slices::clear(out);
-    10
 }
 
 // The horizon's time, −1.0 without one.
-pub fn store_time(answer: horizon::HorizonAnswer, out: &mut [f64]) -> u8
-    requires { length out.old ≡ 1 }
-    ensures number { result ≡ horizon_number answer }
-    ensures places { out.new ≡ time_in answer out.old }
+impl Values<f64> for Option<f64> {
+    ghost places = { 1 };
+
+    ghost listed = { time };
+
+    fn put(self, out: &mut [f64]) {
+        out[0] = self.unwrap_or(-1.0);
+    }
+}
+
+// The number of an answer.
+pub fn number(answer: Result<(), Refusal>) -> u8
+    ensures { result ≡ answer_number answer }
 {
     match answer {
-        horizon::HorizonAnswer::At(z) => {
-            put_number(out, z);
+        Ok(()) => 0,
+        Err(refusal) => u8::from(refusal),
+    }
+}
+
+// kept: a loop, for `fill` asks that copying cannot fail, which is not known of every type.
+fn clear<A: Copy>(nought: A, out: &mut [A])
+    ensures { out.new ≡ replicate (length out.old) nought }
+{
+    for place in out.iter_mut() {
+        *place = nought;
+    }
+}
+
+// The same, and its values in their places: `nought` in each after a refusal during the work, nothing after one before it.
+pub fn store<A: Copy, V: Values<A> + Copy>(
+    answer: Result<V, Refusal>,
+    nought: A,
+    out: &mut [A],
+) -> u8
+    requires { length out.old ≡ V.places }
+    ensures number { result ≡ answer_number answer }
+    ensures values { out.new ≡ told_in nought V.listed answer out.old }
+{
+    match answer {
+        Ok(values) => {
+            values.put(out);
             0
         }
-        horizon::HorizonAnswer::Nothing => {
-            put_number(out, -1.0);
-            0
-        }
-        horizon::HorizonAnswer::Refused(n) => {
-            forget(out, n);
-            n
+        Err(refusal) => {
+            let number = u8::from(refusal);
+            if number > 5 {
+                clear(nought, out);
+            }
+            number
         }
     }
 }

@@ -4,9 +4,11 @@
 // - every other is the public call of the same name, its answer told in numbers: it returns 0 for acceptance or the refusal's number, and its values
 //   go into a lent list that has a place for each, else 3. NaN never leaves them. `prepare` and `partials_prepared` are such calls over the kernel of
 //   `partials`, for many evaluations at one degree: they do not look at the numbers in the tables and in the work slice.
+// kept: the long argument lists, for the C interface lends each list alone.
 #![tactic(auto)]
 
 mod answers;
+mod lent;
 mod places;
 mod prepared;
 
@@ -16,7 +18,7 @@ ghost use Rattle.slices.specs.Calls.{left};
 ghost use Rattle.fields.specs.Calls.{new_call};
 ghost use Rattle.filter.specs.Calls.{band_pass_call};
 ghost use Rattle.detrend.specs.Calls.{detrend_call};
-ghost use Rattle.inputs.specs.Inputs.{model_with, pair_with, observed_of, inputs, lists as sheet_lists};
+ghost use Rattle.inputs.specs.Inputs.{model_with, keyed, pair_with, observed_with, inputs, lists as sheet_lists};
 ghost use Rattle.residuals.specs.Calls.{epoch_columns};
 ghost use Rattle.horizon.specs.Horizon.{final_entries};
 ghost use Rattle.horizon.specs.Calls.{given};
@@ -69,19 +71,20 @@ pub extern "C" fn pozsmeteg_power(a: f64, n: u32, c: f64) -> f64
 }
 
 // What many evaluations at one degree share, into a work slice with C and S in front.
+#[tactic(auto, unfolding(crate::specs::Calls::prepare_told))]
 #[unsafe(no_mangle)]
 pub extern "C" fn pozsmeteg_prepare(degree: usize, work: &mut [f64]) -> u8
     ensures { left result (work.new ∷ []) [] ≡ prepare_told degree work.old }
 {
-    let refused = prepared::prepare_refusal(degree, work.len());
-    if refused != 0 {
-        return refused;
+    if let Err(refusal) = prepared::prepare_refusal(degree, work.len()) {
+        return u8::from(refusal);
     }
     fields::kernel::prepare(degree, work);
     0
 }
 
 // The four numbers from a prepared work slice.
+#[tactic(auto, unfolding(crate::specs::Calls::prepared_answer))]
 #[unsafe(no_mangle)]
 pub extern "C" fn pozsmeteg_partials_prepared(
     degree: usize,
@@ -98,22 +101,24 @@ pub extern "C" fn pozsmeteg_partials_prepared(
     ensures { left result (out.new ∷ []) [] ≡ prepared_told (prepared_answer degree gm radius a.now b.now work.now
         r lat lon (length out.old)) out.old }
 {
-    let refused = prepared::partials_refusal(
+    let place = prepared::place_fine(gm, radius, r, lat, lon);
+    let refusal = prepared::partials_refusal(
         degree,
         a.len(),
         b.len(),
         work.len(),
         out.len(),
-        prepared::place_fine(gm, radius, r, lat, lon),
+        place,
     );
-    if refused != 0 {
-        return refused;
+    if let Err(refusal) = refusal {
+        return u8::from(refusal);
     }
     let z = fields::kernel::partials(degree, gm, radius, a, b, work, r, lat, lon);
-    answers::hand_out(z, out)
+    answers::store(fields::judged(z), 0.0, out)
 }
 
 // The rms goes into the one place of rms.
+#[tactic(auto, unfolding(crate::specs::Calls::fit_told))]
 #[unsafe(no_mangle)]
 pub extern "C" fn pozsmeteg_fit_orbit<'a>(
     degree: usize,
@@ -133,29 +138,26 @@ pub extern "C" fn pozsmeteg_fit_orbit<'a>(
     scratch: &mut [f64],
 ) -> u8
     ensures { told result rms.new (out.new ∷ []) scratch.new ≡ fit_told
-        (model_with degree field.now a.now b.now times.now added.now) keys.now
-        states.now (record { t0 = t0; steps = steps; node = node; period = period }) out.old rms.old
+        (model_with degree field.now a.now b.now times.now added.now) (keyed keys.now states.now)
+        (record { t0 = t0; steps = steps; node = node; period = period }) out.old rms.old
         scratch.old }
 {
     if rms.len() != 1 {
-        return places::fit(degree, times.len(), keys.len(), steps);
+        return answers::number(places::fit(degree, times.len(), keys.len(), steps));
     }
     let arc = integrate::kernel::Arc {
-        t0: t0,
-        steps: steps,
-        node: node,
-        period: period,
+        t0,
+        steps,
+        node,
+        period,
     };
-    let answer = fit::fit_orbit(
-        degree,
-        [field, a, b, times, added],
+    let model = lent::model(degree, field, a, b, times, added);
+    let known = inputs::Keyed {
         keys,
-        states,
-        arc,
-        out,
-        scratch,
-    );
-    answers::store_rms(answer, rms)
+        values: states,
+    };
+    let answer = fit::fit_orbit(model, known, arc, out, scratch);
+    answers::store(answer, 0.0, rms)
 }
 
 #[unsafe(no_mangle)]
@@ -172,6 +174,7 @@ pub extern "C" fn pozsmeteg_legendre_new(
 }
 
 // The four numbers go into the four places of out.
+#[tactic(auto, unfolding(crate::specs::Calls::partials_told))]
 #[unsafe(no_mangle)]
 pub extern "C" fn pozsmeteg_partials(
     degree: usize,
@@ -188,10 +191,10 @@ pub extern "C" fn pozsmeteg_partials(
         out.old scratch.old }
 {
     if out.len() != 4 {
-        return places::partials(degree);
+        return answers::number(places::partials(degree));
     }
     let answer = fields::partials(degree, field, a, b, r, lat, lon, scratch);
-    answers::store_partials(answer, out)
+    answers::store(answer, 0.0, out)
 }
 
 #[unsafe(no_mangle)]
@@ -221,10 +224,17 @@ pub extern "C" fn pozsmeteg_detrend(
         (detrend_call times.now values.old firsts.now ends.now starts.now periods.now
         scratch.old) }
 {
-    answers::number(detrend::detrend(times, values, firsts, ends, starts, periods, scratch))
+    let parts = detrend::Parts {
+        firsts,
+        ends,
+        starts,
+        periods,
+    };
+    answers::number(detrend::detrend(times, values, parts, scratch))
 }
 
 // The count goes into the one place of counts.
+#[tactic(auto, unfolding(crate::specs::Calls::revolutions_told))]
 #[unsafe(no_mangle)]
 pub extern "C" fn pozsmeteg_revolutions(
     times: &[f64],
@@ -240,13 +250,14 @@ pub extern "C" fn pozsmeteg_revolutions(
         counts.old }
 {
     if counts.len() != 1 {
-        return places::revolutions(times.len(), nodes.len());
+        return answers::number(places::revolutions(times.len(), nodes.len()));
     }
     let answer = detrend::revolutions(times, nodes, firsts, ends, starts, periods);
-    answers::store_count(answer, counts)
+    answers::store(answer, 0, counts)
 }
 
 // The count of kept epochs goes into the one place of counts.
+#[tactic(auto, unfolding(crate::specs::Calls::residuals_told))]
 #[unsafe(no_mangle)]
 pub extern "C" fn pozsmeteg_residuals<'a>(
     degree: usize,
@@ -279,12 +290,12 @@ pub extern "C" fn pozsmeteg_residuals<'a>(
         scratch.new ≡ residuals_told (inputs (model_with degree field.now a.now b.now times.now
         added.now) (pair_with ckeys.now cstates.now dkeys.now dstates.now)
         (pair_with cacckeys.now caccs.now dacckeys.now daccs.now))
-        (observed_of obstimes.now obsvalues.now good.now)
+        (observed_with obstimes.now obsvalues.now good.now)
         (epoch_columns outtimes.old outresiduals.old outterms.old outmids.old outvels.old)
         counts.old scratch.old }
 {
     if counts.len() != 1 {
-        return places::residuals(
+        return answers::number(places::residuals(
             degree,
             times.len(),
             ckeys.len(),
@@ -292,18 +303,16 @@ pub extern "C" fn pozsmeteg_residuals<'a>(
             cacckeys.len(),
             dacckeys.len(),
             obstimes.len(),
-        );
+        ));
     }
+    let lent = inputs::Inputs {
+        model: lent::model(degree, field, a, b, times, added),
+        states: lent::pair(ckeys, cstates, dkeys, dstates),
+        accs: lent::pair(cacckeys, caccs, dacckeys, daccs),
+    };
     let answer = residuals::residuals(
-        degree,
-        [field, a, b, times, added],
-        [ckeys, dkeys],
-        [cstates, dstates],
-        [cacckeys, dacckeys],
-        [caccs, daccs],
-        obstimes,
-        obsvalues,
-        good,
+        lent,
+        lent::observed(obstimes, obsvalues, good),
         outtimes,
         outresiduals,
         outterms,
@@ -311,10 +320,11 @@ pub extern "C" fn pozsmeteg_residuals<'a>(
         outvels,
         scratch,
     );
-    answers::store_count(answer, counts)
+    answers::store(answer, 0, counts)
 }
 
 // The whole path; the counts of kept and of final epochs go into the two places of counts.
+#[tactic(auto, unfolding(crate::specs::Calls::sheet_told))]
 #[unsafe(no_mangle)]
 pub extern "C" fn pozsmeteg_sheet<'a>(
     degree: usize,
@@ -348,12 +358,12 @@ pub extern "C" fn pozsmeteg_sheet<'a>(
         (sheet_lists (model_with degree field.now a.now b.now times.now added.now)
         (pair_with ckeys.now cstates.now dkeys.now dstates.now)
         (pair_with cacckeys.now caccs.now dacckeys.now daccs.now) nodes.now
-        (observed_of obstimes.now obsvalues.now good.now))
+        (observed_with obstimes.now obsvalues.now good.now))
         (outtimes.old ∷ outraws.old ∷ outdetrended.old ∷ outpassed.old ∷ []) counts.old
         scratch.old }
 {
     if counts.len() != 2 {
-        return places::sheet(
+        return answers::number(places::sheet(
             degree,
             times.len(),
             ckeys.len(),
@@ -362,69 +372,61 @@ pub extern "C" fn pozsmeteg_sheet<'a>(
             dacckeys.len(),
             nodes.len(),
             obstimes.len(),
-        );
+        ));
     }
-    let answer = sheet::sheet(
-        degree,
-        [field, a, b, times, added],
-        [ckeys, dkeys],
-        [cstates, dstates],
-        [cacckeys, dacckeys],
-        [caccs, daccs],
+    let submission = inputs::Submission {
+        inputs: inputs::Inputs {
+            model: lent::model(degree, field, a, b, times, added),
+            states: lent::pair(ckeys, cstates, dkeys, dstates),
+            accs: lent::pair(cacckeys, caccs, dacckeys, daccs),
+        },
         nodes,
-        obstimes,
-        obsvalues,
-        good,
+        observed: lent::observed(obstimes, obsvalues, good),
+    };
+    let answer = sheet::sheet(
+        submission,
         outtimes,
         outraws,
         outdetrended,
         outpassed,
         scratch,
     );
-    answers::store_counts(answer, counts)
+    answers::store(answer, 0, counts)
 }
 
 // The horizon's time, −1.0 without one, goes into the one place of out.
 #[unsafe(no_mangle)]
-pub extern "C" fn pozsmeteg_horizon(
+pub extern "C" fn pozsmeteg_horizon<'a>(
     nodes: &[f64],
-    cstates: &[i64],
-    dstates: &[i64],
-    caccs: &[i64],
-    daccs: &[i64],
-    fields: &[f64],
-    observed: &[f64],
+    cstates: &'a [i64],
+    dstates: &'a [i64],
+    caccs: &'a [i64],
+    daccs: &'a [i64],
+    fields: &'a [f64],
+    observed: &'a [f64],
     out: &mut [f64],
 ) -> u8
     ensures { told_alone result out.new ≡ horizon_told (given nodes.now cstates.now dstates.now caccs.now
         daccs.now fields.now observed.now) out.old }
 {
+    let tracks = lent::tracks(cstates, dstates, caccs, daccs, fields, observed);
     if out.len() != 1 {
-        return places::horizon(
-            nodes.len(),
-            cstates.len(),
-            dstates.len(),
-            caccs.len(),
-            daccs.len(),
-            fields.len(),
-            observed.len(),
-            0,
-        );
+        return answers::number(places::horizon(nodes.len(), tracks, 0));
     }
-    let answer = horizon::horizon(nodes, cstates, dstates, caccs, daccs, fields, observed);
-    answers::store_time(answer, out)
+    let answer = horizon::horizon(nodes, tracks);
+    answers::store(answer, 0.0, out)
 }
 
 // F, of the kept epochs' times, goes into the one place of counts.
 #[unsafe(no_mangle)]
-pub extern "C" fn pozsmeteg_final_count(
+pub extern "C" fn pozsmeteg_final_count<'a>(
     nodes: &[f64],
-    cstates: &[i64],
-    dstates: &[i64],
-    caccs: &[i64],
-    daccs: &[i64],
-    fields: &[f64],
-    observed: &[f64],
+    cstates: &'a [i64],
+    dstates: &'a [i64],
+    caccs: &'a [i64],
+    daccs: &'a [i64],
+    fields: &'a [f64],
+    observed: &'a [f64],
     kept: &[f64],
     counts: &mut [usize],
 ) -> u8
@@ -432,22 +434,12 @@ pub extern "C" fn pozsmeteg_final_count(
         (given nodes.now cstates.now dstates.now caccs.now daccs.now fields.now
         observed.now) kept.now counts.old }
 {
+    let tracks = lent::tracks(cstates, dstates, caccs, daccs, fields, observed);
     if counts.len() != 1 {
-        return places::horizon(
-            nodes.len(),
-            cstates.len(),
-            dstates.len(),
-            caccs.len(),
-            daccs.len(),
-            fields.len(),
-            observed.len(),
-            kept.len(),
-        );
+        return answers::number(places::horizon(nodes.len(), tracks, kept.len()));
     }
-    let answer = horizon::final_count(
-        nodes, cstates, dstates, caccs, daccs, fields, observed, kept,
-    );
-    answers::store_count(answer, counts)
+    let answer = horizon::final_count(nodes, tracks, kept);
+    answers::store(answer, 0, counts)
 }
 
 // How many entries the final part of a lent list has; it begins where the list does.
@@ -455,6 +447,5 @@ pub extern "C" fn pozsmeteg_final_count(
 pub extern "C" fn pozsmeteg_final_entries(list: &[f64], count: usize) -> usize
     ensures { result ≡ length (final_entries list.now count) }
 {
-    let part = horizon::final_entries(list, count);
-    part.len()
+    horizon::final_entries(list, count).len()
 }

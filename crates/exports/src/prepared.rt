@@ -4,6 +4,8 @@ ghost use Rattle.legendre.specs.Field.{size};
 ghost use Rattle.fields.specs.Calls.{refusal_of as field_refusal, two_tables};
 ghost use Rattle.exports.specs.Calls.{place_fine as fine};
 
+use slices::Refusal;
+
 // L, for a degree up to 180.
 fn size_of(degree: usize) -> usize
     ensures { (degree ≤ 180 → result ≡ size degree) × (result ≤ 16471) }
@@ -11,23 +13,18 @@ fn size_of(degree: usize) -> usize
     inputs::front_size(degree) / 8
 }
 
-pub fn prepare_refusal(degree: usize, work: usize) -> u8
+pub fn prepare_refusal(degree: usize, work: usize) -> Result<(), Refusal>
     ensures { result ≡ field_refusal degree (leb (8 * size degree) work) true }
 {
-    let l = size_of(degree);
-    slices::unless(
-        inputs::degree_fine(degree),
-        1,
-        slices::unless(8 * l <= work, 3, 0),
-    )
+    slices::tested(inputs::degree_fine(degree), Refusal::Degree)?;
+    slices::tested(8 * size_of(degree) <= work, Refusal::Length)
 }
 
 pub fn place_fine(gm: f64, radius: f64, r: f64, lat: f64, lon: f64) -> bool
     ensures { result ≡ fine gm radius r lat lon }
 {
-    let field = slices::both(numbers::is_finite(gm), numbers::is_finite(radius));
-    let angles = slices::both(numbers::is_finite(lat), numbers::is_finite(lon));
-    slices::both(field, slices::both(numbers::is_finite(r), angles))
+    (numbers::is_finite(gm) && numbers::is_finite(radius))
+        && (numbers::is_finite(r) && (numbers::is_finite(lat) && numbers::is_finite(lon)))
 }
 
 // Tables of l numbers, a work slice of 8·l or more, four places.
@@ -35,8 +32,7 @@ fn lengths_fit(l: usize, a: usize, b: usize, work: usize, out: usize) -> bool
     requires { l ≤ 16471 }
     ensures { result ≡ (two_tables l a b work && eqb out 4) }
 {
-    let tables = slices::both(a == l, slices::both(b == l, 8 * l <= work));
-    slices::both(tables, out == 4)
+    (a == l && (b == l && 8 * l <= work)) && out == 4
 }
 
 pub fn partials_refusal(
@@ -46,13 +42,13 @@ pub fn partials_refusal(
     work: usize,
     out: usize,
     values: bool,
-) -> u8
+) -> Result<(), Refusal>
     ensures { result ≡ field_refusal degree (two_tables (size degree) a b work && eqb out 4) values }
 {
-    let shape = lengths_fit(size_of(degree), a, b, work, out);
-    slices::unless(
-        inputs::degree_fine(degree),
-        1,
-        slices::unless(shape, 3, slices::unless(values, 4, 0)),
-    )
+    slices::tested(inputs::degree_fine(degree), Refusal::Degree)?;
+    slices::tested(
+        lengths_fit(size_of(degree), a, b, work, out),
+        Refusal::Length,
+    )?;
+    slices::tested(values, Refusal::Value)
 }

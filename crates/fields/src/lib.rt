@@ -3,29 +3,20 @@
 
 pub mod kernel;
 
-ghost use Rattle.std.specs.Prelude.{◌≡◌, [], ◌∷◌, ◌++◌, ℕ, ◌+◌, ◌*◌, ◌≤◌, ◌<◌, length, take};
+ghost use Rattle.std.specs.Prelude.{◌≡◌, [], ◌∷◌, ◌++◌, ℕ, ◌+◌, ◌*◌, ◌≤◌, ◌<◌, cond, Ok, Err, length, take};
+ghost use Rattle.laws.specs.Checks.{degree_fine};
 ghost use Rattle.laws.specs.Tables.{tri, row, rows};
 ghost use Rattle.slices.specs.Calls.{left};
+ghost use Rattle.slices.specs.declared.refusal.Refusal.TheVariants.{Degree};
 ghost use Rattle.legendre.specs.Field.{size, Fits};
 ghost use Rattle.fields.specs.Rescaled.{rescaled_at};
-ghost use Rattle.fields.specs.Calls.{index_of, finite_partials, acceleration_call, two_tables, field_and, four_tables, refusal_of, handed_two, handed_one};
+ghost use Rattle.fields.specs.Calls.{index_of, finite_partials, finite_neu, acceleration_call, two_tables, field_and, four_tables, refusal_of, unfit, handed_two, handed_one};
 ghost use Rattle.fields.specs.Calls.{new_call, rescaled_call, compute_call, derive_call, judged_partials, place_fine, partials_of_field, partials_call};
 
 use legendre;
 use numbers;
 use slices;
-
-#[derive(Clone, Copy)]
-pub enum Index {
-    At(usize),
-    Refused(u8),
-}
-
-#[derive(Clone, Copy)]
-pub enum PartialsAnswer {
-    Value(legendre::Partials),
-    Refused(u8),
-}
+use slices::Refusal;
 
 #[derive(Clone, Copy)]
 pub struct NorthEastUp {
@@ -34,76 +25,71 @@ pub struct NorthEastUp {
     pub up: f64,
 }
 
-#[derive(Clone, Copy)]
-pub enum AccelerationAnswer {
-    Value(NorthEastUp),
-    Refused(u8),
-}
-
 // The place of degree n and order m in a triangular table.
-pub fn idx(n: usize, m: usize) -> Index
+#[tactic(auto, unfolding(crate::specs::Calls::index_of))]
+pub fn idx(n: usize, m: usize) -> Result<usize, Refusal>
     ensures { result ≡ index_of n m }
 {
-    if m > n {
-        return Index::Refused(2);
+    if m <= n && n <= 180 {
+        return Ok(numbers::triangle(n) + m);
     }
-    if n > 180 {
-        return Index::Refused(2);
-    }
-    Index::At(n * (n + 1) / 2 + m)
+    Err(Refusal::Count)
 }
 
 // ---- what is refused
 
-// L, and 0 above degree 180.
-fn size_of(degree: usize) -> usize
-    ensures { (degree ≤ 180 → result ≡ size degree) × (result ≤ 16471) × (180 < degree → result ≡ 0) }
+// L, for a degree within its bounds.
+fn size_of(degree: usize) -> Result<usize, Refusal>
+    ensures value { result ≡ cond (degree_fine degree) (Ok (size degree)) (Err Degree) }
+    ensures small { (l : ℕ) → result ≡ Ok l → l ≤ 16471 }
 {
-    if degree > 180 {
-        return 0;
+    if 2 <= degree && degree <= 180 {
+        return Ok(numbers::triangle(degree + 1));
     }
-    let n = degree + 1;
-    n * (n + 1) / 2
+    Err(Refusal::Degree)
 }
 
 fn two_tables(l: usize, x: usize, y: usize, scratch: usize) -> bool
     requires { l ≤ 16471 }
     ensures { result ≡ two_tables l x y scratch }
 {
-    slices::both(x == l, slices::both(y == l, 8 * l <= scratch))
+    x == l && (y == l && 8 * l <= scratch)
 }
 
-fn verdict(degree: usize, shape: bool, values: bool) -> u8
-    ensures { result ≡ refusal_of degree shape values }
+fn verdict(shape: bool, values: bool) -> Result<(), Refusal>
+    ensures { result ≡ unfit shape values }
 {
-    let fine = slices::both(2 <= degree, degree <= 180);
-    slices::unless(
-        fine,
-        1,
-        slices::unless(shape, 3, slices::unless(values, 4, 0)),
-    )
+    slices::tested(shape, Refusal::Length)?;
+    slices::tested(values, Refusal::Value)
 }
 
-fn tables_refusal(degree: usize, x: usize, y: usize, scratch: usize, values: bool) -> u8
+fn tables_refusal(
+    degree: usize,
+    x: usize,
+    y: usize,
+    scratch: usize,
+    values: bool,
+) -> Result<(), Refusal>
     ensures { result ≡ refusal_of degree (two_tables (size degree) x y scratch) values }
 {
-    let l = size_of(degree);
-    verdict(degree, two_tables(l, x, y, scratch), values)
+    let l = size_of(degree)?;
+    verdict(two_tables(l, x, y, scratch), values)
 }
 
-fn field_refusal(
+// Those of a call on a field and two tables, which crate `forces` has too.
+pub fn field_refusal(
     degree: usize,
     field: usize,
     x: usize,
     y: usize,
     scratch: usize,
     values: bool,
-) -> u8
+) -> Result<(), Refusal>
     ensures { result ≡ refusal_of degree (field_and (size degree) field x y scratch) values }
 {
-    let l = size_of(degree);
-    let shape = slices::both(field == 2 + 2 * l, two_tables(l, x, y, scratch));
-    verdict(degree, shape, values)
+    let l = size_of(degree)?;
+    let shape = field == 2 + 2 * l && two_tables(l, x, y, scratch);
+    verdict(shape, values)
 }
 
 fn compute_refusal(
@@ -114,57 +100,56 @@ fn compute_refusal(
     dp: usize,
     scratch: usize,
     values: bool,
-) -> u8
+) -> Result<(), Refusal>
     ensures { result ≡ refusal_of degree (four_tables (size degree) a b p dp scratch) values }
 {
-    let l = size_of(degree);
-    let shape = slices::both(two_tables(l, a, b, scratch), two_tables(l, p, dp, scratch));
-    verdict(degree, shape, values)
+    let l = size_of(degree)?;
+    let shape = two_tables(l, a, b, scratch) && two_tables(l, p, dp, scratch);
+    verdict(shape, values)
 }
 
 // ---- what is handed out
 
-// Handed out where finite, else refused 10 and cleared.
-fn hand_two(x: &mut [f64], y: &mut [f64]) -> slices::Outcome
+// Handed out where finite, else refused and cleared.
+pub fn hand_two(x: &mut [f64], y: &mut [f64]) -> Result<(), Refusal>
     ensures { left result (x.new ∷ y.new ∷ []) [] ≡ handed_two x.old y.old }
 {
-    if slices::both(slices::all_finite(&x[..]), slices::all_finite(&y[..])) {
-        return slices::Outcome::Accepted;
+    if slices::all_finite(&x[..]) && slices::all_finite(&y[..]) {
+        return Ok(());
     }
     slices::clear(x);
     slices::clear(y);
-    slices::Outcome::Refused(10)
+    Err(Refusal::NotFinite)
 }
 
-fn hand_one(x: &mut [f64]) -> slices::Outcome
+fn hand_one(x: &mut [f64]) -> Result<(), Refusal>
     ensures { left result (x.new ∷ []) [] ≡ handed_one x.old }
 {
     if slices::all_finite(&x[..]) {
-        return slices::Outcome::Accepted;
+        return Ok(());
     }
     slices::clear(x);
-    slices::Outcome::Refused(10)
+    Err(Refusal::NotFinite)
 }
 
 fn finite_partials(p: legendre::Partials) -> bool
     ensures { result ≡ finite_partials p }
 {
-    slices::both(
-        numbers::is_finite(p.v),
-        slices::both(
-            numbers::is_finite(p.dr),
-            slices::both(numbers::is_finite(p.dlat), numbers::is_finite(p.dlon)),
-        ),
-    )
+    numbers::is_finite(p.v)
+        && (numbers::is_finite(p.dr) && (numbers::is_finite(p.dlat) && numbers::is_finite(p.dlon)))
 }
 
-fn judged(z: legendre::Partials) -> PartialsAnswer
+fn finite_neu(a: NorthEastUp) -> bool
+    ensures { result ≡ finite_neu a }
+{
+    numbers::is_finite(a.north) && (numbers::is_finite(a.east) && numbers::is_finite(a.up))
+}
+
+pub fn judged(z: legendre::Partials) -> Result<legendre::Partials, Refusal>
     ensures { result ≡ judged_partials z }
 {
-    if finite_partials(z) {
-        return PartialsAnswer::Value(z);
-    }
-    PartialsAnswer::Refused(10)
+    slices::tested(finite_partials(z), Refusal::NotFinite)?;
+    Ok(z)
 }
 
 // ---- the calls
@@ -175,16 +160,13 @@ pub fn legendre_new(
     a: &mut [f64],
     b: &mut [f64],
     scratch: &mut [f64],
-) -> slices::Outcome
+) -> Result<(), Refusal>
     ensures { left result (a.new ∷ b.new ∷ []) scratch.new ≡ new_call degree a.old b.old
         scratch.old }
 {
-    let n = tables_refusal(degree, a.len(), b.len(), scratch.len(), true);
-    if n != 0 {
-        return slices::Outcome::Refused(n);
-    }
-    legendre::tabulate(legendre::Factor::RecursionA, degree, a);
-    legendre::tabulate(legendre::Factor::RecursionB, degree, b);
+    tables_refusal(degree, a.len(), b.len(), scratch.len(), true)?;
+    legendre::tabulate(legendre::a_of, degree, a);
+    legendre::tabulate(legendre::b_of, degree, b);
     slices::clear(scratch);
     hand_two(a, b)
 }
@@ -203,11 +185,9 @@ fn rescaled_row(
     ensures { take (k + (n + 1)) out.new ≡ take k out.old ++ row (rescaled_at start gm radius field.now n) (n + 1) }
 {
     let f = kernel::factor(gm, radius, field, n);
-    let mut m = 0;
-    while m <= n {
+    for m in 0..n + 1 {
         let i = k + m;
         out[i] = field[start + i] * f;
-        m += 1;
     }
 }
 
@@ -215,12 +195,8 @@ fn rescaled_rows(degree: usize, start: usize, gm: f64, radius: f64, field: &[f64
     requires { (degree ≤ 180) × (2 ≤ start) × (start + size degree ≤ length field.now) × (length out.old ≡ size degree) }
     ensures { out.new ≡ rows (rescaled_at start gm radius field.now) (degree + 1) }
 {
-    let mut k = 0;
-    let mut n = 0;
-    while n <= degree {
-        rescaled_row(n, k, start, gm, radius, field, out);
-        k += n + 1;
-        n += 1;
+    for n in 0..degree + 1 {
+        rescaled_row(n, numbers::triangle(n), start, gm, radius, field, out);
     }
 }
 
@@ -231,12 +207,12 @@ fn rescaled_both(
     radius: f64,
     cosines: &mut [f64],
     sines: &mut [f64],
-) -> slices::Outcome
+) -> Result<(), Refusal>
     requires { (degree ≤ 180) × (length field.now ≡ 2 + 2 * size degree) × (length cosines.old ≡ size degree) × (length sines.old ≡ size degree) }
     ensures { left result (cosines.new ∷ sines.new ∷ []) [] ≡ handed_two (rows (rescaled_at 2 gm radius field.now) (degree + 1))
         (rows (rescaled_at (2 + size degree) gm radius field.now) (degree + 1)) }
 {
-    let start = 2 + size_of(degree);
+    let start = 2 + numbers::triangle(degree + 1);
     rescaled_rows(degree, 2, gm, radius, field, cosines);
     rescaled_rows(degree, start, gm, radius, field, sines);
     hand_two(cosines, sines)
@@ -251,43 +227,35 @@ pub fn rescaled(
     cosines: &mut [f64],
     sines: &mut [f64],
     scratch: &mut [f64],
-) -> slices::Outcome
+) -> Result<(), Refusal>
     ensures { left result (cosines.new ∷ sines.new ∷ []) scratch.new ≡ rescaled_call degree field.now gm radius
         cosines.old sines.old scratch.old }
 {
-    let values = slices::both(
-        slices::all_finite(field),
-        slices::both(numbers::is_finite(gm), numbers::is_finite(radius)),
-    );
-    let n = field_refusal(
+    let values = slices::all_finite(field)
+        && (numbers::is_finite(gm) && numbers::is_finite(radius));
+    field_refusal(
         degree,
         field.len(),
         cosines.len(),
         sines.len(),
         scratch.len(),
         values,
-    );
-    if n != 0 {
-        return slices::Outcome::Refused(n);
-    }
+    )?;
     slices::clear(scratch);
     rescaled_both(degree, field, gm, radius, cosines, sines)
 }
 
 // The derivative of a table by latitude.
-pub fn derive(degree: usize, p: &[f64], dp: &mut [f64], scratch: &mut [f64]) -> slices::Outcome
+pub fn derive(degree: usize, p: &[f64], dp: &mut [f64], scratch: &mut [f64]) -> Result<(), Refusal>
     ensures { left result (dp.new ∷ []) scratch.new ≡ derive_call degree p.now dp.old scratch.old }
 {
-    let n = tables_refusal(
+    tables_refusal(
         degree,
         p.len(),
         dp.len(),
         scratch.len(),
         slices::all_finite(p),
-    );
-    if n != 0 {
-        return slices::Outcome::Refused(n);
-    }
+    )?;
     legendre::prepare(degree, scratch);
     legendre::derive(degree, p, &scratch[..], dp);
     slices::clear(scratch);
@@ -303,15 +271,12 @@ pub fn compute_with_derivative(
     p: &mut [f64],
     dp: &mut [f64],
     scratch: &mut [f64],
-) -> slices::Outcome
+) -> Result<(), Refusal>
     ensures { left result (p.new ∷ dp.new ∷ []) scratch.new ≡ compute_call degree a.now b.now lat
         p.old dp.old scratch.old }
 {
-    let values = slices::both(
-        slices::all_finite(a),
-        slices::both(slices::all_finite(b), numbers::is_finite(lat)),
-    );
-    let n = compute_refusal(
+    let values = slices::all_finite(a) && (slices::all_finite(b) && numbers::is_finite(lat));
+    compute_refusal(
         degree,
         a.len(),
         b.len(),
@@ -319,10 +284,7 @@ pub fn compute_with_derivative(
         dp.len(),
         scratch.len(),
         values,
-    );
-    if n != 0 {
-        return slices::Outcome::Refused(n);
-    }
+    )?;
     legendre::prepare(degree, scratch);
     legendre::compute(degree, a, b, &scratch[..], lat, p, dp);
     slices::clear(scratch);
@@ -330,7 +292,7 @@ pub fn compute_with_derivative(
 }
 
 // The value from a scratch slice that will be cleared.
-fn partials_in(
+pub fn partials_in(
     degree: usize,
     field: &[f64],
     a: &[f64],
@@ -343,7 +305,7 @@ fn partials_in(
     requires { (length field.now ≡ 2 + 2 * size degree) × Fits degree (length a.now) (length b.now) (length scratch.old) }
     ensures { result ≡ partials_of_field degree field.now a.now b.now r lat lon }
 {
-    let l2 = 2 * size_of(degree);
+    let l2 = 2 * numbers::triangle(degree + 1);
     let end = field.len();
     legendre::prepare(degree, scratch);
     slices::copy(&field[2..end], &mut scratch[0..l2]);
@@ -353,15 +315,8 @@ fn partials_in(
 fn values_fine(field: &[f64], a: &[f64], b: &[f64], r: f64, lat: f64, lon: f64) -> bool
     ensures { result ≡ place_fine field.now a.now b.now r lat lon }
 {
-    let place = slices::both(
-        numbers::is_finite(r),
-        slices::both(numbers::is_finite(lat), numbers::is_finite(lon)),
-    );
-    let tables = slices::both(slices::all_finite(b), place);
-    slices::both(
-        slices::all_finite(field),
-        slices::both(slices::all_finite(a), tables),
-    )
+    let place = numbers::is_finite(r) && (numbers::is_finite(lat) && numbers::is_finite(lon));
+    slices::all_finite(field) && (slices::all_finite(a) && (slices::all_finite(b) && place))
 }
 
 // The potential and its derivatives by radius, latitude and longitude.
@@ -374,41 +329,33 @@ pub fn partials(
     lat: f64,
     lon: f64,
     scratch: &mut [f64],
-) -> PartialsAnswer
+) -> Result<legendre::Partials, Refusal>
     ensures { left result [] scratch.new ≡ partials_call degree field.now a.now b.now r lat lon
         scratch.old }
 {
     let values = values_fine(field, a, b, r, lat, lon);
-    let n = field_refusal(degree, field.len(), a.len(), b.len(), scratch.len(), values);
-    if n != 0 {
-        return PartialsAnswer::Refused(n);
-    }
+    field_refusal(degree, field.len(), a.len(), b.len(), scratch.len(), values)?;
     let z = partials_in(degree, field, a, b, r, lat, lon, scratch);
     slices::clear(scratch);
     judged(z)
 }
 
 // North, east and up from the partials.
-pub fn acceleration_neu(partials: legendre::Partials, r: f64, lat: f64) -> AccelerationAnswer
+#[tactic(auto, unfolding(crate::specs::Calls::acceleration_call))]
+pub fn acceleration_neu(
+    partials: legendre::Partials,
+    r: f64,
+    lat: f64,
+) -> Result<NorthEastUp, Refusal>
     ensures { result ≡ acceleration_call partials r lat }
 {
-    let place = slices::both(numbers::is_finite(r), numbers::is_finite(lat));
-    if !slices::both(finite_partials(partials), place) {
-        return AccelerationAnswer::Refused(4);
-    }
-    let north = partials.dlat / r;
-    let east = partials.dlon / (r * numbers::cosine(lat));
-    let up = partials.dr;
-    let fine = slices::both(
-        numbers::is_finite(north),
-        slices::both(numbers::is_finite(east), numbers::is_finite(up)),
-    );
-    if fine {
-        return AccelerationAnswer::Value(NorthEastUp {
-            north: north,
-            east: east,
-            up: up,
-        });
-    }
-    AccelerationAnswer::Refused(10)
+    let place = numbers::is_finite(r) && numbers::is_finite(lat);
+    slices::tested(finite_partials(partials) && place, Refusal::Value)?;
+    let a = NorthEastUp {
+        north: partials.dlat / r,
+        east: partials.dlon / (r * numbers::cosine(lat)),
+        up: partials.dr,
+    };
+    slices::tested(finite_neu(a), Refusal::NotFinite)?;
+    Ok(a)
 }

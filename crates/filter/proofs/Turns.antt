@@ -3,8 +3,9 @@ use mathlib.Core.Path.{◌≡◌, refl, sym, ap, ◌∙◌}
 use mathlib.Core.List.{List, [], ◌∷◌, ◌++◌, append_assoc, append-nil, reverse, reverse-append}
 use mathlib.Core.Bool.{Bool, true, false, cond}
 use lib.Dec.{ltb}
+use mir.Val.{bool_byte}
 use mathlib.Core.Logic.{◌⊎◌, inl, inr}
-use Prim.Native.Nat.{ℕ, suc, ◌+◌, ◌-◌, ◌<◌, ◌≤◌, min}
+use Prim.Native.Nat.{ℕ, suc, ◌+◌, ◌-◌, ◌*◌, ◌/◌, ◌<◌, ◌≤◌}
 use native.Mathlib.Omega.{arith}
 use lib.ListN.{length, take, drop, get_or, set, length-take, length-drop, length-reverse, length-append, take-append-drop, drop_of_length-le}
 use lib.Seq.{get_or-drop, drop-drop, take_at, drop_at}
@@ -12,58 +13,22 @@ use borrow.Author.Tests.{lt-ltb, le-ltb}
 use borrow.Rule.Slice.PartMut.{put_mid, mid_of, same_len_mid, mid_len}
 use lib.Ieee.{Float, nan}
 use Rattle.laws.specs.Floats.{◌⊖◌, ◌⊗◌, two64, zero64}
-use Rattle.laws.specs.Loops.{cleared, head_at, turn, turn_done, fill_turn, fill_done}
+use Rattle.laws.specs.Loops.{cleared, head_at, fill_turn, fill_done}
 use Rattle.laws.specs.Runs.{splits, grown, runs_of, pass_runs, passed}
 use Rattle.slices.specs.Slices.{copied}
 use Rattle.slices.proofs.SliceLoops.{copied_all, take_reverse}
 use Rattle.filter.specs.Sections.{sections_of}
 use Rattle.filter.specs.Calls.{long_runs}
-use Rattle.filter.specs.Filter.{rest, step_of, through_one, through, reflected, pad_before, pad_after, padded, both_ways, filtfilt, pass_by}
+use Rattle.filter.specs.Filter.{through_one, through, reflected, pad_before, pad_after, padded, both_ways, filtfilt, pass_by}
 use Rattle.filter.specs.declared.Biquad.{Biquad}
 use Rattle.filter.specs.declared.BiquadMemory.{BiquadMemory}
-use Rattle.filter.specs.declared.Step.{Step}
 
--- ---- one section, and four
-
--- a loop over x in place: what is done, and a function f of what is to do, which makes y of the next sample and goes on as g
-in_place : (f g : List Float → List Float) (x goal : List Float) (i : ℕ) (y : Float) → i < length x →
-    f (get_or x i nan ∷ drop (i + 1) x) ≡ y ∷ g (drop (i + 1) x) → take i x ++ f (drop i x) ≡ goal → take (i + 1) (set x i y) ++ g (drop (i + 1) (set x i y)) ≡ goal
-in_place f g x goal i y h e inv = turn g x i y h ∙ ap (λ (l : List Float). take i x ++ l) (sym (ap f (head_at x i nan h) ∙ e)) ∙ inv
-
-step_one : (s : Biquad) (m : BiquadMemory) (v : Float) (l : List Float) (r : Step) → r ≡ step_of s m v → through_one s m (v ∷ l) ≡ r.sample ∷ through_one s r.memory l
-step_one s m v l r e = rw e
-
-pub section_turn : (s : Biquad) (m : BiquadMemory) (x goal : List Float) (i : ℕ) → i < length x →
-    take i x ++ through_one s m (drop i x) ≡ goal → (r : Step) → r ≡ step_of s m (get_or x i nan) →
-    take (i + 1) (set x i r.sample) ++ through_one s r.memory (drop (i + 1) (set x i r.sample)) ≡ goal
-section_turn s m x goal i h inv r e = in_place (through_one s m) (through_one s r.memory) x goal i r.sample h (step_one s m (get_or x i nan) (drop (i + 1) x) r e) inv
-
-pub section_done : (s : Biquad) (m : BiquadMemory) (x goal : List Float) (i : ℕ) → length x ≤ i →
-    take i x ++ through_one s m (drop i x) ≡ goal → x ≡ goal
-section_done s m x goal i h inv = sym (turn_done x _ i h (ap (through_one s m) (drop_of_length-le x h))) ∙ inv
+-- ---- four sections
 
 -- a list through four sections that remember k, l, m and n
 module _ (a b c d : Biquad) where
   abbrev pub through_four : BiquadMemory → BiquadMemory → BiquadMemory → BiquadMemory → List Float → List Float
   through_four k l m n x = through_one d n (through_one c m (through_one b l (through_one a k x)))
-
-  pub four_turn : (k l m n : BiquadMemory) (x goal : List Float) (i : ℕ) → i < length x → take i x ++ through_four k l m n (drop i x) ≡ goal → (r1 r2 r3 r4 : Step) →
-      r1 ≡ step_of a k (get_or x i nan) → r2 ≡ step_of b l r1.sample → r3 ≡ step_of c m r2.sample → r4 ≡ step_of d n r3.sample →
-      take (i + 1) (set x i r4.sample) ++ through_four r1.memory r2.memory r3.memory r4.memory (drop (i + 1) (set x i r4.sample)) ≡ goal
-  four_turn k l m n x goal i h inv r1 r2 r3 r4 e1 e2 e3 e4 =
-      let t0 : List Float = drop (i + 1) x in
-      let t1 : List Float = through_one a r1.memory t0 in
-      let t2 : List Float = through_one b r2.memory t1 in
-      let t3 : List Float = through_one c r3.memory t2 in
-      in_place (through_four k l m n) (through_four r1.memory r2.memory r3.memory r4.memory) x goal i r4.sample h
-      (ap (λ (y : List Float). through_one d n (through_one c m (through_one b l y))) (step_one a k (get_or x i nan) t0 r1 e1)
-      ∙ ap (λ (y : List Float). through_one d n (through_one c m y)) (step_one b l r1.sample t1 r2 e2)
-      ∙ ap (through_one d n) (step_one c m r2.sample t2 r3 e3)
-      ∙ step_one d n r3.sample t3 r4 e4)
-      inv
-
-  pub four_done : (k l m n : BiquadMemory) (x goal : List Float) (i : ℕ) → length x ≤ i → take i x ++ through_four k l m n (drop i x) ≡ goal → x ≡ goal
-  four_done k l m n x goal i h inv = sym (turn_done x _ i h (ap (through_four k l m n) (drop_of_length-le x h))) ∙ inv
 
 -- ---- sections
 
@@ -93,23 +58,8 @@ sections_none (a ∷ b ∷ c ∷ []) h = refl
 sections_none (a ∷ b ∷ c ∷ d ∷ []) h = refl
 sections_none (a ∷ b ∷ c ∷ d ∷ e ∷ l) h = absurd (omega arith)
 
-pub one_more : (cs x x' goal : List Float) (at : ℕ) (s : Biquad) → sections_of (drop at cs) ≡ s ∷ sections_of (drop (at + 5) cs) → through (sections_of (drop at cs)) x ≡ goal →
-    x' ≡ through_one s rest x → through (sections_of (drop (at + 5) cs)) x' ≡ goal
-one_more cs x x' goal at s e inv ex = ap (through (sections_of (drop (at + 5) cs))) ex ∙ ap (λ (ss : List Biquad). through ss x) (sym e) ∙ inv
-
-pub four_more : (cs x x' goal : List Float) (at : ℕ) (a b c d : Biquad) →
-    sections_of (drop at cs) ≡ a ∷ sections_of (drop (at + 5) cs) → sections_of (drop (at + 5) cs) ≡ b ∷ sections_of (drop (at + 5 + 5) cs) →
-    sections_of (drop (at + 10) cs) ≡ c ∷ sections_of (drop (at + 10 + 5) cs) → sections_of (drop (at + 15) cs) ≡ d ∷ sections_of (drop (at + 15 + 5) cs) →
-    through (sections_of (drop at cs)) x ≡ goal → x' ≡ through (a ∷ b ∷ c ∷ d ∷ []) x → through (sections_of (drop (at + 20) cs)) x' ≡ goal
-four_more cs x x' goal at a b c d ea eb ec ed inv ex =
-    let s : (i j : ℕ) → i ≡ j → sections_of (drop i cs) ≡ sections_of (drop j cs) = λ i j e. ap (λ (k : ℕ). sections_of (drop k cs)) e in
-    let all : sections_of (drop at cs) ≡ a ∷ b ∷ c ∷ d ∷ sections_of (drop (at + 20) cs) =
-    ea ∙ ap (λ (l : List Biquad). a ∷ l) (eb ∙ ap (λ (l : List Biquad). b ∷ l) (s (at + 5 + 5) (at + 10) (omega arith)
-    ∙ ec ∙ ap (λ (l : List Biquad). c ∷ l) (s (at + 10 + 5) (at + 15) (omega arith) ∙ ed ∙ ap (λ (l : List Biquad). d ∷ l) (s (at + 15 + 5) (at + 20) (omega arith))))) in
-    ap (through (sections_of (drop (at + 20) cs))) ex ∙ ap (λ (ss : List Biquad). through ss x) (sym all) ∙ inv
-
-pub run_done : (cs x goal : List Float) (at : ℕ) → length cs - at < 5 → through (sections_of (drop at cs)) x ≡ goal → x ≡ goal
-run_done cs x goal at h inv = ap (λ (ss : List Biquad). through ss x) (sym (sections_none (drop at cs) (simp length-drop h))) ∙ inv
+pub run_done : (cs x goal : List Float) (k : ℕ) → length cs / 5 ≤ k → through (sections_of (drop (5 * k) cs)) x ≡ goal → x ≡ goal
+run_done cs x goal k h inv = ap (λ (ss : List Biquad). through ss x) (sym (sections_none (drop (5 * k) cs) (simp length-drop (omega arith)))) ∙ inv
 
 -- ---- padding
 
@@ -223,9 +173,6 @@ both_law ss x out y1 y2 y3 y4 y5 out' p lo l5 e1 e2 e3 e4 e5 e6 =
     ∙ ap (λ (y : List Float). take n (drop p y))
     (e5 ∙ ap reverse (e4 ∙ ap (through ss) (e3 ∙ ap reverse (e2 ∙ ap (through ss) e1))))
 
-pub filtfilt_law : (ss : List Biquad) (x y : List Float) (pad p : ℕ) → p ≡ min pad (length x - 1) → y ≡ both_ways ss p x → y ≡ filtfilt ss pad x
-filtfilt_law ss x y pad p e ey = ey ∙ ap (λ (q : ℕ). both_ways ss q x) e
-
 -- ---- one run
 
 pub pass_long : (ss : List Biquad) (x y : List Float) → 64 < length x → y ≡ filtfilt ss 1500 x → y ≡ pass_by ss x
@@ -306,17 +253,15 @@ pass_turn pass ts x out out₀ goal ys start e h l lo lo₀ ee he ly ey inv =
     ∙ ap (λ (f : List Float). take start out ++ f) (sym b)
     ∙ inv
 
-pub passed_now : (pass : List Float → List Float) (ts x out out₀ goal : List Float) (start : ℕ) → length x ≤ start → length ts ≡ length x → length out ≡ length out₀ → length out₀ ≡ length x →
-    take start out ++ passed pass (drop start ts) (drop start x) ≡ goal → out ≡ goal
-passed_now pass ts x out out₀ goal start h l lo lo₀ inv =
-    fill_done out (passed pass (drop start ts) (drop start x)) goal start (omega arith)
-    (ap (λ (l : List Float). pass_runs pass (runs_of l) (drop start x)) (drop_of_length-le ts {i = start} (omega arith))) inv
-
 -- ---- counting runs
 
 pub runs_turn : (ts : List Float) (start e runs goal : ℕ) → start < length ts → e ≡ start + get_or (runs_of (drop start ts)) 0 0 →
     runs + length (runs_of (drop start ts)) ≡ goal → runs + 1 + length (runs_of (drop e ts)) ≡ goal
 runs_turn ts start e runs goal h ee inv = omega (arith, ap length (runs_from ts start e h ee), inv)
+
+pub byte_is : (b : Bool) → bool_byte b ≡ cond b 1 0
+byte_is true = refl
+byte_is false = refl
 
 pub long_turn : (ts : List Float) (start e long one goal : ℕ) → start < length ts → e ≡ start + get_or (runs_of (drop start ts)) 0 0 → one ≡ cond (ltb 64 (e - start)) 1 0 →
     long + long_runs (runs_of (drop start ts)) ≡ goal → long + one + long_runs (runs_of (drop e ts)) ≡ goal
@@ -325,9 +270,3 @@ long_turn ts start e long one goal h ee eo inv =
     let ke : e - start ≡ k = omega arith in
     let o : one ≡ cond (ltb 64 k) 1 0 = eo ∙ ap (λ (n : ℕ). cond (ltb 64 n) 1 0) ke in
     omega (arith, ap long_runs (runs_from ts start e h ee), o, inv)
-
-pub runs_none : (ts : List Float) (start runs goal : ℕ) → length ts ≤ start → runs + length (runs_of (drop start ts)) ≡ goal → runs ≡ goal
-runs_none ts start runs goal h inv = omega (arith, ap (λ (l : List Float). length (runs_of l)) (drop_of_length-le ts h), inv)
-
-pub long_none : (ts : List Float) (start long goal : ℕ) → length ts ≤ start → long + long_runs (runs_of (drop start ts)) ≡ goal → long ≡ goal
-long_none ts start long goal h inv = omega (arith, ap (λ (l : List Float). long_runs (runs_of l)) (drop_of_length-le ts h), inv)

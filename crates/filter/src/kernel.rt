@@ -1,20 +1,17 @@
 // What the whole path runs, with no tests of the numbers and no bound on their count.
-ghost use Rattle.std.specs.Prelude.{◌≡◌, length, cond, ◌≤◌, ltb};
+ghost use Rattle.std.specs.Prelude.{◌≡◌, length};
 ghost use Rattle.laws.specs.Runs.{runs_of};
 ghost use Rattle.filter.specs.Calls.{band_fits, band_passed, long_runs};
 
-use slices;
-
+#[tactic(auto, unfolding(crate::specs::Calls::band_fits))]
 fn fits(times: usize, values: usize, places: usize, room: usize) -> bool
     ensures { result ≡ band_fits times values places room }
 {
-    slices::both(
-        times == values,
-        slices::both(places == values, values <= room / 3),
-    )
+    times == values && (places == values && values <= room / 3)
 }
 
 // Each run of x, passed into out; nothing where a length does not fit.
+#[tactic(auto, unfolding(crate::specs::Calls::band_fits, crate::specs::Calls::band_passed))]
 pub fn band_pass(times: &[f64], x: &[f64], out: &mut [f64], scratch: &mut [f64])
     ensures { out.new ≡ band_passed times.now x.now out.old (length scratch.old) }
 {
@@ -30,22 +27,17 @@ pub struct RunCounts {
     pub long: usize,
 }
 
-fn one_if_long(n: usize) -> usize
-    ensures { (result ≡ cond (ltb 64 n) 1 0) × (result ≤ 1) }
-{
-    if 64 < n { 1 } else { 0 }
-}
-
 pub fn count_runs(times: &[f64]) -> RunCounts
     ensures { (result.runs ≡ length (runs_of times.now)) × (result.long ≡ long_runs (runs_of times.now)) }
 {
     let mut runs = 0;
     let mut long = 0;
     let mut start = 0;
+    // kept: a turn takes a whole run; `chunk_by` would give the parts, but says nothing of `runs_of`
     while start < times.len() {
         let end = crate::work::run_end(times, start);
         runs += 1;
-        long += one_if_long(end - start);
+        long += usize::from(64 < end - start);
         start = end;
     }
     RunCounts { runs, long }

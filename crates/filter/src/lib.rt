@@ -8,6 +8,7 @@ ghost use Rattle.filter.specs.Calls.{judged_band, band_call, filter_refusal, han
 
 use numbers;
 use slices;
+use slices::Refusal;
 
 pub mod kernel;
 mod work;
@@ -37,13 +38,6 @@ pub struct Step {
     pub sample: f64,
 }
 
-// Four sections, five numbers each; +0.0 unless accepted.
-#[derive(Clone, Copy)]
-pub struct Band {
-    pub outcome: slices::Outcome,
-    pub sections: [f64; 20],
-}
-
 impl BiquadMemory {
     pub fn new() -> Self
         ensures { result ≡ rest }
@@ -56,6 +50,7 @@ impl BiquadMemory {
         }
     }
 
+    #[tactic(auto, unfolding(crate::specs::Filter::sample_of))]
     pub fn step(self, section: Biquad, v: f64) -> Step
         ensures { result ≡ step_of section self v }
     {
@@ -74,70 +69,63 @@ impl BiquadMemory {
     }
 }
 
-fn judged(sections: [f64; 20]) -> Band
+#[tactic(auto, unfolding(crate::specs::Calls::judged_band))]
+fn judged(sections: [f64; 20]) -> Result<[f64; 20], Refusal>
     ensures { result ≡ judged_band sections }
 {
     if slices::all_finite(&sections) {
-        return Band {
-            outcome: slices::Outcome::Accepted,
-            sections,
-        };
-    }
-    Band {
-        outcome: slices::Outcome::Refused(10),
-        sections: [0.0; 20],
+        Ok(sections)
+    } else {
+        Err(Refusal::NotFinite)
     }
 }
 
-// The sections of a Butterworth band-pass from `low` to `high` (Hz), for samples dt apart (s).
-pub fn butterworth_band(low: f64, high: f64, dt: f64) -> Band
+// The sections of a Butterworth band-pass from `low` to `high` (Hz), for samples dt apart (s): four, five numbers each.
+#[tactic(auto, unfolding(crate::specs::Calls::band_call))]
+pub fn butterworth_band(low: f64, high: f64, dt: f64) -> Result<[f64; 20], Refusal>
     ensures { result ≡ band_call low high dt }
 {
-    let others = slices::both(numbers::is_finite(high), numbers::is_finite(dt));
-    if slices::both(numbers::is_finite(low), others) {
-        return judged(work::coefficients(low, high, dt));
-    }
-    Band {
-        outcome: slices::Outcome::Refused(4),
-        sections: [0.0; 20],
+    if numbers::is_finite(low) && (numbers::is_finite(high) && numbers::is_finite(dt)) {
+        judged(work::coefficients(low, high, dt))
+    } else {
+        Err(Refusal::Value)
     }
 }
 
-fn filter_refusal(sections: &[f64], x: &[f64], places: usize, room: usize) -> u8
+#[tactic(auto, unfolding(crate::specs::Calls::filter_refusal))]
+fn filter_refusal(sections: &[f64], x: &[f64], places: usize, room: usize) -> Result<(), Refusal>
     ensures { result ≡ filter_refusal sections.now x.now places room }
 {
     let n = x.len();
     let k = sections.len();
-    let numbers = slices::unless(
-        slices::all_finite(sections),
-        4,
-        slices::unless(slices::all_finite(x), 4, 0),
-    );
-    let fitting = slices::unless(places == n, 3, slices::unless(8 * n <= room, 3, numbers));
-    let counted = slices::unless(n <= 100000, 2, slices::unless(k % 5 == 0, 3, fitting));
-    slices::unless(k <= 40, 2, slices::unless(1 <= n, 2, counted))
+    slices::tested(k <= 40, Refusal::Count)?;
+    slices::tested(1 <= n, Refusal::Count)?;
+    slices::tested(n <= 100000, Refusal::Count)?;
+    slices::tested(k % 5 == 0, Refusal::Length)?;
+    slices::tested(places == n, Refusal::Length)?;
+    slices::tested(8 * n <= room, Refusal::Length)?;
+    slices::tested(slices::all_finite(sections), Refusal::Value)?;
+    slices::tested(slices::all_finite(x), Refusal::Value)?;
+    Ok(())
 }
 
-// The numbers worked out, where all are finite, else 10; the scratch is cleared.
-fn hand_out(out: &mut [f64], scratch: &mut [f64]) -> slices::Outcome
+// The numbers worked out, where all are finite; the scratch is cleared.
+fn hand_out(out: &mut [f64], scratch: &mut [f64]) -> Result<(), Refusal>
     ensures { left result (out.new ∷ []) scratch.new ≡ handed_out out.old scratch.old }
 {
     slices::clear(scratch);
     if slices::all_finite(&out[..]) {
-        return slices::Outcome::Accepted;
+        return Ok(());
     }
     slices::clear(out);
-    slices::Outcome::Refused(10)
+    Err(Refusal::NotFinite)
 }
 
 // x through each section, in place.
-pub fn run(sections: &[f64], x: &mut [f64], scratch: &mut [f64]) -> slices::Outcome
+pub fn run(sections: &[f64], x: &mut [f64], scratch: &mut [f64]) -> Result<(), Refusal>
     ensures { left result (x.new ∷ []) scratch.new ≡ run_call sections.now x.old scratch.old }
 {
-    let refused = filter_refusal(sections, &x[..], x.len(), scratch.len());
-    if refused != 0 {
-        return slices::Outcome::Refused(refused);
-    }
+    filter_refusal(sections, &x[..], x.len(), scratch.len())?;
     work::run_sections(sections, x);
     hand_out(x, scratch)
 }
@@ -149,38 +137,41 @@ pub fn filtfilt(
     pad: usize,
     out: &mut [f64],
     scratch: &mut [f64],
-) -> slices::Outcome
+) -> Result<(), Refusal>
     ensures { left result (out.new ∷ []) scratch.new ≡ filtfilt_call sections.now x.now pad out.old
         scratch.old }
 {
-    let refused = filter_refusal(sections, x, out.len(), scratch.len());
-    if refused != 0 {
-        return slices::Outcome::Refused(refused);
-    }
+    filter_refusal(sections, x, out.len(), scratch.len())?;
     work::filtfilt(sections, x, pad, out, scratch);
     hand_out(out, scratch)
 }
 
-fn band_refusal(times: &[f64], x: &[f64], places: usize, room: usize) -> u8
+#[tactic(auto, unfolding(crate::specs::Calls::band_refusal))]
+fn band_refusal(times: &[f64], x: &[f64], places: usize, room: usize) -> Result<(), Refusal>
     ensures { result ≡ band_refusal times.now x.now places room }
 {
     let n = times.len();
-    let rising = slices::unless(slices::rising(times), 5, 0);
-    let finite = slices::unless(slices::all_finite(x), 4, rising);
-    let numbers = slices::unless(slices::all_times(times), 4, finite);
-    let fitting = slices::unless(places == n, 3, slices::unless(8 * n <= room, 3, numbers));
-    slices::unless(n <= 100000, 2, slices::unless(x.len() == n, 3, fitting))
+    slices::tested(n <= 100000, Refusal::Count)?;
+    slices::tested(x.len() == n, Refusal::Length)?;
+    slices::tested(places == n, Refusal::Length)?;
+    slices::tested(8 * n <= room, Refusal::Length)?;
+    slices::tested(slices::all_times(times), Refusal::Value)?;
+    slices::tested(slices::all_finite(x), Refusal::Value)?;
+    slices::tested(slices::rising(times), Refusal::Order)?;
+    Ok(())
 }
 
 // The band from 1 to 10 mHz of samples 2 s apart, run by run.
-pub fn band_pass(times: &[f64], x: &[f64], out: &mut [f64], scratch: &mut [f64]) -> slices::Outcome
+pub fn band_pass(
+    times: &[f64],
+    x: &[f64],
+    out: &mut [f64],
+    scratch: &mut [f64],
+) -> Result<(), Refusal>
     ensures { left result (out.new ∷ []) scratch.new ≡ band_pass_call times.now x.now out.old
         scratch.old }
 {
-    let refused = band_refusal(times, x, out.len(), scratch.len());
-    if refused != 0 {
-        return slices::Outcome::Refused(refused);
-    }
+    band_refusal(times, x, out.len(), scratch.len())?;
     work::band_pass(times, x, out, scratch);
     hand_out(out, scratch)
 }

@@ -9,9 +9,9 @@ ghost use Rattle.filter.specs.Filter.{rest, through_one, through, reflected, pad
 use crate::{Biquad, BiquadMemory};
 use numbers;
 use slices;
+use std::f64::consts::PI;
 
-const PI: f64 = 3.141592653589793;
-
+#[tactic(auto, unfolding(crate::specs::Sections::quality))]
 fn quality(angle: f64) -> f64
     ensures { result ≡ quality_of angle }
 {
@@ -19,6 +19,7 @@ fn quality(angle: f64) -> f64
 }
 
 // The section whose numerator is b0, b1, b0.
+#[tactic(auto, unfolding(crate::specs::Sections::section))]
 fn section(b0: f64, b1: f64, w: f64, q: f64) -> Biquad
     ensures { result ≡ section_of b0 b1 w q }
 {
@@ -76,12 +77,10 @@ fn run_section(section: Biquad, x: &mut [f64])
     ensures { x.new ≡ through_one section rest x.old }
 {
     let mut m = BiquadMemory::new();
-    let mut i = 0;
-    while i < x.len() {
+    for i in 0..x.len() {
         let s = m.step(section, x[i]);
         m = s.memory;
         x[i] = s.sample;
-        i += 1;
     }
 }
 
@@ -93,8 +92,7 @@ fn run_four(a: Biquad, b: Biquad, c: Biquad, d: Biquad, x: &mut [f64])
     let mut l = k;
     let mut m = k;
     let mut n = k;
-    let mut i = 0;
-    while i < x.len() {
+    for i in 0..x.len() {
         let first = k.step(a, x[i]);
         let second = l.step(b, first.sample);
         let third = m.step(c, second.sample);
@@ -104,7 +102,6 @@ fn run_four(a: Biquad, b: Biquad, c: Biquad, d: Biquad, x: &mut [f64])
         m = third.memory;
         n = fourth.memory;
         x[i] = fourth.sample;
-        i += 1;
     }
 }
 
@@ -126,19 +123,17 @@ fn section_at(sections: &[f64], at: usize) -> Biquad
 pub fn run_sections(sections: &[f64], x: &mut [f64])
     ensures { x.new ≡ through (sections_of sections.now) x.old }
 {
-    let mut at = 0;
-    while 5 <= sections.len() - at {
-        if 20 <= sections.len() - at {
-            let a = section_at(sections, at);
-            let b = section_at(sections, at + 5);
-            let c = section_at(sections, at + 10);
-            let d = section_at(sections, at + 15);
-            run_four(a, b, c, d, x);
-            at += 20;
-        } else {
-            run_section(section_at(sections, at), x);
-            at += 5;
-        }
+    let fours = sections.len() / 20;
+    for k in 0..fours {
+        let at = 20 * k;
+        let a = section_at(sections, at);
+        let b = section_at(sections, at + 5);
+        let c = section_at(sections, at + 10);
+        let d = section_at(sections, at + 15);
+        run_four(a, b, c, d, x);
+    }
+    for k in 4 * fours..sections.len() / 5 {
+        run_section(section_at(sections, 5 * k), x);
     }
 }
 
@@ -148,12 +143,9 @@ fn reflect(x: &[f64], about: usize, end: usize, out: &mut [f64])
     ensures { out.new ≡ reflected (get_or x.now about nan)
         (reverse (take (length out.old) (drop (end - length out.old) x.now))) }
 {
-    let p = out.len();
     let v = 2.0 * x[about];
-    let mut k = 0;
-    while k < p {
+    for k in 0..out.len() {
         out[k] = v - x[end - 1 - k];
-        k += 1;
     }
 }
 
@@ -218,15 +210,12 @@ pub fn run_end(times: &[f64], start: usize) -> usize
     requires { start < length times.now }
     ensures { (result ≡ start + get_or (runs_of (drop start times.now)) 0 0) × (start < result) × (result ≤ length times.now) }
 {
-    let mut last = start;
-    while 1 < times.len() - last {
-        let next = last + 1;
-        if times[next] - times[last] > 3.0 {
-            return next;
+    for last in start..times.len() - 1 {
+        if times[last + 1] - times[last] > 3.0 {
+            return last + 1;
         }
-        last = next;
     }
-    last + 1
+    times.len()
 }
 
 fn pass_runs(sections: &[f64], times: &[f64], x: &[f64], out: &mut [f64], scratch: &mut [f64])
@@ -236,6 +225,7 @@ fn pass_runs(sections: &[f64], times: &[f64], x: &[f64], out: &mut [f64], scratc
 {
     let n = x.len();
     let mut start = 0;
+    // kept: as in `kernel::count_runs`
     while start < n {
         let end = run_end(times, start);
         pass_run(sections, &x[start..end], &mut out[start..end], scratch);

@@ -1,7 +1,7 @@
 -- From the fit of one arc to the stage `window`: if a fit depends on `covered`, `at` and the states only at the arc's own times, the window (a, b) that it fills depends on
 -- them only before b + 1,804, and leaves at most 3,500 states, at strictly rising seconds from a on and before b. Assumes nothing.
 use mathlib.Core.Path.{◌≡◌, ap}
-use mathlib.Core.Option.{Option}
+use Rattle.std.specs.Prelude.{Option}
 use Prim.Native.Nat.{ℕ, suc, ◌+◌, ◌≤◌, ◌<◌, zero-le}
 use native.Mathlib.Nat.{le_of_lt}
 use native.Mathlib.Omega.{arith}

@@ -1,6 +1,6 @@
 -- The theorem is not empty: a toy instance with 0 < F < kept, both submissions valid, and an entry beyond F that appended data does change. By computing. Assumes nothing.
 use mathlib.Core.Path.{◌≡◌, refl, ap}
-use mathlib.Core.Option.{Option, none, some}
+use Rattle.std.specs.Prelude.{Option, None, Some}
 use mathlib.Core.Bool.{Bool, true, false, ◌&&◌, cond}
 use mathlib.Core.List.{List, [], ◌∷◌}
 use Prim.Native.Nat.{ℕ, suc, ◌≤◌, zero-le}
@@ -28,8 +28,8 @@ use Rattle.finality.proofs.Finality.{Final}
 
 -- ---- the toy obeys its laws
 spread_length : (n : ℕ) (o : Option Float) → length (spread n o) ≤ n
-spread_length n none = zero-le
-spread_length n (some x) = go (leb 905 n) (leb→le 905 n)
+spread_length n None = zero-le
+spread_length n (Some x) = go (leb 905 n) (leb→le 905 n)
   where
     go : (b : Bool) → (T b → 905 ≤ n) → length (cond b (replicate 905 x) []) ≤ n
     go true h = h tt
@@ -72,13 +72,13 @@ pub shorter_kept : kept toy_stages shorter ≡ (number 2000, number 2) ∷ (numb
 unfolding shorter kept_of epoch_from find covers bracketed end number to_signed of_int of_bits add le lt
 shorter_kept = kept_by toy_stages shorter (states_at (2000 ∷ 2002 ∷ 2004 ∷ 2006 ∷ 2008 ∷ [])) shorter_states shorter_states
 
-pub shorter_horizon : horizon toy_stages shorter ≡ some (number 2010)
+pub shorter_horizon : horizon toy_stages shorter ≡ Some (number 2010)
 unfolding shorter largest end number of_int of_bits add le
 shorter_horizon = refl
 
 pub shorter_final : final toy_stages shorter ≡ 2
 unfolding count end_of splits number of_int of_bits sub lt
-shorter_final = final_by_law toy_stages shorter (some (number 2010)) ((number 2000, number 2) ∷ (number 2002, number 3) ∷ (number 2008, number 4) ∷ []) shorter_horizon shorter_kept
+shorter_final = final_by_law toy_stages shorter (Some (number 2010)) ((number 2000, number 2) ∷ (number 2002, number 3) ∷ (number 2008, number 4) ∷ []) shorter_horizon shorter_kept
 
 -- ---- the longer submission: horizon 2020, four kept epochs, all final
 longer_states : fitted toy_stages longer longer.states_c ≡ states_at (2000 ∷ 2002 ∷ 2004 ∷ 2006 ∷ 2008 ∷ 2010 ∷ 2012 ∷ 2014 ∷ 2016 ∷ 2018 ∷ [])
@@ -89,13 +89,13 @@ pub longer_kept : kept toy_stages longer ≡ (number 2000, number 2) ∷ (number
 unfolding longer kept_of epoch_from find covers bracketed end number to_signed of_int of_bits add le lt
 longer_kept = kept_by toy_stages longer (states_at (2000 ∷ 2002 ∷ 2004 ∷ 2006 ∷ 2008 ∷ 2010 ∷ 2012 ∷ 2014 ∷ 2016 ∷ 2018 ∷ [])) longer_states longer_states
 
-pub longer_horizon : horizon toy_stages longer ≡ some (number 2020)
+pub longer_horizon : horizon toy_stages longer ≡ Some (number 2020)
 unfolding longer largest end number of_int of_bits add le
 longer_horizon = refl
 
 pub longer_final : final toy_stages longer ≡ 4
 unfolding count end_of splits number of_int of_bits sub lt
-longer_final = final_by_law toy_stages longer (some (number 2020)) ((number 2000, number 2) ∷ (number 2002, number 3) ∷ (number 2008, number 4) ∷ (number 2010, number 5) ∷ []) longer_horizon longer_kept
+longer_final = final_by_law toy_stages longer (Some (number 2020)) ((number 2000, number 2) ∷ (number 2002, number 3) ∷ (number 2008, number 4) ∷ (number 2010, number 5) ∷ []) longer_horizon longer_kept
 
 -- ---- both are valid, and the longer one grows out of the shorter: the theorem applies
 pub shorter_valid : Valid toy_stages shorter

@@ -1,12 +1,10 @@
 -- A fit reads its model and its states at the arc's own times only: where two agree there, the fits are the same.
+use Rattle.std.specs.Prelude.{None, Option, Some}
 use Rattle.std.proofs.Common.{◌≡◌, ℕ, zero, suc, ◌+◌, ◌*◌, ◌/◌, ◌%◌, ◌<◌, ◌≤◌, Bool, List, ◌++◌, length, refl, ap, ◌∙◌, arith}
 use lib.Ieee.{Float}
 use Rattle.vectors.specs.declared.Vector.{Vector}
 use Rattle.integrate.specs.declared.kernel.State.{State}
 use Rattle.integrate.specs.declared.kernel.Arc.{Arc}
-use Rattle.fit.specs.declared.kernel.Held.{Held}
-use Rattle.fit.specs.declared.kernel.Held.TheVariants.{Known, Missing}
-use Rattle.fit.specs.declared.kernel.Fitted.{Fitted as Fit}
 use Rattle.fit.specs.Fit.{Observed, axis, nth, seen, observed_to, observed, start_of, misfit_at, misfits_of, design_at, misfits_at, improved, regular, rms_at, fitted_from, fit_from, fit_of, held, orbit_of}
 use Rattle.fit.specs.WorkLeaves.{Within}
 use Rattle.fit.proofs.Steps.{within}
@@ -83,27 +81,27 @@ module _ (full full' : Float → Vector → Vector) (arc : Arc) (g : Agree full 
         let p = start_of s in
         simp (regular_same p, improved_same p, regular_same (improved full' arc obs p), improved_same (improved full' arc obs p), rms_same (improved full' arc obs (improved full' arc obs p)))
 
-    from_same : (h : Held) → fit_from full arc obs h ≡ fit_from full' arc obs h
-    from_same (Known s) = fitted_same s
-    from_same Missing = refl
+    from_same : (h : Option State) → fit_from full arc obs h ≡ fit_from full' arc obs h
+    from_same (Some s) = fitted_same s
+    from_same None = refl
 
 -- two look-ups agree at every fifth step
-observed_same : (look look' : Float → Held) (t0 : Float) (c : ℕ) → ((k : ℕ) → k < c → look (step_time t0 (5 * k)) ≡ look' (step_time t0 (5 * k))) → observed_to look t0 c ≡ observed_to look' t0 c
+observed_same : (look look' : Float → Option State) (t0 : Float) (c : ℕ) → ((k : ℕ) → k < c → look (step_time t0 (5 * k)) ≡ look' (step_time t0 (5 * k))) → observed_to look t0 c ≡ observed_to look' t0 c
 unfolding observed_to
 observed_same look look' t0 zero h = refl
 observed_same look look' t0 (suc c) h =
     ap (λ (l : List Observed). l ++ seen (5 * c) (look (step_time t0 (5 * c)))) (observed_same look look' t0 c (λ k l. h k (omega arith)))
-    ∙ ap (λ (x : Held). observed_to look' t0 c ++ seen (5 * c) x) (h c (omega arith))
+    ∙ ap (λ (x : Option State). observed_to look' t0 c ++ seen (5 * c) x) (h c (omega arith))
 
 -- what a fit reads of two models and two tables is the same
-pub record SameReads (covered covered' : Float → Bool) (full full' : Float → Vector → Vector) (look look' : Float → Held) (arc : Arc) : Type 0 where
+pub record SameReads (covered covered' : Float → Bool) (full full' : Float → Vector → Vector) (look look' : Float → Option State) (arc : Arc) : Type 0 where
   pub first : covered arc.t0 ≡ covered' arc.t0
   pub last : covered (step_time arc.t0 arc.steps) ≡ covered' (step_time arc.t0 arc.steps)
   pub force : Agree full full' arc
   pub start : look arc.t0 ≡ look' arc.t0
   pub places : (c : ℕ) → c < arc.steps / 5 + 1 → look (step_time arc.t0 (5 * c)) ≡ look' (step_time arc.t0 (5 * c))
 
-module _ (covered covered' : Float → Bool) (full full' : Float → Vector → Vector) (look look' : Float → Held) (arc : Arc) (l : arc.steps ≤ 5302)
+module _ (covered covered' : Float → Bool) (full full' : Float → Vector → Vector) (look look' : Float → Option State) (arc : Arc) (l : arc.steps ≤ 5302)
     (r : SameReads covered covered' full full' look look' arc) where
   places_same : observed look arc ≡ observed look' arc
   unfolding observed

@@ -1,4 +1,5 @@
 -- Laws of the observations in scratch.
+use Rattle.std.specs.Prelude.{None, Option, Some}
 use Rattle.std.proofs.Common.{◌≡◌, ℕ, ◌+◌, ◌*◌, ◌/◌, ◌<◌, ◌≤◌, eqb, List, [], ◌∷◌, ◌++◌, length, get_or, set, sym, refl, ap, ◌∙◌, subst, append-nil, add-one, arith, length-append, length-set, get_or-set_same, eqb-true}
 use lib.Ieee.{Float, nan}
 use lib.ListN.{get_or-append}
@@ -7,8 +8,6 @@ use borrow.Author.Tests.{eqb-false}
 use Rattle.vectors.specs.declared.Vector.{Vector}
 use Rattle.integrate.specs.declared.kernel.State.{State}
 use Rattle.integrate.specs.declared.kernel.Arc.{Arc}
-use Rattle.fit.specs.declared.kernel.Held.{Held}
-use Rattle.fit.specs.declared.kernel.Held.TheVariants.{Known, Missing}
 use Rattle.fit.specs.Fit.{Observed, nth, seen, observed_to, observed}
 use Rattle.fit.specs.Room.{observed_part, base_part, Observes}
 use Rattle.fit.specs.WorkLeaves.{Stored, Noted, Observing}
@@ -56,10 +55,10 @@ pub observes_none : (s : List Float) (at : ℕ) → Observes s at []
 observes_none s at = record { step = λ j l. absurd (omega arith); place = λ j l. absurd (omega arith) }
 
 -- a step whose position is known, and one whose position is not
-pub noted_known : (s s' : List Float) (b n k : ℕ) (held : Held) (state : State) → held ≡ Known state → n < 1061 → Stored s s' (b + observed_part + 4 * n) k state.position
+pub noted_known : (s s' : List Float) (b n k : ℕ) (held : Option State) (state : State) → held ≡ Some state → n < 1061 → Stored s s' (b + observed_part + 4 * n) k state.position
     → Noted s s' b n (seen k held) (n + 1)
 noted_known s s' b n k held state e l w =
-    subst (λ (x : Held). Noted s s' b n (seen k x) (n + 1)) (sym e) (record {
+    subst (λ (x : Option State). Noted s s' b n (seen k x) (n + 1)) (sym e) (record {
       all = λ obs q h. observes_more s s' (b + observed_part) obs (record { step = k; place = state.position }) h
           (subst (λ (m : ℕ). Stored s s' (b + observed_part + 4 * m) k state.position) (sym q) w);
       counted = refl;
@@ -67,30 +66,30 @@ noted_known s s' b n k held state e l w =
           (only_same (b + observed_part) (b + base_part) s') (omega arith) (omega arith) (omega arith) (omega arith);
     })
 
-pub noted_missing : (s : List Float) (b n k : ℕ) (held : Held) → held ≡ Missing → Noted s s b n (seen k held) n
+pub noted_missing : (s : List Float) (b n k : ℕ) (held : Option State) → held ≡ None → Noted s s b n (seen k held) n
 noted_missing s b n k held e =
-    subst (λ (x : Held). Noted s s b n (seen k x) n) (sym e) (record {
+    subst (λ (x : Option State). Noted s s b n (seen k x) n) (sym e) (record {
       all = λ obs q h. subst (λ (x : List Observed). Observes s (b + observed_part) x) (sym (append-nil obs)) h;
       counted = omega arith;
       only = only_same (b + observed_part) (b + base_part) s;
     })
 
-seen_short : (k : ℕ) (held : Held) → length (seen k held) ≤ 1
-seen_short k (Known s) = omega arith
-seen_short k Missing = omega arith
+seen_short : (k : ℕ) (held : Option State) → length (seen k held) ≤ 1
+seen_short k (Some s) = omega arith
+seen_short k None = omega arith
 
 -- what the loop over the steps keeps
-pub record Sofar (look : Float → Held) (t0 : Float) (s s' : List Float) (b c n : ℕ) : Type 0 where
+pub record Sofar (look : Float → Option State) (t0 : Float) (s s' : List Float) (b c n : ℕ) : Type 0 where
   pub counted : n ≡ length (observed_to look t0 c)
   pub few : n ≤ c
   pub all : Observes s' (b + observed_part) (observed_to look t0 c)
   pub only : Only (b + observed_part) (b + base_part) s s'
 
-pub sofar_none : (look : Float → Held) (t0 : Float) (s : List Float) (b : ℕ) → Sofar look t0 s s b 0 0
+pub sofar_none : (look : Float → Option State) (t0 : Float) (s : List Float) (b : ℕ) → Sofar look t0 s s b 0 0
 unfolding observed_to
 sofar_none look t0 s b = record { counted = refl; few = omega arith; all = observes_none s (b + observed_part); only = only_same (b + observed_part) (b + base_part) s }
 
-pub sofar_more : (look : Float → Held) (t0 : Float) (s s₁ s₂ : List Float) (b c n r : ℕ) → Sofar look t0 s s₁ b c n → Noted s₁ s₂ b n (seen (5 * c) (look (step_time t0 (5 * c)))) r
+pub sofar_more : (look : Float → Option State) (t0 : Float) (s s₁ s₂ : List Float) (b c n r : ℕ) → Sofar look t0 s s₁ b c n → Noted s₁ s₂ b n (seen (5 * c) (look (step_time t0 (5 * c)))) r
     → Sofar look t0 s s₂ b (c + 1) r
 unfolding observed_to
 sofar_more look t0 s s₁ s₂ b c n r f w =
@@ -104,7 +103,7 @@ sofar_more look t0 s s₁ s₂ b c n r f w =
           (omega arith);
     }
 
-pub observing : (look : Float → Held) (arc : Arc) (s s' : List Float) (b c n : ℕ) → arc.steps ≤ 5302 → c ≡ arc.steps / 5 + 1 → Sofar look arc.t0 s s' b c n
+pub observing : (look : Float → Option State) (arc : Arc) (s s' : List Float) (b c n : ℕ) → arc.steps ≤ 5302 → c ≡ arc.steps / 5 + 1 → Sofar look arc.t0 s s' b c n
     → Observing s s' b (observed look arc) n
 unfolding observed
 observing look arc s s' b c n l e f = record {

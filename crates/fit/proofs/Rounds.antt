@@ -1,11 +1,11 @@
 -- Laws of a round of the fit.
-use Rattle.std.proofs.Common.{◌≡◌, ℕ, ◌+◌, ◌-◌, ◌*◌, ◌/◌, ◌%◌, ◌<◌, ◌≤◌, true, List, length, get_or, take, drop, sym, refl, ap, ◌∙◌, arith, length-drop, length-take-le, get_or-drop, get_or-take, ext_get_or, le-ltb, eq-eqb}
+use Rattle.std.proofs.Common.{◌≡◌, ℕ, ◌+◌, ◌*◌, ◌/◌, ◌%◌, ◌<◌, ◌≤◌, true, List, length, get_or, take, drop, sym, refl, ap, ◌∙◌, arith, length-drop, length-take-le, get_or-drop, get_or-take, ext_get_or, le-ltb, eq-eqb}
 use lib.Ieee.{Float, nan}
-use Rattle.least_squares.specs.declared.kernel.Estimate.{Estimate}
+use Rattle.std.specs.Prelude.{Option, Some, None, cond, option_map}
+use mathlib.Core.Bool.{Bool, false}
 use Rattle.vectors.specs.declared.Vector.{Vector}
 use Rattle.integrate.specs.declared.kernel.Arc.{Arc}
 use Rattle.integrate.specs.declared.kernel.Force.TheVariants.{Full, J2}
-use Rattle.fit.specs.declared.kernel.Fitted.{Fitted as Fit}
 use Rattle.fit.specs.Fit.{Observed, axis, nth, moved_of, updated_of, misfit_at, misfits_of, partial_at, design_of, design_at, misfits_at, improved, regular}
 use Rattle.fit.specs.Room.{observed_part, misfit_part, design_part, work_size, Observes, step_number, step_at, place_at}
 use Rattle.fit.specs.WorkLeaves.{Linearised, Within, Rounded}
@@ -16,7 +16,7 @@ use Rattle.integrate.specs.Force.{attraction_of, full_force, run_of}
 use Rattle.integrate.specs.Room.{Run}
 use Rattle.laws.specs.Floats.{◌⊖◌}
 use Rattle.laws.specs.Tables.{row, row_at, row_length}
-use Rattle.least_squares.specs.Kernel.{Estimated, shaped15}
+use Rattle.least_squares.specs.Kernel.{shaped15, estimate15}
 use Rattle.least_squares.specs.LeastSquares.{solvable, solved}
 
 -- a part of scratch that holds a table
@@ -83,33 +83,43 @@ part_length s at k m e h = length-take-le k (drop at s) (simp length-drop (omega
 
 module _ (M : Model) (arc : Arc) (p s s' : List Float) (b n : ℕ) (l : n ≤ 1061) (room : b + work_size ≤ length s')
     (lin : Linearised (run_of (attraction_of Full M) arc p) (run_of (attraction_of J2 M) arc p) (λ (i : ℕ). run_of (attraction_of J2 M) arc (moved_of p i)) arc.steps s s' b (3 * n))
-    (kd ky : ℕ) (ed : kd ≡ 45 * n) (ey : ky ≡ 3 * n) (e : Estimate) (est : Estimated (take kd (drop (b + design_part) s')) (take ky (drop (b + misfit_part) s')) e) (q : List Float)
-    (hq : q ≡ updated_of p e.beta) where
+    (kd ky : ℕ) (ed : kd ≡ 45 * n) (ey : ky ≡ 3 * n) where
+  abbrev rows_in : List Float
+  rows_in = take kd (drop (b + design_part) s')
+
+  abbrev misfits_in : List Float
+  misfits_in = take ky (drop (b + misfit_part) s')
+
   module _ (obs : List Observed) (lo : length obs ≡ n) (o : Observes s (b + observed_part) obs) (w : Within obs arc.steps) where
-    rows_are : take kd (drop (b + design_part) s') ≡ design_at (full_force M) arc obs p
+    rows_are : rows_in ≡ design_at (full_force M) arc obs p
     unfolding design_at
     rows_are =
         design_list (run_of (attraction_of J2 M) arc p) (λ (i : ℕ). run_of (attraction_of J2 M) arc (moved_of p i)) s s' b n kd arc.steps obs ed lo l room o w lin.design
         ∙ ap (λ (pull : Float → Vector → Vector). design_of (run_of pull arc p) (λ (i : ℕ). run_of pull arc (moved_of p i)) obs) (j2_is M)
 
-    misfits_are : take ky (drop (b + misfit_part) s') ≡ misfits_at (full_force M) arc obs p
+    misfits_are : misfits_in ≡ misfits_at (full_force M) arc obs p
     unfolding misfits_at
     misfits_are =
         misfit_list (run_of (attraction_of Full M) arc p) s s' b n ky arc.steps obs ey lo l room o w lin.misfits
         ∙ ap (λ (pull : Float → Vector → Vector). misfits_of (run_of pull arc p) obs) (full_is M)
 
-  pub rounded : Rounded (full_force M) arc p s s' b n (record { fine = e.fine; beta = q })
-  unfolding regular improved
-  rounded = record {
-    said = λ obs lo o w.
-        est.said
-        ∙ simp (shaped_true (length (take kd (drop (b + design_part) s'))) (length (take ky (drop (b + misfit_part) s'))) n (part_length s' (b + design_part) kd (45 * n) ed (omega arith))
+    estimate_is : estimate15 rows_in misfits_in ≡ cond (regular (full_force M) arc obs p) (Some (solved (design_at (full_force M) arc obs p) (misfits_at (full_force M) arc obs p) 15)) None
+    unfolding estimate15 regular
+    estimate_is =
+        simp (shaped_true (length rows_in) (length misfits_in) n (part_length s' (b + design_part) kd (45 * n) ed (omega arith))
         (part_length s' (b + misfit_part) ky (3 * n) ey (omega arith)) l)
-        (ap (λ (x : List Float). solvable x (take ky (drop (b + misfit_part) s')) 15) (rows_are obs lo o w)
-        ∙ ap (λ (y : List Float). solvable (design_at (full_force M) arc obs p) y 15) (misfits_are obs lo o w));
-    values = λ obs lo o w g.
-        hq ∙ ap (updated_of p) (est.values g
-        ∙ ap (λ (x : List Float). solved x (take ky (drop (b + misfit_part) s')) 15) (rows_are obs lo o w)
-        ∙ ap (λ (y : List Float). solved (design_at (full_force M) arc obs p) y 15) (misfits_are obs lo o w));
+        (λ i. cond (solvable (rows_are i) (misfits_are i) 15) (Some (solved (rows_are i) (misfits_are i) 15)) None)
+
+  -- the parameters moved by an estimate, or none
+  pub rounded : (e r : Option (List Float)) → e ≡ estimate15 rows_in misfits_in → r ≡ option_map (updated_of p) e → Rounded (full_force M) arc p s s' b n r
+  unfolding improved
+  rounded e r ee er = record {
+    said = λ obs lo o w.
+        er ∙ ap (option_map (updated_of p)) (ee ∙ estimate_is obs lo o w)
+        ∙ map_cond (regular (full_force M) arc obs p) (solved (design_at (full_force M) arc obs p) (misfits_at (full_force M) arc obs p) 15);
     apart = lin.apart;
   }
+    where
+      map_cond : (b : Bool) (x : List Float) → option_map (updated_of p) (cond b (Some x) None) ≡ cond b (Some (updated_of p x)) None
+      map_cond true x = refl
+      map_cond false x = refl

@@ -1,24 +1,22 @@
 -- A dynamic orbit fitted to observed positions: initial state and nine empirical accelerations, by Gauss-Newton with partials from the J2 model (document 01,
 -- module 4; the source's `fit_orbit`). It is a function of `covered`, of the full attraction as a function of the time, of the state at a time's second, and
 -- of the arc. Assumes nothing.
-use Rattle.std.specs.Prelude.{ℕ, zero, suc, ◌+◌, ◌*◌, ◌/◌, ◌%◌, Bool, cond, ◌&&◌, List, [], ◌∷◌, ◌++◌, length, get_or, replicate, ℤ, nat_lt, slice_index_or, slice_set, Float}
+use Rattle.std.specs.Prelude.{ℕ, zero, suc, ◌+◌, ◌*◌, ◌/◌, ◌%◌, Bool, cond, ◌&&◌, List, [], ◌∷◌, ◌++◌, length, get_or, replicate, nat_lt, slice_index_or, slice_set, Float, Option, Some, None, Result, Ok, Err}
 use Rattle.std.specs.Float.{nan, binary64}
 use Rattle.root.specs.Root.{sqrt}
-use Rattle.slices.specs.declared.Found.{Found}
-use Rattle.slices.specs.declared.Found.TheVariants.{At, Nothing}
+use Rattle.slices.specs.declared.refusal.Refusal.{Refusal}
+use Rattle.slices.specs.declared.refusal.Refusal.TheVariants.{Uncovered, TooFew, NoStart, Singular}
+use Rattle.inputs.specs.Inputs.{Keyed}
 use Rattle.vectors.specs.declared.Vector.{Vector}
 use Rattle.integrate.specs.declared.kernel.State.{State}
 use Rattle.integrate.specs.declared.kernel.Arc.{Arc}
-use Rattle.fit.specs.declared.kernel.Held.{Held}
-use Rattle.fit.specs.declared.kernel.Held.TheVariants.{Known, Missing}
-use Rattle.fit.specs.declared.kernel.Fitted.{Fitted as Fit}
-use Rattle.fit.specs.declared.kernel.Fitted.TheVariants.{Fitted, Refused}
 use Rattle.forces.specs.Forces.{j2_of}
+use Rattle.finality.specs.Tables.{find}
 use Rattle.integrate.specs.Force.{run_of}
+use Rattle.integrate.specs.RowsBySecond.{states_in}
 use Rattle.integrate.specs.Room.{Run, state_in}
 use Rattle.numbers.specs.Seconds.{whole_second}
 use Rattle.numbers.specs.Constants.{decimal}
-use Rattle.slices.specs.Slices.{lookup}
 use Rattle.laws.specs.Floats.{◌⊕◌, ◌⊖◌, ◌⊗◌, ◌⊘◌, one64, zero64}
 use Rattle.laws.specs.Sums.{sum_to}
 use Rattle.laws.specs.Tables.{row}
@@ -28,13 +26,13 @@ use Rattle.least_squares.specs.LeastSquares.{solvable, solved}
 
 -- ---- what a fit reads
 
-abbrev pub held_at : List Float → Found → Held
-held_at states (At i) = Known (state_in states (6 * i))
-held_at states Nothing = Missing
+-- an arc's fit: the rms of its misfits, or why there is none
+abbrev pub Fit : Type 0
+Fit = Result Float Refusal
 
--- the state at the whole second of a time
-unfoldable pub state_for : List ℤ → List Float → Float → Held
-state_for keys states t = held_at states (lookup keys (whole_second t))
+-- the state at the whole second of a time, where it is known
+unfoldable pub state_for : Keyed → Float → Option State
+state_for states t = find (whole_second t) (states_in states)
 
 -- ---- the observed positions
 
@@ -42,17 +40,17 @@ pub record Observed : Type 0 where
   pub step : ℕ
   pub place : Vector
 
-abbrev pub seen : ℕ → Held → List Observed
-seen k (Known s) = record { step = k; place = s.position } ∷ []
-seen k Missing = []
+abbrev pub seen : ℕ → Option State → List Observed
+seen k (Some s) = record { step = k; place = s.position } ∷ []
+seen k None = []
 
 -- the positions held at steps 0, 5, 10 and so on, c steps in all
-unfoldable pub observed_to : (Float → Held) → Float → ℕ → List Observed
+unfoldable pub observed_to : (Float → Option State) → Float → ℕ → List Observed
 observed_to look t0 zero = []
 observed_to look t0 (suc c) = observed_to look t0 c ++ seen (5 * c) (look (step_time t0 (5 * c)))
 
 -- those of an arc
-unfoldable pub observed : (Float → Held) → Arc → List Observed
+unfoldable pub observed : (Float → Option State) → Arc → List Observed
 observed look arc = observed_to look arc.t0 (arc.steps / 5 + 1)
 
 -- ---- the parameters: position, velocity, nine strengths
@@ -125,25 +123,25 @@ module _ (full : Float → Vector → Vector) (arc : Arc) (obs : List Observed) 
 
   -- two rounds from a start
   unfoldable pub fitted_from : State → Fit
-  fitted_from s = cond (regular (start_of s)) (cond (regular (improved (start_of s))) (Fitted (rms_at (improved (improved (start_of s))))) (Refused 9)) (Refused 9)
+  fitted_from s = cond (regular (start_of s)) (cond (regular (improved (start_of s))) (Ok (rms_at (improved (improved (start_of s))))) (Err Singular)) (Err Singular)
 
-  abbrev pub fit_from : Held → Fit
-  fit_from (Known s) = fitted_from s
-  fit_from Missing = Refused 8
+  abbrev pub fit_from : Option State → Fit
+  fit_from (Some s) = fitted_from s
+  fit_from None = Err NoStart
 
--- the answer: an rms, or document 01's number of the refusal
-unfoldable pub fit_of : (Float → Bool) → (Float → Vector → Vector) → (Float → Held) → Arc → Fit
+-- the answer
+unfoldable pub fit_of : (Float → Bool) → (Float → Vector → Vector) → (Float → Option State) → Arc → Fit
 fit_of covered full look arc =
     cond (covered arc.t0 && covered (step_time arc.t0 arc.steps))
-    (cond (nat_lt (length (observed look arc)) (arc.steps / 10)) (Refused 7) (fit_from full arc (observed look arc) (look arc.t0)))
-    (Refused 6)
+    (cond (nat_lt (length (observed look arc)) (arc.steps / 10)) (Err TooFew) (fit_from full arc (observed look arc) (look arc.t0)))
+    (Err Uncovered)
 
-abbrev pub held : Held → State
-held (Known s) = s
-held Missing = state_in [] 0
+abbrev pub held : Option State → State
+held (Some s) = s
+held None = state_in [] 0
 
 -- the fitted orbit, where the answer is an rms
-unfoldable pub orbit_of : (Float → Vector → Vector) → (Float → Held) → Arc → Run
+unfoldable pub orbit_of : (Float → Vector → Vector) → (Float → Option State) → Arc → Run
 orbit_of full look arc =
     let obs = observed look arc in
     run_of full arc (improved full arc obs (improved full arc obs (start_of (held (look arc.t0)))))

@@ -1,16 +1,13 @@
 -- What the work on the lent numbers leaves. Assumes nothing.
-use Rattle.std.specs.Prelude.{◌≡◌, ℕ, ◌+◌, ◌*◌, ◌%◌, ◌<◌, ◌≤◌, Bool, true, false, ◌&&◌, List, ◌++◌, length, get_or, ℤ, ◌==◌, ◌≢◌, nat_le, slice_index_or, Float}
+use Rattle.std.specs.Prelude.{◌≡◌, ℕ, ◌+◌, ◌*◌, ◌%◌, ◌<◌, ◌≤◌, Bool, true, false, ◌&&◌, List, ◌++◌, length, get_or, ℤ, ◌==◌, ◌≢◌, nat_le, slice_index_or, cond, Option, Some, None, Ok, Err, Float}
 use Rattle.std.specs.Float.{nan}
 use Rattle.inputs.specs.Inputs.{front_size}
-use Rattle.least_squares.specs.declared.kernel.Estimate.{Estimate}
 use Rattle.vectors.specs.declared.Vector.{Vector}
 use Rattle.integrate.specs.declared.kernel.State.{State}
 use Rattle.integrate.specs.declared.kernel.Arc.{Arc}
-use Rattle.fit.specs.declared.kernel.Held.{Held}
-use Rattle.fit.specs.declared.kernel.Fitted.{Fitted as Fit}
-use Rattle.fit.specs.declared.kernel.Fitted.TheVariants.{Fitted, Refused}
+use Rattle.slices.specs.declared.refusal.Refusal.TheVariants.{Length}
 use Rattle.laws.specs.Checks.{rising_seconds}
-use Rattle.fit.specs.Fit.{Observed, axis, nth, start_of, regular, improved, rms_at, fitted_from, fit_of, orbit_of}
+use Rattle.fit.specs.Fit.{Fit, Observed, axis, nth, start_of, regular, improved, rms_at, fitted_from, fit_of, orbit_of}
 use Rattle.fit.specs.Room.{observed_part, base_part, misfit_part, design_part, work_size, Observes, step_number, step_at, place_at, run_at}
 use Rattle.integrate.specs.Force.{run_of}
 use Rattle.integrate.specs.Room.{Holds3, Only, Orbit, Run}
@@ -82,10 +79,9 @@ abbrev pub Within : List Observed → ℕ → Type 0
 Within obs steps = (j : ℕ) → j < length obs → ((nth obs j).step ≤ steps) × (step_number (number (nth obs j).step) ≡ (nth obs j).step)
 
 -- one round of Gauss-Newton
-pub record Rounded (full : Float → Vector → Vector) (arc : Arc) (p : List Float) (s s' : List Float) (b n : ℕ) (e : Estimate) : Type 0 where
-  pub said : (obs : List Observed) → length obs ≡ n → Observes s (b + observed_part) obs → Within obs arc.steps → e.fine ≡ regular full arc obs p
-  pub values : (obs : List Observed) → length obs ≡ n → Observes s (b + observed_part) obs → Within obs arc.steps → e.fine ≡ true
-      → e.beta ≡ improved full arc obs p
+pub record Rounded (full : Float → Vector → Vector) (arc : Arc) (p : List Float) (s s' : List Float) (b n : ℕ) (e : Option (List Float)) : Type 0 where
+  pub said : (obs : List Observed) → length obs ≡ n → Observes s (b + observed_part) obs → Within obs arc.steps
+      → e ≡ cond (regular full arc obs p) (Some (improved full arc obs p)) None
   pub apart : Apart s s' b base_part
 
 -- the last run
@@ -97,15 +93,15 @@ pub record Finished (full : Float → Vector → Vector) (arc : Arc) (p : List F
 -- a fit from a start
 pub record FitFrom (full : Float → Vector → Vector) (arc : Arc) (start : State) (s s' : List Float) (b n : ℕ) (answer : Fit) : Type 0 where
   pub said : (obs : List Observed) → length obs ≡ n → Observes s (b + observed_part) obs → Within obs arc.steps → answer ≡ fitted_from full arc obs start
-  pub states : (obs : List Observed) → length obs ≡ n → Observes s (b + observed_part) obs → Within obs arc.steps → (x : Float) → answer ≡ Fitted x →
+  pub states : (obs : List Observed) → length obs ≡ n → Observes s (b + observed_part) obs → Within obs arc.steps → (x : Float) → answer ≡ Ok x →
       Orbit s' b (run_of full arc (improved full arc obs (improved full arc obs (start_of start)))) (arc.steps + 1)
   pub apart : Apart s s' b base_part
 
 -- the whole fit: the answer, the states, and what lies after the work as it was
-pub record Fits (covered : Float → Bool) (full : Float → Vector → Vector) (look : Float → Held) (arc : Arc) (s s' : List Float) (b : ℕ) (answer : Fit) : Type
+pub record Fits (covered : Float → Bool) (full : Float → Vector → Vector) (look : Float → Option State) (arc : Arc) (s s' : List Float) (b : ℕ) (answer : Fit) : Type
     0 where
   pub said : answer ≡ fit_of covered full look arc
-  pub states : (x : Float) → answer ≡ Fitted x → Orbit s' b (orbit_of full look arc) (arc.steps + 1)
+  pub states : (x : Float) → answer ≡ Ok x → Orbit s' b (orbit_of full look arc) (arc.steps + 1)
   pub only : Only 0 (b + work_size) s s'
 
 -- ---- the fit for other crates
@@ -124,7 +120,7 @@ pub record Serving (N steps : ℕ) (keys : List ℤ) (states room : ℕ) (r : Bo
   pub rising : r ≡ true → rising_seconds keys ≡ true
 
 -- the fit where the slices serve, and nothing otherwise
-pub record ArcFit (serves : Bool) (covered : Float → Bool) (full : Float → Vector → Vector) (look : Float → Held) (arc : Arc) (s s' : List Float) (base : ℕ)
+pub record ArcFit (serves : Bool) (covered : Float → Bool) (full : Float → Vector → Vector) (look : Float → Option State) (arc : Arc) (s s' : List Float) (base : ℕ)
     (answer : Fit) : Type 0 where
   pub fits : serves ≡ true → Fits covered full look arc s s' base answer
-  pub unfit : serves ≡ false → (answer ≡ Refused 3) × (s' ≡ s)
+  pub unfit : serves ≡ false → (answer ≡ Err Length) × (s' ≡ s)

@@ -4,17 +4,18 @@ ghost use Rattle.std.specs.Prelude.{◌≡◌, ℕ, ◌+◌, ◌*◌, ◌/◌, �
 ghost use Rattle.std.specs.Float.{nan};
 ghost use Rattle.laws.specs.Times.{step_time};
 ghost use Rattle.laws.specs.Checks.{rising_seconds};
-ghost use Rattle.numbers.specs.Seconds.{whole_second};
-ghost use Rattle.slices.specs.Slices.{lookup};
 ghost use Rattle.finality.specs.Brackets.{covers};
 ghost use Rattle.integrate.specs.Room.{run_size, Only, Orbit};
-ghost use Rattle.inputs.specs.Inputs.{model_of, front_size};
+ghost use Rattle.inputs.specs.Inputs.{front_size};
+ghost use Rattle.inputs.specs.Lent.{model_of, keyed_of};
 ghost use Rattle.integrate.specs.Force.{full_force, attraction_of, run_of};
 ghost use Rattle.integrate.specs.declared.kernel.Force.TheVariants.{Full, J2};
 ghost use Rattle.fit.specs.Fit.{state_for, seen, observed, start_of, scale_of, moved_of, updated_of, rms_of};
 ghost use Rattle.fit.specs.Room.{base_part, work_size, step_number, step_at, place_at, run_at};
 ghost use Rattle.fit.specs.WorkLeaves.{Measured, Based, Columned, Stored, Noted, Observing, Designed, Differentiated, Linearised, Rounded};
 ghost use Rattle.fit.specs.WorkLeaves.{Finished, FitFrom, Fits, arc_serves, Serving, ArcFit};
+
+use slices::Refusal;
 
 // Observed steps: step, x, y, z.
 const OBSERVED: usize = 31_818;
@@ -30,72 +31,43 @@ const DESIGN: usize = 42_428;
 // The end of the work.
 const WORK: usize = 90_173;
 
-// The state at a second, if there is one.
+// What the functions of a fit share: the model, the arc, and where in the lent numbers the states of a run begin.
 #[derive(Clone, Copy)]
-pub enum Held {
-    Known(integrate::kernel::State),
-    Missing,
+struct Bench<'a> {
+    model: inputs::Model<'a>,
+    arc: integrate::kernel::Arc,
+    base: usize,
+    ghost within: { model.degree ≤ 180 },
+    ghost few: { arc.steps ≤ 5302 },
+    ghost placed: { base ≡ front_size model.degree },
 }
 
-// An arc's fit: the rms of its misfits, or the number of its refusal. The states stay in scratch.
-#[derive(Clone, Copy)]
-pub enum Fitted {
-    Fitted(f64),
-    Refused(u8),
-}
-
-// Where the second of a time stands among the keys.
-fn place(keys: &[i64], t: f64) -> slices::Found
-    ensures { rising_seconds keys.now ≡ true → result ≡ lookup keys.now (whole_second t) }
+// The state at the second of a time, if it is known.
+#[tactic(auto, unfolding(crate::specs::Fit::state_for))]
+fn state_for(states: inputs::Keyed<'_>, t: f64) -> Option<integrate::kernel::State>
+    requires { rising_seconds states.keys.now ≡ true }
+    ensures { result ≡ state_for (keyed_of states.entry) t }
 {
-    let second = numbers::whole_second(numbers::GpsTime(t));
-    slices::find(keys, second.0)
-}
-
-fn state_for(keys: &[i64], states: &[f64], t: f64) -> Held
-    requires { (rising_seconds keys.now ≡ true) × (length states.now ≡ 6 * length keys.now) }
-    ensures { result ≡ state_for keys.now states.now t }
-{
-    let found = place(keys, t);
-    match found {
-        slices::Found::At(i) => {
-            if i < keys.len() {
-                let s = integrate::kernel::state_in(states, 6 * i);
-                return Held::Known(s);
-            }
-            Held::Missing
-        }
-        slices::Found::Nothing => Held::Missing,
-    }
+    integrate::rows::state_at(states, numbers::whole_second(numbers::GpsTime(t)))
 }
 
 // The states of a run, from the first six parameters.
-fn fly<'a>(
-    force: integrate::kernel::Force,
-    degree: usize,
-    model: inputs::Model<'a>,
-    arc: integrate::kernel::Arc,
-    p: [f64; 15],
-    s: &mut [f64],
-    base: usize,
-)
-    requires { (arc.steps ≤ 5302) × (base + run_size ≤ length s.old) × (degree ≤ 180) × (base ≡ front_size degree) }
-    ensures { Orbit s.new base (run_of (attraction_of force (model_of degree model.entry)) arc p) (arc.steps + 1)
-        × Only 0 (base + run_size) s.old s.new }
+fn fly(bench: Bench<'_>, force: integrate::kernel::Force, p: [f64; 15], s: &mut [f64])
+    requires { bench.base + run_size ≤ length s.old }
+    ensures { Orbit s.new bench.entry.base (run_of (attraction_of force (model_of bench.entry.model)) bench.entry.arc p)
+        (bench.entry.arc.steps + 1) × Only 0 (bench.entry.base + run_size) s.old s.new }
 {
-    integrate::kernel::run(force, degree, model, arc, p, s);
+    integrate::kernel::run(force, bench.model, bench.arc, p, s);
 }
 
 // A step number that was stored as a float.
 fn step_of(x: f64) -> usize
     ensures { (result ≡ step_number x) × (result ≤ 5302) }
 {
-    if x > -1.0 {
-        if x < 18446744073709551616.0 {
-            let k = std::num::truncating_f64_to_u64(x);
-            if k <= 5302 {
-                return k as usize;
-            }
+    if x > -1.0 && x < 18446744073709551616.0 {
+        let k = std::num::truncating_f64_to_u64(x);
+        if k <= 5302 {
+            return k as usize;
         }
     }
     0
@@ -207,139 +179,76 @@ fn put_observed(s: &mut [f64], at: usize, k: usize, v: vectors::Vector)
 }
 
 // Step 5c's position, if it is known, after n others. Returns how many there are then.
-fn note(
-    keys: &[i64],
-    states: &[f64],
-    t0: f64,
-    c: usize,
-    s: &mut [f64],
-    base: usize,
-    n: usize,
-) -> usize
-    requires { (rising_seconds keys.now ≡ true) × (length states.now ≡ 6 * length keys.now) × (n ≤ c) × (c < 1061)
-        × (base + work_size ≤ length s.old) }
-    ensures { Noted s.old s.new base n (seen (5 * c) (state_for keys.now states.now (step_time t0 (5 * c)))) result }
+fn note(states: inputs::Keyed<'_>, t0: f64, c: usize, s: &mut [f64], base: usize, n: usize) -> usize
+    requires { (rising_seconds states.keys.now ≡ true) × (n ≤ c) × (c < 1061) × (base + work_size ≤ length s.old) }
+    ensures { Noted s.old s.new base n (seen (5 * c) (state_for (keyed_of states.entry) (step_time t0 (5 * c)))) result }
 {
-    let held = state_for(keys, states, integrate::kernel::time(t0, 5 * c));
-    match held {
-        Held::Known(state) => {
+    match state_for(states, integrate::kernel::time(t0, 5 * c)) {
+        Some(state) => {
             put_observed(s, base + OBSERVED + 4 * n, 5 * c, state.position);
             n + 1
         }
-        Held::Missing => n,
+        None => n,
     }
 }
 
 // The known positions at every fifth step. Returns how many there are.
-fn observe(
-    keys: &[i64],
-    states: &[f64],
-    arc: integrate::kernel::Arc,
-    s: &mut [f64],
-    base: usize,
-) -> usize
-    requires { (rising_seconds keys.now ≡ true) × (length states.now ≡ 6 * length keys.now) × (arc.steps ≤ 5302)
-        × (base + work_size ≤ length s.old) }
-    ensures { Observing s.old s.new base (observed (state_for keys.now states.now) arc) result }
+fn observe(bench: Bench<'_>, states: inputs::Keyed<'_>, s: &mut [f64]) -> usize
+    requires { (rising_seconds states.keys.now ≡ true) × (bench.base + work_size ≤ length s.old) }
+    ensures { Observing s.old s.new bench.entry.base (observed (state_for (keyed_of states.entry)) bench.entry.arc) result }
 {
     let mut n: usize = 0;
-    for c in 0..arc.steps / 5 + 1 {
-        n = note(keys, states, arc.t0, c, s, base, n);
+    for c in 0..bench.arc.steps / 5 + 1 {
+        n = note(states, bench.arc.t0, c, s, bench.base, n);
     }
     n
 }
 
 // Column i of the design: a run with parameter i moved, less the base.
-fn partial<'a>(
-    degree: usize,
-    model: inputs::Model<'a>,
-    arc: integrate::kernel::Arc,
-    p: [f64; 15],
-    i: usize,
-    s: &mut [f64],
-    base: usize,
-    n: usize,
-)
-    requires { (arc.steps ≤ 5302) × (i < 15) × (n ≤ 1061) × (base + work_size ≤ length s.old) × (degree ≤ 180) × (base ≡ front_size degree) }
-    ensures { Differentiated (run_of (attraction_of J2 (model_of degree model.entry)) arc (moved_of p i)) arc.steps s.old s.new
-        base (3 * n) i }
+fn partial(bench: Bench<'_>, p: [f64; 15], i: usize, s: &mut [f64], n: usize)
+    requires { (i < 15) × (n ≤ 1061) × (bench.base + work_size ≤ length s.old) }
+    ensures { Differentiated (run_of (attraction_of J2 (model_of bench.entry.model)) bench.entry.arc (moved_of p i)) bench.entry.arc.steps
+        s.old s.new bench.entry.base (3 * n) i }
 {
-    let q = moved(p, i);
-    fly(integrate::kernel::Force::J2, degree, model, arc, q, s, base);
-    column(s, base, n, i);
+    fly(bench, integrate::kernel::Force::J2, moved(p, i), s);
+    column(s, bench.base, n, i);
 }
 
-fn design<'a>(
-    degree: usize,
-    model: inputs::Model<'a>,
-    arc: integrate::kernel::Arc,
-    p: [f64; 15],
-    s: &mut [f64],
-    base: usize,
-    n: usize,
-)
-    requires { (arc.steps ≤ 5302) × (n ≤ 1061) × (base + work_size ≤ length s.old) × (degree ≤ 180) × (base ≡ front_size degree) }
-    ensures { Designed (λ (i : ℕ). run_of (attraction_of J2 (model_of degree model.entry)) arc (moved_of p i)) arc.steps s.old
-        s.new base (3 * n) 15 }
+fn design(bench: Bench<'_>, p: [f64; 15], s: &mut [f64], n: usize)
+    requires { (n ≤ 1061) × (bench.base + work_size ≤ length s.old) }
+    ensures { Designed (λ (i : ℕ). run_of (attraction_of J2 (model_of bench.entry.model)) bench.entry.arc (moved_of p i))
+        bench.entry.arc.steps s.old s.new bench.entry.base (3 * n) 15 }
 {
     for i in 0..15usize {
-        partial(degree, model, arc, p, i, s, base, n);
+        partial(bench, p, i, s, n);
     }
 }
 
 // Misfits of the full run, and the design around the base run.
-fn linearise<'a>(
-    degree: usize,
-    model: inputs::Model<'a>,
-    arc: integrate::kernel::Arc,
-    p: [f64; 15],
-    s: &mut [f64],
-    base: usize,
-    n: usize,
-)
-    requires { (arc.steps ≤ 5302) × (n ≤ 1061) × (base + work_size ≤ length s.old) × (degree ≤ 180) × (base ≡ front_size degree) }
-    ensures { Linearised (run_of (attraction_of Full (model_of degree model.entry)) arc p)
-        (run_of (attraction_of J2 (model_of degree model.entry)) arc p) (λ (i : ℕ). run_of (attraction_of J2 (model_of degree model.entry)) arc (moved_of p i))
-        arc.steps s.old s.new base (3 * n) }
+fn linearise(bench: Bench<'_>, p: [f64; 15], s: &mut [f64], n: usize)
+    requires { (n ≤ 1061) × (bench.base + work_size ≤ length s.old) }
+    ensures { Linearised (run_of (attraction_of Full (model_of bench.entry.model)) bench.entry.arc p)
+        (run_of (attraction_of J2 (model_of bench.entry.model)) bench.entry.arc p)
+        (λ (i : ℕ). run_of (attraction_of J2 (model_of bench.entry.model)) bench.entry.arc (moved_of p i))
+        bench.entry.arc.steps s.old s.new bench.entry.base (3 * n) }
 {
-    fly(
-        integrate::kernel::Force::Full,
-        degree,
-        model,
-        arc,
-        p,
-        s,
-        base,
-    );
-    misfits(s, base, n);
-    fly(integrate::kernel::Force::J2, degree, model, arc, p, s, base);
-    bases(s, base, n);
-    design(degree, model, arc, p, s, base, n);
+    fly(bench, integrate::kernel::Force::Full, p, s);
+    misfits(s, bench.base, n);
+    fly(bench, integrate::kernel::Force::J2, p, s);
+    bases(s, bench.base, n);
+    design(bench, p, s, n);
 }
 
 // One round of Gauss-Newton: the parameters after it, or none.
-fn round<'a>(
-    degree: usize,
-    model: inputs::Model<'a>,
-    arc: integrate::kernel::Arc,
-    p: [f64; 15],
-    s: &mut [f64],
-    base: usize,
-    n: usize,
-) -> least_squares::kernel::Estimate
-    requires { (arc.steps ≤ 5302) × (n ≤ 1061) × (base + work_size ≤ length s.old) × (degree ≤ 180) × (base ≡ front_size degree) }
-    ensures { Rounded (full_force (model_of degree model.entry)) arc p s.old s.new base n result }
+fn round(bench: Bench<'_>, p: [f64; 15], s: &mut [f64], n: usize) -> Option<[f64; 15]>
+    requires { (n ≤ 1061) × (bench.base + work_size ≤ length s.old) }
+    ensures { Rounded (full_force (model_of bench.entry.model)) bench.entry.arc p s.old s.new bench.entry.base n result }
 {
-    linearise(degree, model, arc, p, s, base, n);
-    let d = base + DESIGN;
-    let m = base + MISFITS;
-    let e = least_squares::kernel::fifteen(&s[d..d + 45 * n], &s[m..m + 3 * n]);
-    let beta = e.beta;
-    let q = updated(p, beta);
-    least_squares::kernel::Estimate {
-        fine: e.fine,
-        beta: q,
-    }
+    linearise(bench, p, s, n);
+    let d = bench.base + DESIGN;
+    let m = bench.base + MISFITS;
+    let beta = least_squares::kernel::fifteen(&s[d..d + 45 * n], &s[m..m + 3 * n])?;
+    Some(updated(p, beta))
 }
 
 // The root of the mean square.
@@ -354,129 +263,81 @@ fn rms(y: &[f64]) -> f64
 }
 
 // The last full run and its misfits.
-fn finish<'a>(
-    degree: usize,
-    model: inputs::Model<'a>,
-    arc: integrate::kernel::Arc,
-    p: [f64; 15],
-    s: &mut [f64],
-    base: usize,
-    n: usize,
-) -> f64
-    requires { (arc.steps ≤ 5302) × (n ≤ 1061) × (base + work_size ≤ length s.old) × (degree ≤ 180) × (base ≡ front_size degree) }
-    ensures { Finished (full_force (model_of degree model.entry)) arc p s.old s.new base n result }
+fn finish(bench: Bench<'_>, p: [f64; 15], s: &mut [f64], n: usize) -> f64
+    requires { (n ≤ 1061) × (bench.base + work_size ≤ length s.old) }
+    ensures { Finished (full_force (model_of bench.entry.model)) bench.entry.arc p s.old s.new bench.entry.base n result }
 {
-    fly(
-        integrate::kernel::Force::Full,
-        degree,
-        model,
-        arc,
-        p,
-        s,
-        base,
-    );
-    misfits(s, base, n);
-    let m = base + MISFITS;
+    fly(bench, integrate::kernel::Force::Full, p, s);
+    misfits(s, bench.base, n);
+    let m = bench.base + MISFITS;
     rms(&s[m..m + 3 * n])
 }
 
 // Two rounds from a start, and the final run.
-fn fit_from<'a>(
-    degree: usize,
-    model: inputs::Model<'a>,
-    arc: integrate::kernel::Arc,
+fn fit_from(
+    bench: Bench<'_>,
     state: integrate::kernel::State,
     s: &mut [f64],
-    base: usize,
     n: usize,
-) -> Fitted
-    requires { (arc.steps ≤ 5302) × (n ≤ 1061) × (base + work_size ≤ length s.old) × (degree ≤ 180) × (base ≡ front_size degree) }
-    ensures { FitFrom (full_force (model_of degree model.entry)) arc state s.old s.new base n result }
+) -> Result<f64, Refusal>
+    requires { (n ≤ 1061) × (bench.base + work_size ≤ length s.old) }
+    ensures { FitFrom (full_force (model_of bench.entry.model)) bench.entry.arc state s.old s.new bench.entry.base n result }
 {
-    let first = round(degree, model, arc, start(state), s, base, n);
-    if !first.fine {
-        return Fitted::Refused(9);
-    }
-    let p = first.beta;
-    let second = round(degree, model, arc, p, s, base, n);
-    if !second.fine {
-        return Fitted::Refused(9);
-    }
-    let q = second.beta;
-    let r = finish(degree, model, arc, q, s, base, n);
-    Fitted::Fitted(r)
+    let p = round(bench, start(state), s, n).ok_or(Refusal::Singular)?;
+    let q = round(bench, p, s, n).ok_or(Refusal::Singular)?;
+    Ok(finish(bench, q, s, n))
 }
 
-// A dynamic orbit fitted to the known positions of an arc; its states stay in scratch from b on.
-fn fit_within<'a>(
-    degree: usize,
-    model: inputs::Model<'a>,
-    keys: &[i64],
-    states: &[f64],
-    arc: integrate::kernel::Arc,
-    s: &mut [f64],
-    base: usize,
-) -> Fitted
-    requires { (rising_seconds keys.now ≡ true) × (length states.now ≡ 6 * length keys.now) × (arc.steps ≤ 5302) × (base + work_size ≤ length s.old)
-        × (degree ≤ 180) × (base ≡ front_size degree) }
-    ensures { Fits (covers (model_of degree model.entry).fields.field_times) (full_force (model_of degree model.entry))
-        (state_for keys.now states.now) arc s.old s.new base result }
+// A dynamic orbit fitted to the known positions of an arc; its states stay in scratch.
+fn fit_within(bench: Bench<'_>, states: inputs::Keyed<'_>, s: &mut [f64]) -> Result<f64, Refusal>
+    requires { (rising_seconds states.keys.now ≡ true) × (bench.base + work_size ≤ length s.old) }
+    ensures { Fits (covers (model_of bench.entry.model).fields.field_times) (full_force (model_of bench.entry.model))
+        (state_for (keyed_of states.entry)) bench.entry.arc s.old s.new bench.entry.base result }
 {
-    let times = model[inputs::FIELD_TIMES];
-    if !model::kernel::covers(times, arc.t0) {
-        return Fitted::Refused(6);
-    }
-    if !model::kernel::covers(times, integrate::kernel::time(arc.t0, arc.steps)) {
-        return Fitted::Refused(6);
-    }
-    let n = observe(keys, states, arc, s, base);
-    if n < arc.steps / 10 {
-        return Fitted::Refused(7);
-    }
-    let held = state_for(keys, states, arc.t0);
-    match held {
-        Held::Known(state) => fit_from(degree, model, arc, state, s, base, n),
-        Held::Missing => Fitted::Refused(8),
-    }
+    let times = bench.model.field_times;
+    let arc = bench.arc;
+    slices::tested(model::kernel::covers(times, arc.t0), Refusal::Uncovered)?;
+    let end = integrate::kernel::time(arc.t0, arc.steps);
+    slices::tested(model::kernel::covers(times, end), Refusal::Uncovered)?;
+    let n = observe(bench, states, s);
+    slices::tested(arc.steps / 10 <= n, Refusal::TooFew)?;
+    let state = state_for(states, arc.t0).ok_or(Refusal::NoStart)?;
+    fit_from(bench, state, s, n)
 }
 
 // Whether the lent slices serve for a fit.
+#[tactic(auto, unfolding(crate::specs::WorkLeaves::arc_serves))]
 fn arc_fits(degree: usize, steps: usize, keys: &[i64], states: usize, room: usize) -> bool
     ensures { Serving degree steps keys.now states room result }
 {
-    if degree > 180 {
-        return false;
-    }
-    if steps > 5302 {
-        return false;
-    }
-    if states != 6 * keys.len() {
-        return false;
-    }
-    let base = inputs::front_size(degree);
-    if base + WORK > room {
-        return false;
-    }
-    slices::rising_keys(keys)
+    degree <= 180
+        && steps <= 5302
+        && states == 6 * keys.len()
+        && inputs::front_size(degree) + WORK <= room
+        && slices::rising_keys(keys)
 }
 
-// A dynamic orbit fitted to the known positions of an arc; its states stay behind the numbers before them. Refused by 3, and nothing is done, where the
-// slices do not serve.
-pub fn fit_arc<'a>(
-    degree: usize,
-    model: inputs::Model<'a>,
-    keys: &[i64],
-    states: &[f64],
+// A dynamic orbit fitted to the known positions of an arc; its states stay behind the numbers before them. Nothing is done where the slices do not serve.
+pub fn fit_arc(
+    model: inputs::Model<'_>,
+    states: inputs::Keyed<'_>,
     arc: integrate::kernel::Arc,
     s: &mut [f64],
-) -> Fitted
-    ensures { ArcFit (arc_serves degree arc.steps keys.now (length states.now) (length s.old))
-        (covers (model_of degree model.entry).fields.field_times) (full_force (model_of degree model.entry))
-        (state_for keys.now states.now) arc s.old s.new (front_size degree) result }
+) -> Result<f64, Refusal>
+    ensures { ArcFit
+        (arc_serves model.entry.degree arc.steps states.entry.keys.now (length states.entry.values.now) (length s.old))
+        (covers (model_of model.entry).fields.field_times) (full_force (model_of model.entry))
+        (state_for (keyed_of states.entry)) arc s.old s.new (front_size model.entry.degree) result }
 {
-    if arc_fits(degree, arc.steps, keys, states.len(), s.len()) {
-        let base = inputs::front_size(degree);
-        return fit_within(degree, model, keys, states, arc, s, base);
+    if !arc_fits(
+        model.degree,
+        arc.steps,
+        states.keys,
+        states.values.len(),
+        s.len(),
+    ) {
+        return Err(Refusal::Length);
     }
-    Fitted::Refused(3)
+    let base = inputs::front_size(model.degree);
+    fit_within(Bench { model, arc, base }, states, s)
 }

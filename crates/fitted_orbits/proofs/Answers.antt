@@ -2,27 +2,28 @@
 use mathlib.Core.Path.{◌≡◌, refl, sym, ap, ◌∙◌, subst}
 use mathlib.Core.Bool.{Bool, true, false, ◌&&◌}
 use mathlib.Core.List.{List, []}
-use Prim.Native.Nat.{ℕ, zero, suc, ◌+◌, ◌-◌, ◌*◌, ◌≤◌, ◌<◌}
+use Prim.Native.Nat.{ℕ, ◌+◌, ◌-◌, ◌*◌, ◌≤◌, ◌<◌}
 use native.Mathlib.Omega.{arith}
 use lib.Dec.{T, leb, eqb}
 use lib.Ieee.{Float, nan}
 use lib.Ieee.Scale.{finite}
-use lib.ListN.{length, get_or, replicate}
+use lib.ListN.{length, get_or}
 use borrow.Author.Tests.{leb-true, eqb-true}
-use Rattle.laws.specs.Floats.{zero64}
-use Rattle.laws.specs.Checks.{all, is_time, rising, rising_seconds, degree_fine}
+use Rattle.std.specs.List.{list_all}
+use Rattle.laws.specs.Checks.{is_time, rising, rising_seconds, degree_fine}
 use Rattle.laws.specs.Bools.{both_true}
-use Rattle.inputs.specs.Inputs.{window_room, fields_fine, few, model_sized, least_scratch, whole_scratch_fits, model_fine, keyed_fine, front_size}
+use Rattle.inputs.specs.Inputs.{window_room, fields_fine, few, model_sized, least_scratch, whole_scratch_fits, model_fine, rows_fine, front_size}
 use Rattle.inputs.proofs.Passed.{all_pass, degree_passes}
-use Rattle.finality.specs.Brackets.{covers}
-use Rattle.integrate.specs.Force.{full_force}
-use Rattle.fit.specs.Fit.{state_for}
 use Rattle.windows.specs.Windows.{Ends}
 use Rattle.windows.proofs.Filling.{ends_at}
-use Rattle.fitted_orbits.specs.declared.FittedOrbits.TheVariants.{Counted, Refused}
+use Rattle.std.specs.Prelude.{Ok, Err}
+use Rattle.laws.specs.Loops.{cleared, same_cleared}
+use Rattle.slices.specs.Calls.{Verdict, accepted}
+use Rattle.slices.specs.declared.refusal.Refusal.{Refusal}
+use Rattle.slices.specs.declared.refusal.Refusal.TheVariants.{NotFinite}
 use Rattle.fitted_orbits.specs.declared.work.Done.{Done}
-use Rattle.fitted_orbits.specs.Orbits.{Window, window_fit, between}
-use Rattle.fitted_orbits.specs.Calls.{Given, Outputs, outputs, places_fit, lengths_fit, refusal, fitted_windows, listed, left, handed, settled, orbits_call}
+use Rattle.fitted_orbits.specs.Orbits.{Window}
+use Rattle.fitted_orbits.specs.Calls.{Given, Outputs, places_fit, lengths_fit, refusal, fitted_windows, listed, left, handed, settled, orbits_call}
 use Rattle.fitted_orbits.specs.Work.{SoFar, Usable}
 use Rattle.fit.specs.Room.{work_size}
 
@@ -31,22 +32,22 @@ use Rattle.fit.specs.Room.{work_size}
 record Passed (g : Given) (fit : Bool) : Type 0 where
   pub degree : g.model.fixed.degree ≤ 180
   pub lengths : fit ≡ true
-  pub times : all is_time g.nodes ≡ true
+  pub times : list_all is_time g.nodes ≡ true
   pub keys : rising_seconds g.states.keys ≡ true
   pub nodes : rising g.nodes ≡ true
 
-passes : (g : Given) (fit : Bool) → refusal g fit ≡ 0 → Passed g fit
+passes : (g : Given) (fit : Bool) → refusal g fit ≡ accepted → Passed g fit
 unfolding refusal
 passes g fit h =
     let a = all_pass (degree_fine g.model.fixed.degree) ((fields_fine (length g.model.fields.field_times) && few (length g.states.keys)) && leb (length g.nodes) 64) fit
-    (model_fine g.model && (keyed_fine g.states.keys g.states.values && all is_time g.nodes))
-    (rising g.model.fields.field_times && (rising_seconds g.states.keys && rising g.nodes)) 0 h in
-    let values = (both_true (model_fine g.model) (keyed_fine g.states.keys g.states.values && all is_time g.nodes) a.values).1 in
+    (model_fine g.model && (rows_fine g.states && list_all is_time g.nodes))
+    (rising g.model.fields.field_times && (rising_seconds g.states.keys && rising g.nodes)) accepted h in
+    let values = (both_true (model_fine g.model) (rows_fine g.states && list_all is_time g.nodes) a.values).1 in
     let order = (both_true (rising g.model.fields.field_times) (rising_seconds g.states.keys && rising g.nodes) a.order).1 in
     record {
       degree = degree_passes g.model.fixed.degree a.degree;
       lengths = a.lengths;
-      times = (both_true (keyed_fine g.states.keys g.states.values) (all is_time g.nodes) values).1;
+      times = (both_true (rows_fine g.states) (list_all is_time g.nodes) values).1;
       keys = (both_true (rising_seconds g.states.keys) (rising g.nodes) order).0;
       nodes = (both_true (rising_seconds g.states.keys) (rising g.nodes) order).1;
     }
@@ -73,9 +74,9 @@ scratch_pass N fields n scratch h =
     let c = (both_true (leb n 64) (leb 0 100000 && leb least scratch) b).1 in
     omega (arith, leb-true least scratch (both_true (leb 0 100000) (leb least scratch) c).1)
 
-module _ (g : Given) (o : Outputs) (scratch : ℕ) (fit : Bool) (n : ℕ) (ef : fit ≡ lengths_fit g o scratch) (e : n ≡ refusal g fit) (z : n ≡ 0) where
+module _ (g : Given) (o : Outputs) (scratch : ℕ) (fit : Bool) (ef : fit ≡ lengths_fit g o scratch) (z : refusal g fit ≡ accepted) where
   passed : Passed g fit
-  passed = passes g fit (sym e ∙ z)
+  passed = passes g fit z
 
   abbrev model_fits_law : Bool
   model_fits_law = model_sized g.model
@@ -116,44 +117,32 @@ fit_is g o scratch p fit ep ef =
     ef ∙ ap (λ (x : Bool). (model_sized g.model && eqb (length g.states.values) (6 * length g.states.keys))
     && (x && whole_scratch_fits g.model.fixed.degree (length g.model.fields.field_times) (length g.nodes) 0 scratch)) ep
 
-pub so_far_given : (g : Given) (r : Done) (o : Outputs) →
-    SoFar (length g.nodes - 1) (between (window_fit (covers g.model.fields.field_times) (full_force g.model) (state_for g.states.keys g.states.values)) g.nodes) r o
-    → SoFar (length g.nodes - 1) (fitted_windows g) r o
-unfolding fitted_windows
-so_far_given g r o f = f
-
 -- ---- the three ends
 
-module _ (g : Given) (o : Outputs) (s : List Float) (fit : Bool) (n : ℕ) (ef : fit ≡ lengths_fit g o (length s)) (e : n ≡ refusal g fit) where
+module _ (g : Given) (o : Outputs) (s : List Float) (fit : Bool) (ef : fit ≡ lengths_fit g o (length s)) where
   abbrev k : ℕ
   k = length g.nodes - 1
 
   abbrev ws : List Window
   ws = fitted_windows g
 
-  settles : settled n k ws o s ≡ orbits_call g o s
-  settles = ap (λ (m : ℕ). settled m k ws o s) (e ∙ ap (refusal g) ef)
+  settles : (v : Verdict) → refusal g fit ≡ v → settled v k ws o s ≡ orbits_call g o s
+  settles v e = ap (λ (v : Verdict). settled v k ws o s) (sym e ∙ ap (refusal g) ef)
 
-  pub orbits_refused : (n ≡ 0 → ⊥) → left (Refused n) o s ≡ orbits_call g o s
-  orbits_refused z = nonzero n z ∙ settles
-    where
-      nonzero : (n : ℕ) → (n ≡ 0 → ⊥) → left (Refused n) o s ≡ settled n k ws o s
-      nonzero zero h = absurd (h refl)
-      nonzero (suc n) h = refl
+  pub orbits_refused : (e : Refusal) → refusal g fit ≡ Err e → left (Err e) o s ≡ orbits_call g o s
+  orbits_refused e h = settles (Err e) h
 
-  judged : (x : Bool) → n ≡ 0 → x ≡ (all finite (listed k ws).states && all finite (listed k ws).rms) → handed x k ws s ≡ orbits_call g o s
-  judged x z f = ap (λ (y : Bool). handed y k ws s) f ∙ ap (λ (m : ℕ). settled m k ws o s) (sym z) ∙ settles
+  module _ (z : refusal g fit ≡ accepted) (r : Done) (o' : Outputs) (f : SoFar (length g.nodes - 1) (fitted_windows g) r o') (s' w : List Float)
+      (es : s' ≡ cleared w) (l : length w ≡ length s) where
+    clear : s' ≡ cleared s
+    clear = es ∙ same_cleared w s l
 
-  module _ (z : n ≡ 0) (r : Done) (o' : Outputs) (f : SoFar k ws r o') (x y b : Bool) (ex : x ≡ all finite o'.states) (ey : y ≡ all finite o'.rms) (eb : b ≡ (x && y)) (s' : List Float) (m : ℕ)
-      (l : m ≡ length s) (es : s' ≡ replicate m zero64) where
-    fine : b ≡ (all finite (listed k ws).states && all finite (listed k ws).rms)
-    fine = eb ∙ (λ i. ex i && ey i) ∙ ap (λ (q : Outputs). all finite q.states && all finite q.rms) f.outputs
+    judged : (b : Bool) → b ≡ (list_all finite o'.states && list_all finite o'.rms) → handed b k ws s ≡ orbits_call g o s
+    judged b e =
+        ap (λ (y : Bool). handed y k ws s) (e ∙ ap (λ (q : Outputs). list_all finite q.states && list_all finite q.rms) f.outputs) ∙ settles accepted z
 
-    clear : s' ≡ replicate (length s) zero64
-    clear = es ∙ ap (λ (j : ℕ). replicate j zero64) l
+    pub orbits_handed : list_all finite o'.states ≡ true → list_all finite o'.rms ≡ true → left (Ok r) o' s' ≡ orbits_call g o s
+    orbits_handed x y = (λ i. left (Ok (record { states = f.states i; windows = f.windows i })) (f.outputs i) (clear i)) ∙ judged true (rw (x, y) refl)
 
-    pub orbits_handed : b ≡ true → left (Counted r.states r.windows) o' s' ≡ orbits_call g o s
-    orbits_handed t = (λ i. left (Counted (f.states i) (f.windows i)) (f.outputs i) (clear i)) ∙ judged true z (sym t ∙ fine)
-
-    pub orbits_unfit : (o'' : Outputs) → o'' ≡ listed k [] → b ≡ false → left (Refused 10) o'' s' ≡ orbits_call g o s
-    orbits_unfit o'' eo t = (λ i. left (Refused 10) (eo i) (clear i)) ∙ judged false z (sym t ∙ fine)
+    pub orbits_unfit : (o'' : Outputs) → o'' ≡ listed k [] → (list_all finite o'.states && list_all finite o'.rms) ≡ false → left (Err NotFinite) o'' s' ≡ orbits_call g o s
+    orbits_unfit o'' eo t = (λ i. left (Err NotFinite) (eo i) (clear i)) ∙ judged false (sym t)

@@ -1,4 +1,5 @@
 -- Laws of the windows that are added, one after the other. Assumes nothing.
+use Rattle.std.specs.Prelude.{Err, Ok, Option}
 use mathlib.Core.Path.{◌≡◌, refl, sym, ap, ◌∙◌, subst}
 use mathlib.Core.Bool.{Bool, false}
 use mathlib.Core.List.{List, [], ◌∷◌, ◌++◌, map, append_assoc, append-nil}
@@ -11,7 +12,13 @@ use lib.Ieee.{Float, nan, lt}
 use lib.ListN.{length, take, get_or, set, replicate, length-append, length-map, length-set}
 use lib.Seq.{take_all}
 use lib.Ieee.Bits.{is_true}
+use Rattle.slices.specs.declared.refusal.Refusal.{Refusal}
 use Rattle.inputs.specs.Inputs.{front_size}
+use Rattle.inputs.specs.Lent.{model_of, keyed_of}
+use Rattle.finality.specs.Brackets.{covers}
+use Rattle.integrate.specs.Force.{full_force}
+use Rattle.windows.specs.declared.kernel.Track.{Track}
+use Rattle.fit.specs.Room.{work_size}
 use Rattle.laws.specs.Floats.{zero64, ◌⊖◌}
 use Rattle.laws.specs.Lists.{map_append}
 use Rattle.laws.specs.Order.{lt→le}
@@ -24,11 +31,8 @@ use Rattle.vectors.specs.declared.Vector.{Vector}
 use Rattle.integrate.specs.Room.{Run}
 use Rattle.integrate.specs.declared.kernel.State.{State}
 use Rattle.integrate.specs.declared.kernel.Arc.{Arc as ArcStruct}
-use Rattle.fit.specs.Fit.{fit_of, orbit_of}
+use Rattle.fit.specs.Fit.{Fit, fit_of, orbit_of, state_for}
 use Rattle.fit.specs.WorkLeaves.{arc_serves, Fits, ArcFit}
-use Rattle.fit.specs.declared.kernel.Held.{Held}
-use Rattle.fit.specs.declared.kernel.Fitted.{Fitted}
-use Rattle.fit.specs.declared.kernel.Fitted.TheVariants.{Fitted as Rms, Refused}
 use Rattle.windows.specs.Stage.{arc_struct}
 use Rattle.windows.specs.Windows.{arc_between}
 use Rattle.windows.proofs.Arcs.{arc_between_law}
@@ -109,7 +113,21 @@ adds_then xs ys n d r r' o o' o'' f g = record {
 
 -- ---- one window
 
-module _ (covered : Float → Bool) (full : Float → Vector → Vector) (look : Float → Held) (a b : Float) where
+module _ (a b : Float) (sh : Short a b) where
+  pub steps_few : steps a b ≤ 5302
+  steps_few = let h = steps_short a b sh.ends.from sh.ends.to (lt→le a b sh.ends.order) sh.short in omega (arith, h)
+
+  pub arc_is : (x : ArcStruct) → x ≡ arc_between a b → x ≡ arc_struct (arc_of a b)
+  arc_is x e = e ∙ arc_between_law a b sh.ends sh.short
+
+  pub arc_few : (x : ArcStruct) → x ≡ arc_between a b → x.steps ≤ 5302
+  arc_few x e = let q = ap (λ (y : ArcStruct). y.steps) (arc_is x e) in omega (arith, q, steps_few)
+
+  -- at most 3,500 states of any run lie inside
+  pub arc_inside : (x : ArcStruct) → x ≡ arc_between a b → (run : Run) → length (inside x.t0 a b 0 (row run (x.steps + 1))) ≤ 3500
+  arc_inside x e run = inside_few a b sh.ends sh.short x.t0 x.steps (ap (λ (y : ArcStruct). y.t0) (arc_is x e)) (ap (λ (y : ArcStruct). y.steps) (arc_is x e)) run
+
+module _ (covered : Float → Bool) (full : Float → Vector → Vector) (look : Float → Option State) (a b : Float) where
   abbrev arc : ArcStruct
   arc = arc_struct (arc_of a b)
 
@@ -124,41 +142,28 @@ module _ (covered : Float → Bool) (full : Float → Vector → Vector) (look :
       none : window_fit covered full look a b ≡ []
       none = rw e refl
 
-  short_window : T (lt (b ⊖ a) longest) → (answer : Fitted) → answer ≡ fit_of covered full look arc → window_fit covered full look a b ≡ unless_refused answer table
+  short_window : T (lt (b ⊖ a) longest) → (answer : Fit) → answer ≡ fit_of covered full look arc → window_fit covered full look a b ≡ unless_refused answer table
   unfolding window_fit
-  short_window short answer e = rw (is_true (lt (b ⊖ a) longest) short) (ap (λ (x : Fitted). unless_refused x table) (sym e))
+  short_window short answer e = rw (is_true (lt (b ⊖ a) longest) short) (ap (λ (x : Fit). unless_refused x table) (sym e))
 
   module _ (sh : Short a b) where
-    pub steps_few : steps a b ≤ 5302
-    steps_few = let h = steps_short a b sh.ends.from sh.ends.to (lt→le a b sh.ends.order) sh.short in omega (arith, h)
-
-    pub arc_is : (x : ArcStruct) → x ≡ arc_between a b → x ≡ arc
-    arc_is x e = e ∙ arc_between_law a b sh.ends sh.short
-
-    pub arc_few : (x : ArcStruct) → x ≡ arc_between a b → x.steps ≤ 5302
-    arc_few x e = let q = ap (λ (y : ArcStruct). y.steps) (arc_is x e) in omega (arith, q, steps_few)
-
-    -- at most 3,500 states of any run lie inside
-    pub arc_inside : (x : ArcStruct) → x ≡ arc_between a b → (run : Run) → length (inside x.t0 a b 0 (row run (x.steps + 1))) ≤ 3500
-    arc_inside x e run = inside_few a b sh.ends sh.short x.t0 x.steps (ap (λ (y : ArcStruct). y.t0) (arc_is x e)) (ap (λ (y : ArcStruct). y.steps) (arc_is x e)) run
-
-    pub fits_here : (N : ℕ) (keys : List ℤ) (states : ℕ) (s s₁ : List Float) (x : ArcStruct) (answer : Fitted) → x ≡ arc_between a b → Usable N keys states (length s) →
+    fits_here : (N : ℕ) (keys : List ℤ) (states : ℕ) (s s₁ : List Float) (x : ArcStruct) (answer : Fit) → x ≡ arc_between a b → Usable N keys states (length s) →
         ArcFit (arc_serves N x.steps keys states (length s)) covered full look x s s₁ (front_size N) answer → Fits covered full look arc s s₁ (front_size N) answer
     fits_here N keys states s s₁ x answer e u f =
-        fits_of covered full look a b sh.ends N (steps a b) keys states s s₁ (front_size N) (start a) answer refl refl u.degree steps_few u.each refl u.enough u.rises
-        (subst (λ (y : ArcStruct). ArcFit (arc_serves N y.steps keys states (length s)) covered full look y s s₁ (front_size N) answer) (arc_is x e) f)
+        fits_of covered full look a b sh.ends N (steps a b) keys states s s₁ (front_size N) (start a) answer refl refl u.degree (steps_few a b sh) u.each refl u.enough u.rises
+        (subst (λ (y : ArcStruct). ArcFit (arc_serves N y.steps keys states (length s)) covered full look y s s₁ (front_size N) answer) (arc_is a b sh x e) f)
 
     -- a refused fit is skipped
-    pub refused_adds : (N : ℕ) (s s₁ : List Float) (done : Done) (o : Outputs) (answer : Fitted) (code : ℕ) → answer ≡ Refused code → Fits covered full look arc s s₁ (front_size N) answer →
+    pub refused_adds : (N : ℕ) (s s₁ : List Float) (done : Done) (o : Outputs) (answer : Fit) (code : Refusal) → answer ≡ Err code → Fits covered full look arc s s₁ (front_size N) answer →
         Adds (window_fit covered full look a b) 1 done done o o
-    refused_adds N s s₁ done o answer code e f = subst (λ (l : List Window). Adds l 1 done done o o) (sym (short_window sh.short (Refused code) (sym e ∙ f.said))) (adds_none 1 done o)
+    refused_adds N s s₁ done o answer code e f = subst (λ (l : List Window). Adds l 1 done done o o) (sym (short_window sh.short (Err code) (sym e ∙ f.said))) (adds_none 1 done o)
 
     -- else its states and its rms are added
-    fitted_adds : (N : ℕ) (s s₁ : List Float) (base : ℕ) (arc₁ : ArcStruct) (done : Done) (o : Outputs) (answer : Fitted) (x : Float) (n : ℕ) (keys' : List ℤ) (states' : List Float) →
-        answer ≡ Rms x → base ≡ front_size N → arc₁ ≡ arc_between a b → Fits covered full look arc s s₁ (front_size N) answer →
+    fitted_adds : (N : ℕ) (s s₁ : List Float) (base : ℕ) (arc₁ : ArcStruct) (done : Done) (o : Outputs) (answer : Fit) (x : Float) (n : ℕ) (keys' : List ℤ) (states' : List Float) →
+        answer ≡ Ok x → base ≡ front_size N → arc₁ ≡ arc_between a b → Fits covered full look arc s s₁ (front_size N) answer →
         Joins (inside arc₁.t0 a b 0 (row (read_run s₁ base) (arc₁.steps + 1))) done.states n o.keys keys' o.states states' →
         Adds (window_fit covered full look a b) 1 done (record { states = n; windows = done.windows + 1 }) o (outputs keys' states' (set o.rms done.windows x))
-    fitted_adds N s s₁ base arc₁ done o answer x n keys' states' e eb ea f j = subst (λ (l : List Window). Adds l 1 done r o o') (sym (short_window sh.short (Rms x) (sym e ∙ f.said))) (record {
+    fitted_adds N s s₁ base arc₁ done o answer x n keys' states' e eb ea f j = subst (λ (l : List Window). Adds l 1 done r o o') (sym (short_window sh.short (Ok x) (sym e ∙ f.said))) (record {
       all = λ k ws hs hw g. so_far_more k ws done o x table n keys' states' (omega arith) hw g j';
       states = omega (arith, j.few);
       windows = omega arith;
@@ -181,7 +186,7 @@ module _ (covered : Float → Bool) (full : Float → Vector → Vector) (look :
 
         same : inside arc₁.t0 a b 0 (row (read_run s₁ base) (arc₁.steps + 1)) ≡ table
         same =
-            ap (λ (y : ArcStruct). inside y.t0 a b 0 (row (read_run s₁ base) (y.steps + 1))) (arc_is arc₁ ea)
+            ap (λ (y : ArcStruct). inside y.t0 a b 0 (row (read_run s₁ base) (y.steps + 1))) (arc_is a b sh arc₁ ea)
             ∙ ap (λ (m : ℕ). inside (start a) a b 0 (row (read_run s₁ base) m)) (add-one (steps a b))
             ∙ ap (λ (l : List State). inside (start a) a b 0 l) read
 
@@ -189,15 +194,24 @@ module _ (covered : Float → Bool) (full : Float → Vector → Vector) (look :
         j' = subst (λ (l : Table State). Joins l done.states n o.keys keys' o.states states') same j
 
     -- the same, from what the calls gave
-    pub fitted_adds_at : (N : ℕ) (s s₁ : List Float) (base : ℕ) (arc₁ : ArcStruct) (done : Done) (o : Outputs) (answer : Fitted) (x : Float) (n : ℕ) (keys' : List ℤ) (states' : List Float) (w : ℕ)
+    pub fitted_adds_at : (N : ℕ) (s s₁ : List Float) (base : ℕ) (arc₁ : ArcStruct) (done : Done) (o : Outputs) (answer : Fit) (x : Float) (n : ℕ) (keys' : List ℤ) (states' : List Float) (w : ℕ)
         (rms' : List Float) →
-        answer ≡ Rms x → base ≡ front_size N → arc₁ ≡ arc_between a b → Fits covered full look arc s s₁ (front_size N) answer →
+        answer ≡ Ok x → base ≡ front_size N → arc₁ ≡ arc_between a b → Fits covered full look arc s s₁ (front_size N) answer →
         Joins (inside arc₁.t0 a b 0 (row (read_run s₁ base) (arc₁.steps + 1))) done.states n o.keys keys' o.states states' → w ≡ done.windows + 1 → rms' ≡ set o.rms done.windows x →
         Adds (window_fit covered full look a b) 1 done (record { states = n; windows = w }) o (outputs keys' states' rms')
     fitted_adds_at N s s₁ base arc₁ done o answer x n keys' states' w rms' e eb ea f j ew er =
         subst (λ (m : ℕ). Adds (window_fit covered full look a b) 1 done (record { states = n; windows = m }) o (outputs keys' states' rms')) (sym ew)
         (subst (λ (l : List Float). Adds (window_fit covered full look a b) 1 done (record { states = n; windows = done.windows + 1 }) o (outputs keys' states' l)) (sym er)
         (fitted_adds N s s₁ base arc₁ done o answer x n keys' states' e eb ea f j))
+
+-- the fit of a window over the lists of a track
+pub track_fits : (t : Track) (a b : Float) → Short a b → (s s₁ : List Float) (x : ArcStruct) (answer : Fit) → t.base + work_size ≤ length s → x ≡ arc_between a b →
+    ArcFit (arc_serves t.model.degree x.steps t.states.keys.now (length t.states.values.now) (length s)) (covers t.model.field_times.now) (full_force (model_of t.model))
+    (state_for (keyed_of t.states)) x s s₁ (front_size t.model.degree) answer →
+    Fits (covers t.model.field_times.now) (full_force (model_of t.model)) (state_for (keyed_of t.states)) (arc_struct (arc_of a b)) s s₁ (front_size t.model.degree) answer
+track_fits t a b sh s s₁ x answer room e f =
+    fits_here (covers t.model.field_times.now) (full_force (model_of t.model)) (state_for (keyed_of t.states)) a b sh t.model.degree t.states.keys.now
+    (length t.states.values.now) s s₁ x answer e (record { degree = t.within; rises = t.rising; each = t.six_each; enough = omega (arith, t.placed, room) }) f
 
 -- ---- window after window
 
@@ -255,10 +269,6 @@ module _ (f : Float → Float → List Window) (nodes : List Float) where
       let es = x.long_states in
       let er = x.long_rms in
       record { keys = omega (arith, a, ek, hk); states = omega (arith, a, es, hs); rms = omega (arith, b, er, hr) }
-
--- the slices stay usable
-pub usable_still : (N : ℕ) (keys : List ℤ) (states : ℕ) (s s' : List Float) → length s' ≡ length s → Usable N keys states (length s) → Usable N keys states (length s')
-usable_still N keys states s s' e u = subst (λ (n : ℕ). Usable N keys states n) (sym e) u
 
 -- ---- all windows, from empty outputs
 

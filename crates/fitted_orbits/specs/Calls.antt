@@ -1,29 +1,21 @@
 -- The public call `fitted_orbits` (document 01, "Outcomes" and "Bounds"): which refusal, the work, what is left. Assumes nothing.
-use Rattle.std.specs.Prelude.{ℕ, zero, suc, ◌-◌, ◌*◌, Bool, true, false, ◌&&◌, List, [], map, leb, eqb, ℤ, pos, Float, length}
-use Rattle.std.proofs.Math.Option.{Option, none, some}
+use Rattle.std.specs.Prelude.{ℕ, ◌-◌, ◌*◌, Bool, true, false, ◌&&◌, List, [], map, leb, eqb, ℤ, pos, Float, length, Result, Ok, Err}
 use Rattle.std.specs.Float.Ieee.Scale.{finite}
 use Rattle.laws.specs.Floats.{zero64}
-use Rattle.laws.specs.Checks.{all, is_time, rising, rising_seconds, degree_fine}
+use Rattle.std.specs.List.{list_all}
+use Rattle.laws.specs.Checks.{is_time, rising, rising_seconds, degree_fine}
 use Rattle.laws.specs.Loops.{cleared, filled_up}
-use Rattle.inputs.specs.Inputs.{Model, first_of, fields_fine, few, model_sized, whole_scratch_fits, model_fine, keyed_fine, Keyed, keyed}
+use Rattle.inputs.specs.Inputs.{Model, first_of, fields_fine, few, model_sized, whole_scratch_fits, model_fine, rows_fine, Keyed}
 use Rattle.vectors.specs.declared.Vector.{Vector}
 use Rattle.finality.specs.Tables.{key_of}
 use Rattle.finality.specs.Brackets.{covers}
 use Rattle.integrate.specs.Force.{full_force}
 use Rattle.fit.specs.Fit.{state_for}
-use Rattle.fitted_orbits.specs.declared.FittedOrbits.{FittedOrbits}
-use Rattle.fitted_orbits.specs.declared.FittedOrbits.TheVariants.{Counted, Refused}
-use Rattle.fitted_orbits.specs.Orbits.{Window, orbits_of, joined, numbers_of}
-
--- ---- an answer: document 01's number, 0 for acceptance, and the counts of states and of windows
-
-abbrev pub orbits_number : FittedOrbits → ℕ
-orbits_number (Counted states windows) = 0
-orbits_number (Refused n) = n
-
-abbrev pub orbits_values : FittedOrbits → Option (ℕ × ℕ)
-orbits_values (Counted states windows) = some (states, windows)
-orbits_values (Refused n) = none
+use Rattle.slices.specs.Calls.{Verdict, accepted}
+use Rattle.slices.specs.declared.refusal.Refusal.{Refusal}
+use Rattle.slices.specs.declared.refusal.Refusal.TheVariants.{NotFinite}
+use Rattle.fitted_orbits.specs.declared.work.Done.{Done}
+use Rattle.fitted_orbits.specs.Orbits.{Window, window_fit, between, joined, numbers_of}
 
 -- ---- the arguments
 
@@ -33,8 +25,8 @@ pub record Given : Type 0 where
   pub states : Keyed
   pub nodes : List Float
 
-abbrev pub given : Model → List ℤ → List Float → List Float → Given
-given model keys states nodes = record { model = model; states = keyed keys states; nodes = nodes }
+abbrev pub given : Model → Keyed → List Float → Given
+given model states nodes = record { model = model; states = states; nodes = nodes }
 
 -- its outputs
 pub record Outputs : Type 0 where
@@ -58,19 +50,26 @@ lengths_fit g o scratch =
     && whole_scratch_fits g.model.fixed.degree (length g.model.fields.field_times) (length g.nodes) 0 scratch)
 
 -- fit: whether all lengths do
-unfoldable pub refusal : Given → Bool → ℕ
+unfoldable pub refusal : Given → Bool → Verdict
 refusal g fit =
     first_of (degree_fine g.model.fixed.degree)
     ((fields_fine (length g.model.fields.field_times) && few (length g.states.keys)) && leb (length g.nodes) 64)
     fit
-    (model_fine g.model && (keyed_fine g.states.keys g.states.values && all is_time g.nodes))
-    (rising g.model.fields.field_times && (rising_seconds g.states.keys && rising g.nodes)) 0
+    (model_fine g.model && (rows_fine g.states && list_all is_time g.nodes))
+    (rising g.model.fields.field_times && (rising_seconds g.states.keys && rising g.nodes)) accepted
 
 -- ---- the work
 
+-- a window fitted by a full attraction, and by that of the model
+abbrev pub window_under : (Float → Vector → Vector) → Model → Keyed → Float → Float → List Window
+window_under full M states = window_fit (covers M.fields.field_times) full (state_for states)
+
+abbrev pub window_of : Model → Keyed → Float → Float → List Window
+window_of M = window_under (full_force M) M
+
 -- the windows fitted by a full attraction
 abbrev pub windows_by : (Float → Vector → Vector) → Given → List Window
-windows_by full g = orbits_of (covers g.model.fields.field_times) full (state_for g.states.keys g.states.values) g.nodes
+windows_by full g = between (window_under full g.model g.states) g.nodes
 
 unfoldable pub fitted_windows : Given → List Window
 fitted_windows g = windows_by (full_force g.model) g
@@ -83,22 +82,22 @@ listed k ws = outputs (filled_up (pos 0) (3500 * k) (map key_of (joined ws))) (f
     (filled_up zero64 k (map (λ (w : Window). w.0) ws))
 
 pub record Left : Type 0 where
-  pub answer : FittedOrbits
+  pub answer : Result Done Refusal
   pub outputs : Outputs
   pub scratch : List Float
 
-abbrev pub left : FittedOrbits → Outputs → List Float → Left
+abbrev pub left : Result Done Refusal → Outputs → List Float → Left
 left answer o scratch = record { answer = answer; outputs = o; scratch = scratch }
 
--- handed out where every number is finite, else 10 and zeros everywhere
+-- handed out where every number is finite, else refused and zeros everywhere
 abbrev pub handed : Bool → ℕ → List Window → List Float → Left
-handed true k ws scratch = left (Counted (length (joined ws)) (length ws)) (listed k ws) (cleared scratch)
-handed false k ws scratch = left (Refused 10) (listed k []) (cleared scratch)
+handed true k ws scratch = left (Ok (record { states = length (joined ws); windows = length ws })) (listed k ws) (cleared scratch)
+handed false k ws scratch = left (Err NotFinite) (listed k []) (cleared scratch)
 
--- document 01's number of a refusal before the work, with all unchanged; else what is handed out
-abbrev pub settled : ℕ → ℕ → List Window → Outputs → List Float → Left
-settled (suc n) k ws o scratch = left (Refused (suc n)) o scratch
-settled zero k ws o scratch = handed (all finite (listed k ws).states && all finite (listed k ws).rms) k ws scratch
+-- a refusal before the work, with all unchanged; else what is handed out
+abbrev pub settled : Verdict → ℕ → List Window → Outputs → List Float → Left
+settled (Err e) k ws o scratch = left (Err e) o scratch
+settled (Ok _) k ws o scratch = handed (list_all finite (listed k ws).states && list_all finite (listed k ws).rms) k ws scratch
 
 -- of windows that were fitted
 abbrev pub orbits_from : List Window → Given → Outputs → List Float → Left

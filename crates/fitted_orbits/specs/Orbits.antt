@@ -1,6 +1,6 @@
 -- The fitted orbits of one satellite (document 01, module 4; the source's `fitted_orbits`): of the windows between neighbouring nodes those that are fitted,
 -- each with the rms of its misfits and its states by second. The force and the states are functions of the time. Assumes nothing.
-use Rattle.std.specs.Prelude.{suc, Bool, cond, List, [], ◌∷◌, ◌++◌, Float}
+use Rattle.std.specs.Prelude.{suc, Bool, cond, List, [], ◌∷◌, ◌++◌, Float, Err, Ok, Option}
 use Rattle.std.specs.Float.Ieee.{lt}
 use Rattle.laws.specs.Floats.{◌⊖◌}
 use Rattle.laws.specs.Tables.{row}
@@ -9,10 +9,7 @@ use Rattle.finality.specs.Arcs.{longest, start, steps, arc_of, inside}
 use Rattle.vectors.specs.declared.Vector.{Vector}
 use Rattle.integrate.specs.Room.{six}
 use Rattle.integrate.specs.declared.kernel.State.{State}
-use Rattle.fit.specs.Fit.{fit_of, orbit_of}
-use Rattle.fit.specs.declared.kernel.Held.{Held}
-use Rattle.fit.specs.declared.kernel.Fitted.{Fitted}
-use Rattle.fit.specs.declared.kernel.Fitted.TheVariants.{Fitted as Rms, Refused}
+use Rattle.fit.specs.Fit.{Fit, fit_of, orbit_of}
 use Rattle.windows.specs.Stage.{arc_struct}
 
 -- a fitted window: its rms and the states inside it
@@ -20,12 +17,12 @@ abbrev pub Window : Type 0
 Window = Float × Table State
 
 -- a refused fit, by 6 to 9, is skipped
-abbrev pub unless_refused : Fitted → Table State → List Window
-unless_refused (Rms x) table = (x, table) ∷ []
-unless_refused (Refused n) table = []
+abbrev pub unless_refused : Fit → Table State → List Window
+unless_refused (Ok x) table = (x, table) ∷ []
+unless_refused (Err n) table = []
 
 -- the window (a, b), skipped where it is 7,000 s or longer
-unfoldable pub window_fit : (Float → Bool) → (Float → Vector → Vector) → (Float → Held) → Float → Float → List Window
+unfoldable pub window_fit : (Float → Bool) → (Float → Vector → Vector) → (Float → Option State) → Float → Float → List Window
 window_fit covered full look a b =
     cond (lt (b ⊖ a) longest)
     (unless_refused (fit_of covered full look (arc_struct (arc_of a b)))
@@ -37,10 +34,6 @@ unfoldable pub between : {X : Type 0} → (Float → Float → List X) → List 
 between f [] = []
 between f (a ∷ []) = []
 between f (a ∷ b ∷ nodes) = f a b ++ between f (b ∷ nodes)
-
--- the fitted windows, in the order of the nodes
-abbrev pub orbits_of : (Float → Bool) → (Float → Vector → Vector) → (Float → Held) → List Float → List Window
-orbits_of covered full look = between (window_fit covered full look)
 
 -- their states, end to end
 unfoldable pub joined : List Window → Table State

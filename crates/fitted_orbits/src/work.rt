@@ -1,20 +1,21 @@
 // The fitted windows of a satellite, one after the other into the lent outputs.
+// kept: the outputs are lent one by one, as the call has them; a struct of `&mut` slices would be taken apart in each function.
 ghost use Rattle.std.specs.Prelude.{◌≡◌, true, [], ℕ, ◌+◌, ◌-◌, ◌*◌, ◌≤◌, ◌<◌, pos, length, get_or, set, replicate};
 ghost use Rattle.std.specs.Float.{nan};
 ghost use Rattle.laws.specs.Times.{step_time, Time};
 ghost use Rattle.numbers.specs.Seconds.{whole_second};
 ghost use Rattle.finality.specs.Arcs.{inside};
 ghost use Rattle.laws.specs.Tables.{row};
-ghost use Rattle.finality.specs.Brackets.{covers};
-ghost use Rattle.inputs.specs.Inputs.{model_of};
-ghost use Rattle.integrate.specs.Force.{full_force};
+ghost use Rattle.inputs.specs.Lent.{model_of, keyed_of};
+ghost use Rattle.fit.specs.Room.{work_size};
 ghost use Rattle.integrate.specs.Room.{run_size, Run, state_in};
-ghost use Rattle.fit.specs.Fit.{state_for};
 ghost use Rattle.windows.specs.Slots.{within};
 ghost use Rattle.windows.specs.Windows.{Ends};
-ghost use Rattle.fitted_orbits.specs.Orbits.{window_fit, between};
-ghost use Rattle.fitted_orbits.specs.Calls.{outputs, listed};
+ghost use Rattle.fitted_orbits.specs.Orbits.{between};
+ghost use Rattle.fitted_orbits.specs.Calls.{given, outputs, listed, window_of, fitted_windows};
 ghost use Rattle.fitted_orbits.specs.Work.{put_six, read_run, Kept, Joins, SoFar, Room, Adds, Usable, Short};
+
+use windows::kernel::Track;
 
 // How many states and how many windows stand in the outputs.
 #[derive(Clone, Copy)]
@@ -26,14 +27,11 @@ pub struct Done {
 fn clear_keys(a: &mut [i64])
     ensures { a.new ≡ replicate (length a.old) (pos 0) }
 {
-    let mut i = 0;
-    while i < a.len() {
-        a[i] = 0;
-        i += 1;
-    }
+    a.fill(0);
 }
 
 // Six numbers of s, from a place on, to a place of out.
+#[tactic(auto, unfolding(crate::specs::Work::put_six, integrate::specs::Room::state_in))]
 fn put_state(s: &[f64], from: usize, out: &mut [f64], at: usize)
     requires { (from + 6 ≤ length s.now) × (at + 6 ≤ length out.old) }
     ensures { out.new ≡ put_six out.old at (state_in s.now from) }
@@ -115,11 +113,8 @@ fn put_rms(x: f64, rms: &mut [f64], at: usize) -> usize
 }
 
 // The fit of a window shorter than 7,000 s: its states and its rms, unless it is refused.
-fn fit_between<'a>(
-    degree: usize,
-    model: inputs::Model<'a>,
-    keys: &[i64],
-    states: &[f64],
+fn fit_between(
+    track: Track<'_>,
     from: f64,
     to: f64,
     done: Done,
@@ -128,24 +123,20 @@ fn fit_between<'a>(
     rms: &mut [f64],
     s: &mut [f64],
 ) -> Done
-    requires { Usable degree keys.now (length states.now) (length s.old) × Short from to
-        × Room done (outputs outkeys.old outstates.old rms.old) }
-    ensures { Adds (window_fit (covers (model_of degree model.entry).fields.field_times) (full_force (model_of degree model.entry))
-        (state_for keys.now states.now) from to) 1 done result (outputs outkeys.old outstates.old rms.old)
-        (outputs outkeys.new outstates.new rms.new) }
+    requires { (track.base + work_size ≤ length s.old) × Short from to × Room done (outputs outkeys.old outstates.old rms.old) }
+    ensures { Adds (window_of (model_of track.entry.model) (keyed_of track.entry.states) from to) 1 done result
+        (outputs outkeys.old outstates.old rms.old) (outputs outkeys.new outstates.new rms.new) }
 {
     let arc = windows::kernel::arc_between(from, to);
-    let base = inputs::front_size(degree);
-    let fitted = fit::kernel::fit_arc(degree, model, keys, states, arc, s);
-    match fitted {
-        fit::kernel::Fitted::Fitted(x) => {
+    match fit::kernel::fit_arc(track.model, track.states, arc, s) {
+        Ok(x) => {
             let n = keep(
                 arc.t0,
                 from,
                 to,
                 arc.steps,
                 &s[..],
-                base,
+                track.base,
                 done.states,
                 outkeys,
                 outstates,
@@ -156,16 +147,13 @@ fn fit_between<'a>(
                 windows: w,
             }
         }
-        fit::kernel::Fitted::Refused(_) => done,
+        Err(_) => done,
     }
 }
 
 // A window, skipped where it is 7,000 s or longer.
-fn window<'a>(
-    degree: usize,
-    model: inputs::Model<'a>,
-    keys: &[i64],
-    states: &[f64],
+fn window(
+    track: Track<'_>,
     from: f64,
     to: f64,
     done: Done,
@@ -174,61 +162,48 @@ fn window<'a>(
     rms: &mut [f64],
     s: &mut [f64],
 ) -> Done
-    requires { Usable degree keys.now (length states.now) (length s.old) × Ends from to
-        × Room done (outputs outkeys.old outstates.old rms.old) }
-    ensures { Adds (window_fit (covers (model_of degree model.entry).fields.field_times) (full_force (model_of degree model.entry))
-        (state_for keys.now states.now) from to) 1 done result (outputs outkeys.old outstates.old rms.old)
-        (outputs outkeys.new outstates.new rms.new) }
+    requires { (track.base + work_size ≤ length s.old) × Ends from to × Room done (outputs outkeys.old outstates.old rms.old) }
+    ensures { Adds (window_of (model_of track.entry.model) (keyed_of track.entry.states) from to) 1 done result
+        (outputs outkeys.old outstates.old rms.old) (outputs outkeys.new outstates.new rms.new) }
 {
     if to - from < 7000.0 {
-        return fit_between(
-            degree, model, keys, states, from, to, done, outkeys, outstates, rms, s,
-        );
+        return fit_between(track, from, to, done, outkeys, outstates, rms, s);
     }
     done
 }
 
 // The windows between neighbouring nodes.
-fn fit_each<'a>(
-    degree: usize,
-    model: inputs::Model<'a>,
-    keys: &[i64],
-    states: &[f64],
+fn fit_each(
+    track: Track<'_>,
     nodes: &[f64],
     outkeys: &mut [i64],
     outstates: &mut [f64],
     rms: &mut [f64],
     s: &mut [f64],
 ) -> Done
-    requires { Usable degree keys.now (length states.now) (length s.old)
+    requires { (track.base + work_size ≤ length s.old)
         × ((w : ℕ) → w + 1 < length nodes.now → Ends (get_or nodes.now w nan) (get_or nodes.now (w + 1) nan))
         × (length outkeys.old ≡ 3500 * (length nodes.now - 1)) × (length outstates.old ≡ 6 * (3500 * (length nodes.now - 1)))
         × (length rms.old ≡ length nodes.now - 1) }
-    ensures { Adds (between (window_fit (covers (model_of degree model.entry).fields.field_times) (full_force (model_of degree model.entry))
-        (state_for keys.now states.now)) nodes.now) (length nodes.now - 1) (record { states = 0; windows = 0 }) result
+    ensures { Adds (between (window_of (model_of track.entry.model) (keyed_of track.entry.states)) nodes.now) (length nodes.now - 1)
+        (record { states = 0; windows = 0 }) result
         (outputs outkeys.old outstates.old rms.old) (outputs outkeys.new outstates.new rms.new) }
 {
     let mut done = Done {
         states: 0,
         windows: 0,
     };
-    let mut w: usize = 0;
-    while w + 1 < nodes.len() {
-        let next = w + 1;
+    for w in 0..nodes.len().saturating_sub(1) {
         done = window(
-            degree,
-            model,
-            keys,
-            states,
+            track,
             nodes[w],
-            nodes[next],
+            nodes[w + 1],
             done,
             outkeys,
             outstates,
             rms,
             s,
         );
-        w = next;
     }
     done
 }
@@ -244,28 +219,28 @@ pub(crate) fn clear_outputs(outkeys: &mut [i64], outstates: &mut [f64], rms: &mu
 }
 
 // The fitted windows of all neighbouring nodes; 0 and +0.0 after the last.
-pub(crate) fn fill<'a>(
-    degree: usize,
-    model: inputs::Model<'a>,
-    keys: &[i64],
-    states: &[f64],
+pub(crate) fn fill(
+    model: inputs::Model<'_>,
+    states: inputs::Keyed<'_>,
     nodes: &[f64],
     outkeys: &mut [i64],
     outstates: &mut [f64],
     rms: &mut [f64],
     s: &mut [f64],
 ) -> Done
-    requires { Usable degree keys.now (length states.now) (length s.old)
+    requires { Usable model.degree states.keys.now (length states.values.now) (length s.old)
         × ((w : ℕ) → w + 1 < length nodes.now → Ends (get_or nodes.now w nan) (get_or nodes.now (w + 1) nan))
         × (length outkeys.old ≡ 3500 * (length nodes.now - 1)) × (length outstates.old ≡ 6 * (3500 * (length nodes.now - 1)))
         × (length rms.old ≡ length nodes.now - 1) }
-    ensures { SoFar (length nodes.now - 1)
-        (between (window_fit (covers (model_of degree model.entry).fields.field_times) (full_force (model_of degree model.entry))
-        (state_for keys.now states.now)) nodes.now) result
+    ensures { SoFar (length nodes.now - 1) (fitted_windows (given (model_of model.entry) (keyed_of states.entry) nodes.now)) result
         (outputs outkeys.new outstates.new rms.new) }
 {
     clear_outputs(outkeys, outstates, rms);
-    fit_each(
-        degree, model, keys, states, nodes, outkeys, outstates, rms, s,
-    )
+    let base = inputs::front_size(model.degree);
+    let track = Track {
+        model,
+        states,
+        base,
+    };
+    fit_each(track, nodes, outkeys, outstates, rms, s)
 }

@@ -3,22 +3,22 @@ use mathlib.Core.Path.{◌≡◌, refl, sym, ap, ◌∙◌}
 use mathlib.Core.Bool.{Bool, true, false, not, ◌&&◌, false≢true}
 use mathlib.Core.List.{List, [], ◌∷◌, ◌++◌, append_assoc, append-nil}
 use Prim.Native.Nat.{ℕ, zero, suc, ◌+◌, ◌-◌, ◌*◌, ◌/◌, ◌%◌, ◌^◌, ◌<◌, ◌≤◌}
-use native.Mathlib.Nat.{lt_of_lt_of_le, add-mul, one-mul, mul_assoc, pow-zero, pow-succ', le_refl, le_trans, mul-le-mul_left, mul-le-mul_right, mul-one, div-mul-le_self, div-lt_iff_lt-mul}
+use native.Mathlib.Nat.{lt_of_lt_of_le, add-mul, one-mul, mul_assoc, pow-zero, pow-succ', le_refl, le_trans, mul-le-mul_left, mul-le-mul_right, mul-one}
 use native.Mathlib.Numerals.{add-one}
 use native.Mathlib.Omega.{arith}
 use borrow.Rule.Slice.PartMut.{mid_of, post_of, put_mid, Post-is, mid_len}
 use borrow.Author.Tests.{ltb-true, lt-ltb, le-ltb, le-leb, lt-leb, eq-eqb, ne_eqb}
-use lib.Ieee.{Float, nan, inf, fin, binary64, is_nan, of_bits, nan_bits, to_bits, ne}
+use lib.Ieee.{Float, nan, inf, fin, binary64, is_nan, of_bits, nan_bits, to_bits}
 use lib.Ieee.Bits.{nan_bits_above, nan_bits_is}
 use lib.Dec.{T, ltb, eqb}
 use lib.ListN.{length, take, drop, get_or, set, length-set, length-append, length-drop, drop_of_length-le}
 use lib.Seq.{take_all, length-take-le, drop-cons, get_or-set_same, drop-set-lt}
-use Rattle.laws.specs.Checks.{all}
+use Rattle.std.specs.List.{list_all}
 use Rattle.laws.specs.Loops.{head_at}
 use Rattle.laws.specs.Bools.{left_true, right_true}
-use Rattle.laws.specs.SameBits.{ne_is_nan}
-use Rattle.hexadecimal.specs.declared.Parsed.{Parsed}
-use Rattle.hexadecimal.specs.declared.Parsed.TheVariants.{Value, Malformed}
+use Rattle.std.specs.Prelude.{Option, Some, None, ◌⊎◌}
+use Rattle.std.proofs.Common.{inl, inr}
+use Rattle.std.proofs.lemmas.Bool.Decides.{nat_tests}
 use Rattle.hexadecimal.specs.Digits.{digit_of, glyph_of, is_digit, value_from, digits_of, valued, spelled_in, word_at, written, unpadded, counted, decimal_at, places_in, places_of, Put, is_word}
 
 -- ---- reading
@@ -27,10 +27,10 @@ abbrev pub limit : ℕ
 limit = 18446744073709551616
 
 -- what digits still to be read say behind the value that was read
-abbrev pub stands : ℕ → ℕ → List ℕ → Parsed
-stands base before bs = valued (all (is_digit base) bs && ltb (value_from base before bs) limit) (value_from base before bs)
+abbrev pub stands : ℕ → ℕ → List ℕ → Option ℕ
+stands base before bs = valued (list_all (is_digit base) bs && ltb (value_from base before bs) limit) (value_from base before bs)
 
-none : (a : Bool) (n : ℕ) → valued (a && false) n ≡ Malformed
+none : (a : Bool) (n : ℕ) → valued (a && false) n ≡ None
 none true n = refl
 none false n = refl
 
@@ -49,46 +49,46 @@ cons_turn : (base before b d : ℕ) (bs : List ℕ) → d ≡ digit_of b → d <
 unfolding is_digit value_from
 cons_turn base before b d bs e h = let k : digit_of b < base = rw e at h in simp (e, lt-ltb (digit_of b) base k)
 
-cons_bad : (base before b d : ℕ) (bs : List ℕ) → d ≡ digit_of b → base ≤ d → stands base before (b ∷ bs) ≡ Malformed
+cons_bad : (base before b d : ℕ) (bs : List ℕ) → d ≡ digit_of b → base ≤ d → stands base before (b ∷ bs) ≡ None
 unfolding is_digit
 cons_bad base before b d bs e h = let k : base ≤ digit_of b = rw e at h in simp (le-ltb (digit_of b) base k)
 
-over : (base before d : ℕ) → 0 < base → d < 16 → (limit - 1 - d) / base < before → limit ≤ before * base + d
-over base before d p h k = let m : limit - 1 - d < before * base = (div-lt_iff_lt-mul p).0 k in omega arith
-
-cons_over : (base before b d : ℕ) (bs : List ℕ) → 0 < base → base ≤ 16 → d ≡ digit_of b → d < base → (limit - 1 - d) / base < before → stands base before (b ∷ bs) ≡ Malformed
+cons_over : (base before b d : ℕ) (bs : List ℕ) → 0 < base → d ≡ digit_of b → limit ≤ before * base + d → stands base before (b ∷ bs) ≡ None
 unfolding value_from
-cons_over base before b d bs p q e h k =
-    let o : limit ≤ before * base + digit_of b = rw e at (over base before d p (omega arith) k) in
+cons_over base before b d bs p e k =
+    let o : limit ≤ before * base + digit_of b = rw e at k in
     let g : limit ≤ value_from base (before * base + digit_of b) bs = le_trans o (from_ge base (before * base + digit_of b) bs p) in
-    rw (le-ltb (value_from base (before * base + digit_of b) bs) limit g) (none (all (is_digit base) (b ∷ bs)) (value_from base (before * base + digit_of b) bs))
-
-pub room : (base value d : ℕ) → 0 < base → d < 16 → value ≤ (limit - 1 - d) / base → value * base + d < limit
-room base value d p h k =
-    let m : value * base ≤ (limit - 1 - d) / base * base = mul-le-mul_right base k in
-    let n : (limit - 1 - d) / base * base ≤ limit - 1 - d = div-mul-le_self (limit - 1 - d) base in
-    omega arith
+    rw (le-ltb (value_from base (before * base + digit_of b) bs) limit g) (none (list_all (is_digit base) (b ∷ bs)) (value_from base (before * base + digit_of b) bs))
 
 pub read_starts : (base : ℕ) (text : List ℕ) → stands base 0 (drop 0 text) ≡ spelled_in base text
 unfolding spelled_in
 read_starts base text = refl
 
-pub read_on : (base value i d : ℕ) (text : List ℕ) (goal : Parsed) → i < length text → d ≡ digit_of (get_or text i 0) → d < base →
+pub read_on : (base value i d : ℕ) (text : List ℕ) (goal : Option ℕ) → i < length text → d ≡ digit_of (get_or text i 0) → d < base →
     stands base value (drop i text) ≡ goal → stands base (value * base + d) (drop (i + 1) text) ≡ goal
 read_on base value i d text goal h e k inv =
     sym (cons_turn base value (get_or text i 0) d (drop (i + 1) text) e k) ∙ ap (stands base value) (sym (head_at text i 0 h)) ∙ inv
 
-pub read_bad : (base value i d : ℕ) (text : List ℕ) (goal : Parsed) → i < length text → d ≡ digit_of (get_or text i 0) → base ≤ d →
-    stands base value (drop i text) ≡ goal → Malformed ≡ goal
+pub read_bad : (base value i d : ℕ) (text : List ℕ) (goal : Option ℕ) → i < length text → d ≡ digit_of (get_or text i 0) → base ≤ d →
+    stands base value (drop i text) ≡ goal → None ≡ goal
 read_bad base value i d text goal h e k inv =
     sym (cons_bad base value (get_or text i 0) d (drop (i + 1) text) e k) ∙ ap (stands base value) (sym (head_at text i 0 h)) ∙ inv
 
-pub read_over : (base value i d : ℕ) (text : List ℕ) (goal : Parsed) → 0 < base → base ≤ 16 → i < length text → d ≡ digit_of (get_or text i 0) → d < base →
-    (limit - 1 - d) / base < value → stands base value (drop i text) ≡ goal → Malformed ≡ goal
-read_over base value i d text goal p q h e k o inv =
-    sym (cons_over base value (get_or text i 0) d (drop (i + 1) text) p q e k o) ∙ ap (stands base value) (sym (head_at text i 0 h)) ∙ inv
+pub read_over : (base value i d : ℕ) (text : List ℕ) (goal : Option ℕ) → 0 < base → i < length text → d ≡ digit_of (get_or text i 0) →
+    limit ≤ value * base + d → stands base value (drop i text) ≡ goal → None ≡ goal
+read_over base value i d text goal p h e o inv =
+    sym (cons_over base value (get_or text i 0) d (drop (i + 1) text) p e o) ∙ ap (stands base value) (sym (head_at text i 0 h)) ∙ inv
 
-pub read_done : (base value i : ℕ) (text : List ℕ) (goal : Parsed) → length text ≤ i → value < limit → stands base value (drop i text) ≡ goal → Value value ≡ goal
+-- what a byte's value as a digit says
+pub some_digit : (b d : ℕ) → Some d ≡ valued (is_digit 16 b) (digit_of b) → (d ≡ digit_of b) × (d < 16)
+unfolding is_digit
+some_digit b d h = grind (arith, nat_tests)
+
+pub no_digit : (b : ℕ) → None ≡ valued (is_digit 16 b) (digit_of b) → 16 ≤ digit_of b
+unfolding is_digit
+no_digit b h = grind (arith, nat_tests)
+
+pub read_done : (base value i : ℕ) (text : List ℕ) (goal : Option ℕ) → length text ≤ i → value < limit → stands base value (drop i text) ≡ goal → Some value ≡ goal
 unfolding value_from
 read_done base value i text goal h k inv = sym (rw (drop_of_length-le text h, lt-ltb value limit k)) ∙ inv
 
@@ -117,10 +117,10 @@ write_done base rest (suc i) out goal h inv = absurd (omega arith)
 
 -- ---- words
 
-pub word_true : (w p : Parsed) (n : ℕ) → w ≡ p → w ≡ Value n → true ≡ is_word p
+pub word_true : (w p : Option ℕ) (n : ℕ) → w ≡ p → w ≡ Some n → true ≡ is_word p
 word_true w p n e h = ap is_word (sym h ∙ e)
 
-pub word_false : (w p : Parsed) → w ≡ p → w ≡ Malformed → false ≡ is_word p
+pub word_false : (w p : Option ℕ) → w ≡ p → w ≡ None → false ≡ is_word p
 word_false w p e h = ap is_word (sym h ∙ e)
 
 -- ---- 16 hexadecimal digits fit 64 bits
@@ -128,34 +128,34 @@ word_false w p e h = ap is_word (sym h ∙ e)
 step_up : (base before d : ℕ) → d < base → before * base + d + 1 ≤ (before + 1) * base
 step_up base before d h = let e : (before + 1) * base ≡ before * base + base = add-mul before 1 base ∙ rw one-mul in rw e (omega arith)
 
-pub bounded : (base before : ℕ) (bs : List ℕ) → all (is_digit base) bs ≡ true → value_from base before bs < (before + 1) * base ^ length bs
+pub bounded : (base before : ℕ) (bs : List ℕ) → list_all (is_digit base) bs ≡ true → value_from base before bs < (before + 1) * base ^ length bs
 unfolding value_from is_digit
 bounded base before [] a = rw (pow-zero, mul-one) (omega arith)
 bounded base before (b ∷ bs) a =
-    let d : ltb (digit_of b) base ≡ true = left_true (ltb (digit_of b) base) (all (is_digit base) bs) a in
-    let r : all (is_digit base) bs ≡ true = right_true (ltb (digit_of b) base) (all (is_digit base) bs) a in
+    let d : ltb (digit_of b) base ≡ true = left_true (ltb (digit_of b) base) (list_all (is_digit base) bs) a in
+    let r : list_all (is_digit base) bs ≡ true = right_true (ltb (digit_of b) base) (list_all (is_digit base) bs) a in
     let k : before * base + digit_of b + 1 ≤ (before + 1) * base = step_up base before (digit_of b) (ltb-true (digit_of b) base d) in
     let g : value_from base (before * base + digit_of b) bs < (before * base + digit_of b + 1) * base ^ length bs = bounded base (before * base + digit_of b) bs r in
     let m : (before * base + digit_of b + 1) * base ^ length bs ≤ (before + 1) * base * base ^ length bs = mul-le-mul_right (base ^ length bs) k in
     rw (pow-succ' base (length bs), ← mul_assoc) (lt_of_lt_of_le g m)
 
-pub sixteen : (bs : List ℕ) → length bs ≡ 16 → all (is_digit 16) bs ≡ true → value_from 16 0 bs < limit
+pub sixteen : (bs : List ℕ) → length bs ≡ 16 → list_all (is_digit 16) bs ≡ true → value_from 16 0 bs < limit
 sixteen bs l a = let h : value_from 16 0 bs < (0 + 1) * 16 ^ length bs = bounded 16 0 bs a in rw l at h
 
-same_test : (bs : List ℕ) → length bs ≡ 16 → (a : Bool) → all (is_digit 16) bs ≡ a → valued (a && ltb (value_from 16 0 bs) limit) (value_from 16 0 bs) ≡ valued a (value_from 16 0 bs)
+same_test : (bs : List ℕ) → length bs ≡ 16 → (a : Bool) → list_all (is_digit 16) bs ≡ a → valued (a && ltb (value_from 16 0 bs) limit) (value_from 16 0 bs) ≡ valued a (value_from 16 0 bs)
 same_test bs l true e = rw (lt-ltb (value_from 16 0 bs) limit (sixteen bs l e))
 same_test bs l false e = refl
 
-pub word_in : (text : List ℕ) (at end : ℕ) (r : Parsed) → 16 ≤ length text → at ≤ length text - 16 → end ≡ at + 16 →
-    r ≡ spelled_in 16 (take (end - at) (drop at text)) → r ≡ word_at text at
+pub word_in : (text rest bytes : List ℕ) (at : ℕ) (r : Option ℕ) → 16 ≤ length text - at → rest ≡ take (length text - at) (drop at text) → bytes ≡ take 16 rest →
+    r ≡ spelled_in 16 bytes → r ≡ word_at text at
 unfolding spelled_in word_at
-word_in text at end r h k e s =
-    let n : end - at ≡ 16 = omega arith in
-    let l : length (take 16 (drop at text)) ≡ 16 = length-take-le 16 (drop at text) (simp length-drop (omega arith)) in
-    let s' : r ≡ spelled_in 16 (take 16 (drop at text)) = rw n at s in
-    s' ∙ same_test (take 16 (drop at text)) l (all (is_digit 16) (take 16 (drop at text))) refl ∙ rw (eq-eqb (length (take 16 (drop at text))) 16 l)
+word_in text rest bytes at r h e f s =
+    let w : take (length text - at) (drop at text) ≡ drop at text = take_all (length text - at) (drop at text) (omega (arith, length-drop at text)) in
+    let b : bytes ≡ take 16 (drop at text) = f ∙ ap (take 16) (e ∙ w) in
+    let l : length (take 16 (drop at text)) ≡ 16 = length-take-le 16 (drop at text) (simp length-drop h) in
+    s ∙ ap (spelled_in 16) b ∙ same_test (take 16 (drop at text)) l (list_all (is_digit 16) (take 16 (drop at text))) refl ∙ rw (eq-eqb (length (take 16 (drop at text))) 16 l)
 
-pub word_out : (text : List ℕ) (at : ℕ) → length text - at < 16 → Malformed ≡ word_at text at
+pub word_out : (text : List ℕ) (at : ℕ) → length text - at < 16 → None ≡ word_at text at
 unfolding word_at
 word_out text at h =
     let d : length (drop at text) ≡ length text - at = length-drop at text in
@@ -206,23 +206,20 @@ unpadded_more [] h k = absurd (h refl)
 unpadded_more (b ∷ []) h k = absurd (k refl)
 unpadded_more (b ∷ c ∷ bs) h k = refl
 
-pub counted_in : (text : List ℕ) (b : Bool) (r : Parsed) → b ≡ unpadded text → b ≡ true → r ≡ spelled_in 10 text → r ≡ counted text
+pub counted_in : (text : List ℕ) (b : Bool) (r : Option ℕ) → b ≡ unpadded text → b ≡ true → r ≡ spelled_in 10 text → r ≡ counted text
 unfolding counted spelled_in
 counted_in text b r e t s = let u : unpadded text ≡ true = sym e ∙ t in s ∙ rw u
 
-pub counted_out : (text : List ℕ) (b : Bool) → b ≡ unpadded text → b ≡ false → Malformed ≡ counted text
+pub counted_out : (text : List ℕ) (b : Bool) → b ≡ unpadded text → b ≡ false → None ≡ counted text
 unfolding counted
 counted_out text b e t = let u : unpadded text ≡ false = sym e ∙ t in rw u
 
-pub decimal_past : (text : List ℕ) (at end : ℕ) → length text < end → Malformed ≡ decimal_at text at end
-unfolding decimal_at
-decimal_past text at end h = rw (lt-leb end (length text) h)
-
-pub decimal_empty : (text : List ℕ) (at end : ℕ) → end ≤ length text → end ≤ at → Malformed ≡ decimal_at text at end
+pub decimal_out : (text : List ℕ) (at end : ℕ) → (end < at) ⊎ (length text < end) → None ≡ decimal_at text at end
 unfolding decimal_at counted unpadded
-decimal_empty text at end h k = let z : end - at ≡ 0 = omega arith in rw (le-leb end (length text) h, z)
+decimal_out text at end (inl h) = let z : end - at ≡ 0 = omega arith in rw z (grind (arith, nat_tests))
+decimal_out text at end (inr h) = rw (lt-leb end (length text) h)
 
-pub decimal_in : (text : List ℕ) (at end : ℕ) (r : Parsed) → end ≤ length text → r ≡ counted (take (end - at) (drop at text)) → r ≡ decimal_at text at end
+pub decimal_in : (text : List ℕ) (at end : ℕ) (r : Option ℕ) → end ≤ length text → r ≡ counted (take (end - at) (drop at text)) → r ≡ decimal_at text at end
 unfolding decimal_at
 decimal_in text at end r h s = s ∙ rw (le-leb end (length text) h)
 
@@ -275,8 +272,5 @@ nan_pattern : to_bits binary64 nan ≡ 9221120237041090560
 unfolding to_bits
 nan_pattern = refl
 
-pub pattern_nan : (x : Float) → ne x x ≡ true → 9221120237041090560 ≡ to_bits binary64 x
-pattern_nan x h = let e : x ≡ nan = is_nan_law x (sym (ne_is_nan x) ∙ h) in rw e (sym nan_pattern)
-
-pub pattern_no_nan : (x : Float) → ne x x ≡ false → T (not (is_nan x))
-pattern_no_nan x h = let e : is_nan x ≡ false = sym (ne_is_nan x) ∙ h in rw e tt
+pub pattern_nan : (x : Float) → is_nan x ≡ true → 9221120237041090560 ≡ to_bits binary64 x
+pattern_nan x h = let e : x ≡ nan = is_nan_law x h in rw e (sym nan_pattern)

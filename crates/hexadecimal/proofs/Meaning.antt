@@ -12,10 +12,10 @@ use lib.Dec.{ltb, eqb}
 use lib.Arith.{digits_div, digits_mod}
 use lib.ListN.{length, take, drop, get_or}
 use lib.Seq.{take_at, drop_at, length-take-le}
-use Rattle.laws.specs.Checks.{all}
+use Rattle.std.specs.List.{list_all}
 use Rattle.laws.specs.Bools.{left_true, right_true}
 use Rattle.laws.specs.Signed.{lt_or_ge}
-use Rattle.hexadecimal.specs.declared.Parsed.TheVariants.{Value}
+use Rattle.std.specs.Prelude.{Some}
 use Rattle.hexadecimal.specs.Digits.{digit_of, glyph_of, is_digit, value_from, value_of, digits_of, valued, word_at, part, written, unpadded, counted, places_in, places_of, decimal_of}
 use Rattle.hexadecimal.proofs.DigitLoops.{digits_length, places_small, bounded}
 
@@ -98,9 +98,9 @@ glyph_of_digit b h = ⊎_elim
 
 -- ---- many
 
-all_append : (f : ℕ → Bool) (xs ys : List ℕ) → all f xs ≡ true → all f ys ≡ true → all f (xs ++ ys) ≡ true
+all_append : (f : ℕ → Bool) (xs ys : List ℕ) → list_all f xs ≡ true → list_all f ys ≡ true → list_all f (xs ++ ys) ≡ true
 all_append f [] ys a b = b
-all_append f (x ∷ xs) ys a b = rw (left_true (f x) (all f xs) a, all_append f xs ys (right_true (f x) (all f xs) a) b)
+all_append f (x ∷ xs) ys a b = rw (left_true (f x) (list_all f xs) a, all_append f xs ys (right_true (f x) (list_all f xs) a) b)
 
 value_append : (base before : ℕ) (xs ys : List ℕ) → value_from base before (xs ++ ys) ≡ value_from base (value_from base before xs) ys
 unfolding value_from
@@ -115,7 +115,7 @@ module _ (base : ℕ) (two : 1 < base) (most : base ≤ 16) where
   last_digit n = digit_of_glyph (n % base) (let h : n % base < base = below_base n in omega arith)
 
   -- printed digits are digits
-  pub digits_are : (k n : ℕ) → all (is_digit base) (digits_of base k n) ≡ true
+  pub digits_are : (k n : ℕ) → list_all (is_digit base) (digits_of base k n) ≡ true
   unfolding digits_of is_digit
   digits_are zero n = refl
   digits_are (suc k) n =
@@ -131,12 +131,12 @@ module _ (base : ℕ) (two : 1 < base) (most : base ≤ 16) where
       value_append base 0 (digits_of base k (n / base)) (glyph_of (n % base) ∷ []) ∙ rw (value_of_digits k (n / base) q, last_digit n) (div-add-mod' n base)
 
   -- read digits are what printing the number gives
-  pub digits_of_value : (k before : ℕ) (bs : List ℕ) → all (is_digit base) bs ≡ true → digits_of base (k + length bs) (value_from base before bs) ≡ digits_of base k before ++ bs
+  pub digits_of_value : (k before : ℕ) (bs : List ℕ) → list_all (is_digit base) bs ≡ true → digits_of base (k + length bs) (value_from base before bs) ≡ digits_of base k before ++ bs
   unfolding digits_of value_from is_digit
   digits_of_value k before [] a = rw (add-zero k) (sym (append-nil (digits_of base k before)))
   digits_of_value k before (b ∷ bs) a =
-      let d : digit_of b < base = ltb-true (digit_of b) base (left_true (ltb (digit_of b) base) (all (is_digit base) bs) a) in
-      let r : all (is_digit base) bs ≡ true = right_true (ltb (digit_of b) base) (all (is_digit base) bs) a in
+      let d : digit_of b < base = ltb-true (digit_of b) base (left_true (ltb (digit_of b) base) (list_all (is_digit base) bs) a) in
+      let r : list_all (is_digit base) bs ≡ true = right_true (ltb (digit_of b) base) (list_all (is_digit base) bs) a in
       let s : k + suc (length bs) ≡ suc k + length bs = add-suc k (length bs) ∙ sym (suc-add k (length bs)) in
       let g : glyph_of (digit_of b) ≡ b = glyph_of_digit b (omega arith) in
       rw s
@@ -148,45 +148,45 @@ module _ (base : ℕ) (two : 1 < base) (most : base ≤ 16) where
 sixteen_digits : (n : ℕ) → n < 18446744073709551616 → value_of 16 (digits_of 16 16 n) ≡ n
 sixteen_digits n h = value_of_digits 16 (omega arith) (omega arith) 16 n h
 
-word_of : (text : List ℕ) (at n : ℕ) → part text at 16 ≡ digits_of 16 16 n → n < 18446744073709551616 → word_at text at ≡ Value n
+word_of : (text : List ℕ) (at n : ℕ) → part text at 16 ≡ digits_of 16 16 n → n < 18446744073709551616 → word_at text at ≡ Some n
 unfolding word_at
 word_of text at n e h =
     rw (e, digits_length 16 16 n, digits_are 16 (omega arith) (omega arith) 16 n, sixteen_digits n h)
 
 -- what was printed between others is read
-pub printed_word_reads : (before after : List ℕ) (n : ℕ) → n < 18446744073709551616 → word_at (before ++ (digits_of 16 16 n ++ after)) (length before) ≡ Value n
+pub printed_word_reads : (before after : List ℕ) (n : ℕ) → n < 18446744073709551616 → word_at (before ++ (digits_of 16 16 n ++ after)) (length before) ≡ Some n
 printed_word_reads before after n h =
     word_of (before ++ (digits_of 16 16 n ++ after)) (length before) n
     (rw (drop_at before (digits_of 16 16 n ++ after) (length before) refl) (take_at (digits_of 16 16 n) after 16 (digits_length 16 16 n))) h
 
 -- what was written into a text is read there
-pub written_word_reads : (text : List ℕ) (at n : ℕ) → 16 ≤ length text - at → n < 18446744073709551616 → word_at (written text at (digits_of 16 16 n)) at ≡ Value n
+pub written_word_reads : (text : List ℕ) (at n : ℕ) → 16 ≤ length text - at → n < 18446744073709551616 → word_at (written text at (digits_of 16 16 n)) at ≡ Some n
 unfolding written
 written_word_reads text at n h k =
     let d : length (digits_of 16 16 n) ≡ 16 = digits_length 16 16 n in
     let f : length (digits_of 16 16 n) ≤ length text - at = omega arith in
     let l : length (take at text) ≡ at = length-take-le at text (omega arith) in
-    let r : word_at (take at text ++ (digits_of 16 16 n ++ drop (at + length (digits_of 16 16 n)) text)) (length (take at text)) ≡ Value n =
+    let r : word_at (take at text ++ (digits_of 16 16 n ++ drop (at + length (digits_of 16 16 n)) text)) (length (take at text)) ≡ Some n =
     printed_word_reads (take at text) (drop (at + length (digits_of 16 16 n)) text) n k in
     rw (le-leb (length (digits_of 16 16 n)) (length text - at) f) (rw l at r)
 
 -- what is read is what printing it gives
-read_if : (t : Bool) (v n : ℕ) → valued t v ≡ Value n → (t ≡ true) × (v ≡ n)
+read_if : (t : Bool) (v n : ℕ) → valued t v ≡ Some n → (t ≡ true) × (v ≡ n)
 read_if true v n e = (refl, cc)
 read_if false v n e = absurd (let z : ◌≡◌ {A = ℕ} 0 1 = cc in omega arith)
 
-pub read_word_prints : (text : List ℕ) (at n : ℕ) → word_at text at ≡ Value n → part text at 16 ≡ digits_of 16 16 n
+pub read_word_prints : (text : List ℕ) (at n : ℕ) → word_at text at ≡ Some n → part text at 16 ≡ digits_of 16 16 n
 unfolding word_at digits_of
 read_word_prints text at n e =
     let p = part text at 16 in
-    let r = read_if (eqb (length p) 16 && all (is_digit 16) p) (value_of 16 p) n e in
-    let l : length p ≡ 16 = eqb-true (length p) 16 (left_true (eqb (length p) 16) (all (is_digit 16) p) r.0) in
-    let a : all (is_digit 16) p ≡ true = right_true (eqb (length p) 16) (all (is_digit 16) p) r.0 in
+    let r = read_if (eqb (length p) 16 && list_all (is_digit 16) p) (value_of 16 p) n e in
+    let l : length p ≡ 16 = eqb-true (length p) 16 (left_true (eqb (length p) 16) (list_all (is_digit 16) p) r.0) in
+    let a : list_all (is_digit 16) p ≡ true = right_true (eqb (length p) 16) (list_all (is_digit 16) p) r.0 in
     let d : digits_of 16 (0 + length p) (value_of 16 p) ≡ p = digits_of_value 16 (omega arith) (omega arith) 0 0 p a in
     sym (rw (zero-add, l, r.1) at d)
 
 -- 16 digits are never refused
-pub digits_are_read : (text : List ℕ) (at : ℕ) → length (part text at 16) ≡ 16 → all (is_digit 16) (part text at 16) ≡ true → word_at text at ≡ Value (value_of 16 (part text at 16))
+pub digits_are_read : (text : List ℕ) (at : ℕ) → length (part text at 16) ≡ 16 → list_all (is_digit 16) (part text at 16) ≡ true → word_at text at ≡ Some (value_of 16 (part text at 16))
 unfolding word_at
 digits_are_read text at l a = rw (l, a)
 
@@ -250,7 +250,7 @@ decimal_unpadded zero h = unpadded_single (decimal_of 0) (digits_length 10 (plac
 decimal_unpadded (suc n) h = unpadded_if (decimal_of (suc n)) (rw (digits_length 10 (places_of (suc n)) (suc n)) (places_some 19 (suc n))) (leading 19 (suc n) (omega arith) h)
 
 -- what was printed is read
-pub printed_count_reads : (n : ℕ) → n < 18446744073709551616 → counted (decimal_of n) ≡ Value n
+pub printed_count_reads : (n : ℕ) → n < 18446744073709551616 → counted (decimal_of n) ≡ Some n
 unfolding counted
 printed_count_reads n h =
     let g : n < 10 ^ 20 = omega arith in
@@ -280,7 +280,7 @@ places_between (suc j) (suc q) n l u h =
     let e : n / 10 < 10 ^ suc q = (div-lt_iff_lt-mul {k = 10} (omega arith)).1 (rw (pow-suc 10 (suc q)) at u) in
     rw (le-ltb n 10 t) (ap suc (places_between j q (n / 10) d e (omega arith)))
 
-digits_printed : (bs : List ℕ) (n : ℕ) → all (is_digit 10) bs ≡ true → value_of 10 bs ≡ n → places_of n ≡ length bs → bs ≡ decimal_of n
+digits_printed : (bs : List ℕ) (n : ℕ) → list_all (is_digit 10) bs ≡ true → value_of 10 bs ≡ n → places_of n ≡ length bs → bs ≡ decimal_of n
 unfolding digits_of
 digits_printed bs n a v p =
     let d : digits_of 10 (0 + length bs) (value_of 10 bs) ≡ bs = digits_of_value 10 (omega arith) (omega arith) 0 0 bs a in
@@ -298,11 +298,11 @@ few p n l h = ⊎_elim
     (λ (g : 20 ≤ p). absurd (let m : 10 ^ 20 ≤ 10 ^ p = pow-le-pow_right (omega arith) g in let t : 10 ^ 20 ≤ n = le_trans m l in omega arith))
     (lt_or_ge p 20)
 
-long_places : (b c : ℕ) (bs : List ℕ) (n : ℕ) → all (is_digit 10) (b ∷ c ∷ bs) ≡ true → (b ≡ 48 → ⊥) → value_of 10 (b ∷ c ∷ bs) ≡ n → n < 18446744073709551616 →
+long_places : (b c : ℕ) (bs : List ℕ) (n : ℕ) → list_all (is_digit 10) (b ∷ c ∷ bs) ≡ true → (b ≡ 48 → ⊥) → value_of 10 (b ∷ c ∷ bs) ≡ n → n < 18446744073709551616 →
     places_of n ≡ length (b ∷ c ∷ bs)
 unfolding value_from is_digit
 long_places b c bs n a k v h =
-    let d : digit_of b < 10 = ltb-true (digit_of b) 10 (left_true (ltb (digit_of b) 10) (all (is_digit 10) (c ∷ bs)) a) in
+    let d : digit_of b < 10 = ltb-true (digit_of b) 10 (left_true (ltb (digit_of b) 10) (list_all (is_digit 10) (c ∷ bs)) a) in
     let o : 0 < digit_of b = first_counts b d k in
     let w : (0 * 10 + digit_of b) * 10 ^ length (c ∷ bs) ≤ value_of 10 (b ∷ c ∷ bs) = value_lower 10 (0 * 10 + digit_of b) (c ∷ bs) in
     let g : 1 ≤ 0 * 10 + digit_of b = omega arith in
@@ -311,21 +311,21 @@ long_places b c bs n a k v h =
     let u : n < (0 + 1) * 10 ^ length (b ∷ c ∷ bs) = rw v at (bounded 10 0 (b ∷ c ∷ bs) a) in
     places_between 19 (length (c ∷ bs)) n l (rw (zero-add, one-mul) at u) (few (length (c ∷ bs)) n l h)
 
-pub read_count_prints : (bs : List ℕ) (n : ℕ) → counted bs ≡ Value n → bs ≡ decimal_of n
+pub read_count_prints : (bs : List ℕ) (n : ℕ) → counted bs ≡ Some n → bs ≡ decimal_of n
 unfolding counted unpadded is_digit value_from
 read_count_prints [] n e = absurd (let z : ◌≡◌ {A = ℕ} 0 1 = cc in omega arith)
 read_count_prints (b ∷ []) n e =
-    let r = read_if (true && all (is_digit 10) (b ∷ []) && ltb (value_of 10 (b ∷ [])) 18446744073709551616) (value_of 10 (b ∷ [])) n e in
-    let a : all (is_digit 10) (b ∷ []) ≡ true = left_true (all (is_digit 10) (b ∷ [])) (ltb (value_of 10 (b ∷ [])) 18446744073709551616) r.0 in
+    let r = read_if (true && list_all (is_digit 10) (b ∷ []) && ltb (value_of 10 (b ∷ [])) 18446744073709551616) (value_of 10 (b ∷ [])) n e in
+    let a : list_all (is_digit 10) (b ∷ []) ≡ true = left_true (list_all (is_digit 10) (b ∷ [])) (ltb (value_of 10 (b ∷ [])) 18446744073709551616) r.0 in
     let d : digit_of b < 10 = ltb-true (digit_of b) 10 (left_true (ltb (digit_of b) 10) true a) in
     let v : 0 * 10 + digit_of b ≡ n = r.1 in
     digits_printed (b ∷ []) n a r.1 (places_small 19 n (omega arith))
 read_count_prints (b ∷ c ∷ bs) n e =
     let xs = b ∷ c ∷ bs in
-    let r = read_if (not (eqb b 48) && all (is_digit 10) xs && ltb (value_of 10 xs) 18446744073709551616) (value_of 10 xs) n e in
-    let t : (not (eqb b 48) && all (is_digit 10) xs) ≡ true = left_true (not (eqb b 48) && all (is_digit 10) xs) (ltb (value_of 10 xs) 18446744073709551616) r.0 in
-    let q : ltb (value_of 10 xs) 18446744073709551616 ≡ true = right_true (not (eqb b 48) && all (is_digit 10) xs) (ltb (value_of 10 xs) 18446744073709551616) r.0 in
-    let a : all (is_digit 10) xs ≡ true = right_true (not (eqb b 48)) (all (is_digit 10) xs) t in
-    let f : eqb b 48 ≡ false = not-true (eqb b 48) (left_true (not (eqb b 48)) (all (is_digit 10) xs) t) in
+    let r = read_if (not (eqb b 48) && list_all (is_digit 10) xs && ltb (value_of 10 xs) 18446744073709551616) (value_of 10 xs) n e in
+    let t : (not (eqb b 48) && list_all (is_digit 10) xs) ≡ true = left_true (not (eqb b 48) && list_all (is_digit 10) xs) (ltb (value_of 10 xs) 18446744073709551616) r.0 in
+    let q : ltb (value_of 10 xs) 18446744073709551616 ≡ true = right_true (not (eqb b 48) && list_all (is_digit 10) xs) (ltb (value_of 10 xs) 18446744073709551616) r.0 in
+    let a : list_all (is_digit 10) xs ≡ true = right_true (not (eqb b 48)) (list_all (is_digit 10) xs) t in
+    let f : eqb b 48 ≡ false = not-true (eqb b 48) (left_true (not (eqb b 48)) (list_all (is_digit 10) xs) t) in
     let s : value_of 10 xs < 18446744073709551616 = ltb-true (value_of 10 xs) 18446744073709551616 q in
     digits_printed xs n a r.1 (long_places b c bs n a (eqb-false b 48 f) r.1 (rw r.1 at s))

@@ -1,38 +1,25 @@
 -- Laws of printed pieces, as loops and calls give their premises. Assumes nothing.
 use mathlib.Core.Path.{◌≡◌, sym, ap, ◌∙◌}
 use mathlib.Core.Bool.{Bool, true, false, cond}
-use mathlib.Core.List.{List, [], ◌∷◌, ◌++◌, append_assoc, append-nil}
-use Prim.Native.Nat.{ℕ, zero, suc, ◌+◌, ◌-◌, ◌/◌, ◌<◌, ◌≤◌}
-use native.Mathlib.Numerals.{add-one}
+use mathlib.Core.List.{List, [], ◌∷◌, ◌++◌, append_assoc}
+use Prim.Native.Nat.{ℕ, zero, suc, ◌+◌, ◌-◌, ◌/◌, ◌≤◌}
 use native.Mathlib.Omega.{arith}
 use borrow.Author.Tests.{le-leb}
 use lib.Dec.{leb, ltb}
-use lib.ListN.{length, take, drop, get_or, set, length-append, length-take}
-use lib.Seq.{take-suc, take_at, take_all, length-take-le}
+use lib.ListN.{length, take, drop, length-append, length-take}
+use borrow.Rule.Slice.PartMut.{post_of, put_mid}
+use lib.Seq.{take_at, length-take-le}
 use Rattle.laws.specs.Lists.{cond_ind}
-use Rattle.laws.specs.Loops.{take_set}
 use Rattle.hexadecimal.specs.Digits.{written, places_in, places_of, decimal_of, Put}
 use Rattle.hexadecimal.specs.Printing.{line_feed, refused_text, Printed}
 use Rattle.hexadecimal.proofs.DigitLoops.{digits_length}
 
 -- ---- bytes
 
-pub bytes_starts : (out bytes : List ℕ) (at : ℕ) → take (at + 0) out ≡ take at out ++ take 0 bytes
-bytes_starts out bytes at = let a : at + 0 ≡ at = omega arith in ap (λ (k : ℕ). take k out) a ∙ sym (append-nil (take at out))
-
-pub bytes_turn : (bytes out out₀ : List ℕ) (at k : ℕ) → length out ≡ length out₀ → at + length bytes ≤ length out₀ → k < length bytes →
-    take (at + k) out ≡ take at out₀ ++ take k bytes → take (at + (k + 1)) (set out (at + k) (get_or bytes k 0)) ≡ take at out₀ ++ take (k + 1) bytes
-bytes_turn bytes out out₀ at k l r h inv =
-    let s : at + (k + 1) ≡ at + k + 1 = omega arith in
-    let t : take (k + 1) bytes ≡ take k bytes ++ (get_or bytes k 0 ∷ []) = rw add-one (take-suc bytes k 0 h) in
-    rw s (take_set out (at + k) (get_or bytes k 0) (omega arith) ∙ ap (λ (x : List ℕ). x ++ (get_or bytes k 0 ∷ [])) inv ∙ append_assoc (take at out₀) (take k bytes) (get_or bytes k 0 ∷ [])
-    ∙ ap (λ (x : List ℕ). take at out₀ ++ x) (sym t))
-
-pub bytes_done : (bytes out out₀ : List ℕ) (at k : ℕ) → length bytes ≤ k → k ≤ length bytes → take (at + k) out ≡ take at out₀ ++ take k bytes → Printed bytes out₀ at out (at + k)
-bytes_done bytes out out₀ at k h g inv = record {
-  ends = omega arith;
-  text = inv ∙ ap (λ (x : List ℕ). take at out₀ ++ x) (take_all k bytes h);
-}
+pub bytes_put : (bytes out : List ℕ) (at end : ℕ) → at + length bytes ≤ length out → end ≡ at + length bytes → Printed bytes out at (put_mid at (end - at) out bytes) end
+bytes_put bytes out at end h e =
+    let l : length (take at out ++ bytes) ≡ end = length-append (take at out) bytes ∙ rw (length-take-le at out (let q : at ≤ length out = omega arith in q)) (sym e) in
+    record { ends = e; text = ap (take end) (sym (append_assoc (take at out) bytes (post_of at (end - at) out))) ∙ take_at (take at out ++ bytes) (post_of at (end - at) out) end l }
 
 -- one piece after another
 pub then : (b1 b2 o o1 o2 : List ℕ) (at r s : ℕ) → Printed b1 o at o1 r → Printed b2 o1 r o2 s → Printed (b1 ++ b2) o at o2 s
@@ -92,3 +79,7 @@ pub printed_counts : (bytes before after : List ℕ) (r : ℕ) → Printed bytes
 printed_counts bytes before after r p =
     let h : r ≤ length after = omega (arith, p.ends, simp length-append at (ap length p.text), length-take r after) in
     (h, sym (length-take-le r after h))
+
+pub refused_counts : (n : ℕ) (o o1 o2 o3 : List ℕ) (a b r : ℕ) → Printed (114 ∷ 101 ∷ 102 ∷ 117 ∷ 115 ∷ 101 ∷ 100 ∷ 32 ∷ []) o 0 o1 a → Printed (decimal_of n) o1 a o2 b →
+    Printed line_feed o2 b o3 r → (r ≤ length o3) × (r ≡ length (take r o3))
+refused_counts n o o1 o2 o3 a b r p q s = printed_counts (refused_text n) o o3 r (refused_prints n o o1 o2 o3 a b r p q s)

@@ -1,11 +1,9 @@
 -- Numbers as text (document 01, "The band-pass program": uppercase hexadecimal digits, the most significant first; counts in decimal). Bytes are ASCII.
 -- Assumes nothing.
-use Rattle.std.specs.Prelude.{ℕ, zero, suc, ◌+◌, ◌-◌, ◌*◌, ◌/◌, ◌%◌, ◌≡◌, Bool, true, false, cond, not, ◌&&◌, List, [], ◌∷◌, ◌++◌, leb, ltb, eqb, length, take, drop, Float}
+use Rattle.std.specs.Prelude.{Option, Some, None, ℕ, zero, suc, ◌+◌, ◌-◌, ◌*◌, ◌/◌, ◌%◌, ◌≡◌, Bool, true, false, cond, not, ◌&&◌, List, [], ◌∷◌, ◌++◌, leb, ltb, eqb, length, take, drop, Float}
 use Rattle.std.specs.Float.{binary64}
 use Rattle.std.specs.Float.Ieee.{of_bits}
-use Rattle.laws.specs.Checks.{all}
-use Rattle.hexadecimal.specs.declared.Parsed.{Parsed}
-use Rattle.hexadecimal.specs.declared.Parsed.TheVariants.{Value, Malformed}
+use Rattle.std.specs.List.{list_all}
 
 -- the value of a digit, 0 to 9 and then A to F; 16 where a byte is none
 unfoldable pub digit_of : ℕ → ℕ
@@ -33,29 +31,29 @@ digits_of base zero n = []
 digits_of base (suc k) n = digits_of base k (n / base) ++ (glyph_of (n % base) ∷ [])
 
 -- a value where a test says so
-abbrev pub valued : Bool → ℕ → Parsed
-valued true n = Value n
-valued false n = Malformed
+abbrev pub valued : Bool → ℕ → Option ℕ
+valued true n = Some n
+valued false n = None
 
 -- digits whose number fits 64 bits
-unfoldable pub spelled_in : ℕ → List ℕ → Parsed
-spelled_in base bs = valued (all (is_digit base) bs && ltb (value_of base bs) 18446744073709551616) (value_of base bs)
+unfoldable pub spelled_in : ℕ → List ℕ → Option ℕ
+spelled_in base bs = valued (list_all (is_digit base) bs && ltb (value_of base bs) 18446744073709551616) (value_of base bs)
 
 -- the k bytes from `at` on, fewer where the text ends
 abbrev pub part : List ℕ → ℕ → ℕ → List ℕ
 part text at k = take k (drop at text)
 
 -- 16 hexadecimal digits from `at` on
-unfoldable pub word_at : List ℕ → ℕ → Parsed
-word_at text at = valued (eqb (length (part text at 16)) 16 && all (is_digit 16) (part text at 16)) (value_of 16 (part text at 16))
+unfoldable pub word_at : List ℕ → ℕ → Option ℕ
+word_at text at = valued (eqb (length (part text at 16)) 16 && list_all (is_digit 16) (part text at 16)) (value_of 16 (part text at 16))
 
-abbrev pub is_word : Parsed → Bool
-is_word (Value n) = true
-is_word Malformed = false
+abbrev pub is_word : Option ℕ → Bool
+is_word (Some n) = true
+is_word None = false
 
-abbrev pub bits_of : Parsed → ℕ
-bits_of (Value n) = n
-bits_of Malformed = 0
+abbrev pub bits_of : Option ℕ → ℕ
+bits_of (Some n) = n
+bits_of None = 0
 
 -- the double whose bits stand at `at`
 unfoldable pub float_at : List ℕ → ℕ → Float
@@ -90,9 +88,9 @@ unpadded (b ∷ []) = true
 unpadded (b ∷ c ∷ bs) = not (eqb b 48)
 
 -- a decimal number: all of a text
-unfoldable pub counted : List ℕ → Parsed
-counted bs = valued (unpadded bs && all (is_digit 10) bs && ltb (value_of 10 bs) 18446744073709551616) (value_of 10 bs)
+unfoldable pub counted : List ℕ → Option ℕ
+counted bs = valued (unpadded bs && list_all (is_digit 10) bs && ltb (value_of 10 bs) 18446744073709551616) (value_of 10 bs)
 
 -- a decimal number from `at` to `end`, excluded; malformed past the text's end
-unfoldable pub decimal_at : List ℕ → ℕ → ℕ → Parsed
-decimal_at text at end = cond (leb end (length text)) (counted (part text at (end - at))) Malformed
+unfoldable pub decimal_at : List ℕ → ℕ → ℕ → Option ℕ
+decimal_at text at end = cond (leb end (length text)) (counted (part text at (end - at))) None

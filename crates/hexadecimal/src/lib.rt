@@ -2,73 +2,52 @@
 // bit patterns of doubles.
 #![tactic(auto)]
 
-ghost use Rattle.std.specs.Prelude.{◌≡◌, ◌<◌, ◌≤◌, length};
+ghost use Rattle.std.specs.Prelude.{◌≡◌, ◌+◌, ◌-◌, ◌<◌, ◌≤◌, leb, length};
 ghost use Rattle.std.specs.Float.{binary64};
 ghost use Rattle.std.specs.Float.Ieee.{of_bits as Ieee·ofBits, to_bits as Ieee·toBits};
-ghost use Rattle.hexadecimal.specs.Digits.{digit_of, glyph_of, digits_of, written, spelled_in, word_at, places_of, Put, unpadded, counted, decimal_at};
+ghost use Rattle.hexadecimal.specs.Digits.{digit_of, is_digit, glyph_of, digits_of, valued, written, spelled_in, word_at, places_of, Put, unpadded, counted, decimal_at, decimal_of};
+ghost use Rattle.hexadecimal.specs.Printing.{refused_text, Printed};
+ghost use Rattle.std.specs.Counts.{IsPrefixLen};
 
-const MOST: u64 = 18446744073709551615;
-
-// What a text says: a number, or none.
-#[derive(Clone, Copy)]
-pub enum Parsed {
-    Value(u64),
-    Malformed,
-}
-
-// The value of a digit, and 16 for any other byte.
-#[tactic(auto, using(std::proofs::lemmas::Bool::Decides::nat_tests), unfolding(crate::specs::Digits::digit_of))]
-pub fn digit(b: u8) -> u64
-    ensures { result ≡ digit_of b }
+// The value of a hexadecimal digit.
+#[tactic(auto, using(std::proofs::lemmas::Bool::Decides::nat_tests), unfolding(crate::specs::Digits::digit_of, crate::specs::Digits::is_digit))]
+pub fn digit(b: u8) -> Option<u64>
+    ensures { result ≡ valued (is_digit 16 b) (digit_of b) }
 {
-    if b < 48 {
-        return 16;
+    match b {
+        b'0'..=b'9' => Some(u64::from(b - b'0')),
+        b'A'..=b'F' => Some(u64::from(b - b'A' + 10)),
+        _ => None,
     }
-    if b < 58 {
-        return wide(b - 48);
-    }
-    if b < 65 {
-        return 16;
-    }
-    if b < 71 {
-        return wide(b - 55);
-    }
-    16
-}
-
-fn wide(b: u8) -> u64
-    ensures { result ≡ b }
-{
-    b as u64
 }
 
 // The digit of a value below 16.
+#[tactic(auto, using(std::proofs::lemmas::Bool::Decides::nat_tests), unfolding(crate::specs::Digits::glyph_of))]
 fn glyph(d: u64) -> u8
     requires { d < 16 }
     ensures { result ≡ glyph_of d }
 {
-    if d < 10 { 48 + d as u8 } else { 55 + d as u8 }
+    if d < 10 {
+        b'0' + d as u8
+    } else {
+        b'A' - 10 + d as u8
+    }
 }
 
 // The number that a text's digits spell.
-fn spelled(text: &[u8], base: u64) -> Parsed
+fn spelled(text: &[u8], base: u64) -> Option<u64>
     requires { (0 < base) × (base ≤ 16) }
     ensures { result ≡ spelled_in base text.now }
 {
     let mut value: u64 = 0;
-    let mut i = 0;
-    while i < text.len() {
-        let d = digit(text[i]);
+    for &b in text {
+        let d = digit(b)?;
         if d >= base {
-            return Parsed::Malformed;
+            return None;
         }
-        if value > (MOST - d) / base {
-            return Parsed::Malformed;
-        }
-        value = value * base + d;
-        i += 1;
+        value = value.checked_mul(base)?.checked_add(d)?;
     }
-    Parsed::Value(value)
+    Some(value)
 }
 
 // Fills out with the last digits of value.
@@ -76,126 +55,148 @@ fn spell(value: u64, base: u64, out: &mut [u8])
     requires { (0 < base) × (base ≤ 16) }
     ensures { out.new ≡ digits_of base (length out.old) value }
 {
-    let mut i = out.len();
     let mut rest = value;
-    while i > 0 {
-        i -= 1;
+    for i in (0..out.len()).rev() {
         out[i] = glyph(rest % base);
         rest /= base;
     }
 }
 
+// Writes the last count digits of value from at on, and whether they fit; nothing is done where they do not.
+#[tactic(auto, using(crate::proofs::DigitLoops::put_in, crate::proofs::DigitLoops::put_out))]
+fn put(value: u64, base: u64, count: usize, out: &mut [u8], at: usize) -> bool
+    requires base { (0 < base) × (base ≤ 16) }
+    requires some { 0 < count }
+    ensures text { out.new ≡ written out.old at (digits_of base count value) }
+    ensures fits { result ≡ leb count (length out.old - at) }
+{
+    if out.len() < count || out.len() - count < at {
+        return false;
+    }
+    let end = at + count;
+    spell(value, base, &mut out[at..end]);
+    true
+}
+
 // The word that stands in 16 digits from at on.
-pub fn word(text: &[u8], at: usize) -> Parsed
+pub fn word(text: &[u8], at: usize) -> Option<u64>
     ensures { result ≡ word_at text.now at }
 {
-    if text.len() < 16 {
-        return Parsed::Malformed;
-    }
-    if text.len() - 16 < at {
-        return Parsed::Malformed;
-    }
-    let end = at + 16;
-    spelled(&text[at..end], 16)
+    spelled(text.get(at..)?.get(..16)?, 16)
 }
 
 // Writes value's 16 digits from at on; nothing is done where they do not fit.
 pub fn put_word(value: u64, out: &mut [u8], at: usize)
     ensures { out.new ≡ written out.old at (digits_of 16 16 value) }
 {
-    if out.len() < 16 {
-        return;
-    }
-    if out.len() - 16 < at {
-        return;
-    }
-    let end = at + 16;
-    spell(value, 16, &mut out[at..end]);
+    put(value, 16, 16, out, at);
 }
 
 // How many decimal digits value has.
 fn places(value: u64) -> usize
     ensures { (result ≡ places_of value) × (0 < result) × (result ≤ 20) }
 {
-    let mut count = 1;
     let mut rest = value;
-    while count < 20 {
+    for count in 1..20 {
         if rest < 10 {
             return count;
         }
         rest /= 10;
-        count += 1;
     }
-    count
+    20
 }
 
-// Writes value in decimal from at on and answers how many digits it has; 0, and nothing is done, where they do not fit.
+// Writes value in decimal from at on and answers how many bytes it wrote: none where the digits do not fit.
 pub fn put_decimal(value: u64, out: &mut [u8], at: usize) -> usize
     ensures { Put value out.old at out.new result }
 {
     let count = places(value);
-    if out.len() < count {
-        return 0;
+    if put(value, 10, count, out, at) {
+        count
+    } else {
+        0
     }
-    if out.len() - count < at {
-        return 0;
-    }
-    let end = at + count;
-    spell(value, 10, &mut out[at..end]);
-    count
 }
 
 // At least one byte, and no zero in front of others.
+#[tactic(auto, using(crate::proofs::DigitLoops::unpadded_none, crate::proofs::DigitLoops::unpadded_one, crate::proofs::DigitLoops::unpadded_more))]
 fn unpadded(text: &[u8]) -> bool
     ensures { result ≡ unpadded text.now }
 {
-    if text.len() == 0 {
-        return false;
+    match text {
+        [] => false,
+        [_] => true,
+        [first, ..] => *first != b'0',
     }
-    if text.len() == 1 {
-        return true;
-    }
-    text[0] != 48
 }
 
-fn counted(text: &[u8]) -> Parsed
+#[tactic(auto, unfolding(crate::specs::Digits::counted, crate::specs::Digits::spelled_in))]
+fn counted(text: &[u8]) -> Option<u64>
     ensures { result ≡ counted text.now }
 {
     if unpadded(text) {
-        return spelled(text, 10);
+        spelled(text, 10)
+    } else {
+        None
     }
-    Parsed::Malformed
 }
 
 // The decimal number, without sign or leading zero, that stands from at to end, excluded.
-pub fn decimal(text: &[u8], at: usize, end: usize) -> Parsed
+pub fn decimal(text: &[u8], at: usize, end: usize) -> Option<u64>
     ensures { result ≡ decimal_at text.now at end }
 {
-    if text.len() < end {
-        return Parsed::Malformed;
-    }
-    if end <= at {
-        return Parsed::Malformed;
-    }
-    counted(&text[at..end])
+    counted(text.get(at..end)?)
 }
 
 // The double of a bit pattern; all patterns of a NaN are one.
+#[tactic(auto, using(crate::proofs::DigitLoops::nan_bits_law, crate::proofs::DigitLoops::no_nan_bits))]
 pub fn float(bits: u64) -> f64
     ensures { result ≡ Ieee·ofBits binary64 bits }
 {
     if bits % 9223372036854775808 > 9218868437227405312 {
-        return 0.0 / 0.0;
+        return f64::NAN;
     }
     f64::from_bits(bits)
 }
 
 // The bit pattern of a double, 7FF8000000000000 for a NaN.
+#[tactic(auto, using(crate::proofs::DigitLoops::pattern_nan))]
 pub fn pattern(x: f64) -> u64
     ensures { result ≡ Ieee·toBits binary64 x }
 {
-    if x != x {
-        return 9221120237041090560;
+    if x.is_nan() {
+        return 0x7FF8000000000000;
     }
-    f64::to_bits(x)
+    x.to_bits()
+}
+
+// ---- pieces of a printed text, one behind the other
+
+// Writes bytes from at on and answers where they end.
+#[tactic(auto, using(crate::proofs::Printing::bytes_put))]
+pub fn put_bytes(bytes: &[u8], out: &mut [u8], at: usize) -> usize
+    requires { at + length bytes.now ≤ length out.old }
+    ensures { Printed bytes.now out.old at out.new result }
+{
+    let end = at + bytes.len();
+    out[at..end].copy_from_slice(bytes);
+    end
+}
+
+// Writes a count in decimal, in the same way.
+pub fn put_count(n: usize, out: &mut [u8], at: usize) -> usize
+    requires { at + 20 ≤ length out.old }
+    ensures { (Printed (decimal_of n) out.old at out.new result) × (result ≤ at + 20) }
+{
+    at + put_decimal(n as u64, out, at)
+}
+
+// "refused N", in a line.
+pub fn put_refused(n: u8, out: &mut [u8]) -> usize
+    requires { 64 ≤ length out.old }
+    ensures { (Printed (refused_text n) out.old 0 out.new result) × IsPrefixLen result out.new }
+{
+    let a = put_bytes(b"refused ", out, 0);
+    let b = put_count(n as usize, out, a);
+    put_bytes(b"\n", out, b)
 }

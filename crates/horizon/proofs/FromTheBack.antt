@@ -1,65 +1,68 @@
 -- The last entry of a list, the largest node from the back, and the final count from the back. Assumes nothing.
-use Rattle.std.proofs.Common.{◌≡◌, ℕ, zero, suc, ◌+◌, ◌-◌, ◌<◌, ◌≤◌, Bool, true, false, cond, ◌&&◌, List, [], ◌∷◌, length, get_or, drop, sym, refl, ap, ◌∙◌, le_refl, arith, length-drop, drop_of_length-le}
-use mathlib.Core.Option.{Option, none, some}
-use lib.Ieee.{Float, nan, le, lt}
+use Rattle.std.proofs.Common.{◌≡◌, ℕ, zero, suc, ◌+◌, ◌-◌, ◌<◌, ◌≤◌, Bool, true, false, cond, List, [], ◌∷◌, length, get_or, drop, sym, refl, ap, ◌∙◌, le_refl, arith, length-drop, drop_of_length-le}
+use Rattle.std.specs.Prelude.{Option, None, Some}
+use Rattle.std.proofs.Common.{option_map, slice_get}
+use lib.Ieee.{Float, nan, lt}
 use Rattle.laws.specs.Floats.{◌⊖◌}
-use Rattle.laws.specs.Times.{end, reaches}
+use Rattle.laws.specs.Times.{end}
 use Rattle.laws.specs.Loops.{head_at}
 use Rattle.laws.specs.Runs.{splits, longest_step}
 use Rattle.finality.specs.Sheet.{end_of, count, largest, else}
 use Rattle.finality.proofs.FinalCounts.{count_le}
-use Rattle.horizon.specs.Horizon.{end_at, counted, horizon_answer}
+use Rattle.horizon.specs.Horizon.{end_at, counted}
 
 -- ---- the last entry
 
-pub reaches_none : {A : Type 0} (time : A → Float) (x : Float) (xs : List A) → length xs ≡ 0 → false ≡ reaches x (end time xs)
+pub last_end : {A : Type 0} (time : A → Float) (xs : List A) → option_map time (slice_get xs (length xs - 1)) ≡ end time xs
 unfolding end
-reaches_none time x [] h = refl
-reaches_none time x (u ∷ xs) h = absurd (omega arith)
-
-pub reaches_last : {A : Type 0} (d : A) (time : A → Float) (x : Float) (xs : List A) → (length xs ≡ 0 → ⊥) → le x (time (get_or xs (length xs - 1) d)) ≡ reaches x (end time xs)
-unfolding end
-reaches_last d time x [] h = absurd (h refl)
-reaches_last d time x (u ∷ []) h = refl
-reaches_last d time x (u ∷ v ∷ xs) h =
+last_end time [] = refl
+last_end time (x ∷ []) = refl
+last_end time (x ∷ y ∷ xs) =
     let k : suc (suc (length xs)) - 1 ≡ suc (suc (length xs) - 1) = omega arith in
-    rw k (reaches_last d time x (v ∷ xs) (λ (e : suc (length xs) ≡ 0). absurd (omega arith)))
+    rw k (last_end time (y ∷ xs))
+
+-- of times
+pub last_time_law : (ts : List Float) → slice_get ts (length ts - 1) ≡ end (λ (t : Float). t) ts
+last_time_law ts = sym (same (slice_get ts (length ts - 1))) ∙ last_end (λ (t : Float). t) ts
+  where
+    same : (o : Option Float) → option_map (λ (t : Float). t) o ≡ o
+    same None = refl
+    same (Some t) = refl
 
 -- ---- the largest node: what the later nodes give is the answer, if they give one
 
-pub later : (ok : Float → Bool) (ns : List Float) (i : ℕ) (z : Float) → largest ok (drop i ns) ≡ some z → largest ok ns ≡ some z
+pub later : (ok : Float → Bool) (ns : List Float) (i : ℕ) (z : Float) → largest ok (drop i ns) ≡ Some z → largest ok ns ≡ Some z
 unfolding largest
 later ok ns zero z h = h
 later ok [] (suc i) z h = h
-later ok (n ∷ ns) (suc i) z h = ap (λ (o : Option Float). else o (cond (ok n) (some n) none)) (later ok ns i z h)
+later ok (n ∷ ns) (suc i) z h = ap (λ (o : Option Float). else o (cond (ok n) (Some n) None)) (later ok ns i z h)
 
-largest_at : (ok : Float → Bool) (ns : List Float) (i : ℕ) → i < length ns → largest ok (drop i ns) ≡ else (largest ok (drop (i + 1) ns)) (cond (ok (get_or ns i nan)) (some (get_or ns i nan)) none)
+largest_at : (ok : Float → Bool) (ns : List Float) (i : ℕ) → i < length ns → largest ok (drop i ns) ≡ else (largest ok (drop (i + 1) ns)) (cond (ok (get_or ns i nan)) (Some (get_or ns i nan)) None)
 unfolding largest
 largest_at ok ns i h = ap (largest ok) (head_at ns i nan h)
 
-pub node_passes : (ok : Float → Bool) (ns : List Float) (i : ℕ) (b : Bool) → 0 < i → i ≤ length ns → b ≡ ok (get_or ns (i - 1) nan) → b ≡ true → largest ok (drop i ns) ≡ none →
-    horizon_answer (some (get_or ns (i - 1) nan)) ≡ horizon_answer (largest ok ns)
+pub node_passes : (ok : Float → Bool) (ns : List Float) (i : ℕ) (b : Bool) → 0 < i → i ≤ length ns → b ≡ ok (get_or ns (i - 1) nan) → b ≡ true → largest ok (drop i ns) ≡ None →
+    Some (get_or ns (i - 1) nan) ≡ largest ok ns
 node_passes ok ns i b h l e t inv =
     let z : Float = get_or ns (i - 1) nan in
     let k : i - 1 + 1 ≡ i = omega arith in
-    ap horizon_answer
-    (sym (later ok ns (i - 1) z
+    sym (later ok ns (i - 1) z
     (largest_at ok ns (i - 1) (omega arith)
-    ∙ (λ j. else ((ap (λ (n : ℕ). largest ok (drop n ns)) k ∙ inv) j) (cond ((sym e ∙ t) j) (some z) none)))))
+    ∙ (λ j. else ((ap (λ (n : ℕ). largest ok (drop n ns)) k ∙ inv) j) (cond ((sym e ∙ t) j) (Some z) None))))
 
-pub node_fails : (ok : Float → Bool) (ns : List Float) (i : ℕ) (b : Bool) → 0 < i → i ≤ length ns → b ≡ ok (get_or ns (i - 1) nan) → b ≡ false → largest ok (drop i ns) ≡ none →
-    largest ok (drop (i - 1) ns) ≡ none
+pub node_fails : (ok : Float → Bool) (ns : List Float) (i : ℕ) (b : Bool) → 0 < i → i ≤ length ns → b ≡ ok (get_or ns (i - 1) nan) → b ≡ false → largest ok (drop i ns) ≡ None →
+    largest ok (drop (i - 1) ns) ≡ None
 node_fails ok ns i b h l e t inv =
     let z : Float = get_or ns (i - 1) nan in
     let k : i - 1 + 1 ≡ i = omega arith in
-    largest_at ok ns (i - 1) (omega arith) ∙ (λ j. else ((ap (λ (n : ℕ). largest ok (drop n ns)) k ∙ inv) j) (cond ((sym e ∙ t) j) (some z) none))
+    largest_at ok ns (i - 1) (omega arith) ∙ (λ j. else ((ap (λ (n : ℕ). largest ok (drop n ns)) k ∙ inv) j) (cond ((sym e ∙ t) j) (Some z) None))
 
-pub no_nodes : (ok : Float → Bool) (ns : List Float) → largest ok (drop (length ns) ns) ≡ none
+pub no_nodes : (ok : Float → Bool) (ns : List Float) → largest ok (drop (length ns) ns) ≡ None
 unfolding largest
 no_nodes ok ns = ap (largest ok) (drop_of_length-le ns (le_refl (length ns)))
 
-pub none_passes : (ok : Float → Bool) (ns : List Float) (i : ℕ) → i ≤ 0 → largest ok (drop i ns) ≡ none → horizon_answer none ≡ horizon_answer (largest ok ns)
-none_passes ok ns zero h inv = ap horizon_answer (sym inv)
+pub none_passes : (ok : Float → Bool) (ns : List Float) (i : ℕ) → i ≤ 0 → largest ok (drop i ns) ≡ None → None ≡ largest ok ns
+none_passes ok ns zero h inv = sym inv
 none_passes ok ns (suc i) h inv = absurd (omega arith)
 
 -- ---- the last epoch of a run
@@ -104,9 +107,3 @@ count_small z ts i n e = let h : count z (drop i ts) ≤ length (drop i ts) = co
 pub count_all : (z : Float) (ts : List Float) (i n : ℕ) → i ≤ 0 → n ≡ count z (drop i ts) → n ≡ count z ts
 count_all z ts zero n h e = e
 count_all z ts (suc i) n h e = absurd (omega arith)
-
--- ---- all six lists
-
-pub six : (a b p q f o r1 r2 r3 r4 r5 : Bool) (ra rb rp rq rf ro : Bool) → a ≡ ra → b ≡ rb → p ≡ rp → q ≡ rq → f ≡ rf → o ≡ ro →
-    r1 ≡ (f && o) → r2 ≡ (q && r1) → r3 ≡ (p && r2) → r4 ≡ (b && r3) → r5 ≡ (a && r4) → r5 ≡ (ra && (rb && (rp && (rq && (rf && ro)))))
-six a b p q f o r1 r2 r3 r4 r5 ra rb rp rq rf ro ea eb ep eq ef eo e1 e2 e3 e4 e5 = simp (e5, e4, e3, e2, e1, ea, eb, ep, eq, ef, eo)

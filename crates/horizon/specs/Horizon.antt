@@ -1,12 +1,9 @@
 -- The horizon's answer and the entries handed back (document 01, module 9). The horizon itself, and F, are those of crate `finality` (Sheet). Assumes nothing.
 use Rattle.std.specs.Prelude.{ℕ, suc, ◌+◌, cond, List, [], length, take, drop, ℤ, nat_le, slice_index_or, Float}
-use Rattle.std.proofs.Math.Option.{Option, none, some}
 use Rattle.std.specs.Float.{nan}
 use Rattle.laws.specs.Times.{end, second_time}
 use Rattle.laws.specs.Runs.{splits}
 use Rattle.finality.specs.Sheet.{Ends, end_of}
-use Rattle.horizon.specs.declared.kernel.HorizonNode.{HorizonNode}
-use Rattle.horizon.specs.declared.kernel.HorizonNode.TheVariants.{At, Nothing}
 
 -- the last times of the lists that the horizon looks at
 abbrev pub ends_of : List ℤ → List ℤ → List ℤ → List ℤ → List Float → List Float → Ends
@@ -19,15 +16,6 @@ ends_of states_c states_d acc_c acc_d fields observed =
       fields = end (λ (t : Float). t) fields;
       obs = end (λ (t : Float). t) observed;
     }
-
--- a node, or none
-abbrev pub horizon_answer : Option Float → HorizonNode
-horizon_answer none = Nothing
-horizon_answer (some z) = At z
-
-abbrev pub horizon_at : HorizonNode → Option Float
-horizon_at (At z) = some z
-horizon_at Nothing = none
 
 -- the last epoch of the run in which epoch i stands
 abbrev pub end_at : List Float → ℕ → Float

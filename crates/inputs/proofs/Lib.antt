@@ -1,4 +1,4 @@
 -- Laws of the tests of lent lists.
 --
---   Passed   what the tests say where they pass, and one way through each
+--   Passed   what the tests say where they pass
 pub mod Passed

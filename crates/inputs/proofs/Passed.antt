@@ -1,5 +1,5 @@
 -- What the tests say where they pass. Assumes nothing.
-use mathlib.Core.Path.{◌≡◌, ap}
+use mathlib.Core.Path.{◌≡◌, refl}
 use mathlib.Core.Bool.{Bool, true, false, ◌&&◌}
 use mathlib.Core.List.{List}
 use Prim.Native.Nat.{ℕ, ◌+◌, ◌-◌, ◌*◌, ◌≤◌, ◌<◌}
@@ -9,29 +9,31 @@ use lib.Dec.{leb, eqb}
 use lib.IntN.{ℤ}
 use lib.Ieee.{Float}
 use lib.ListN.{length}
-use borrow.Author.Tests.{leb-true, le-leb, lt-leb, eqb-true}
+use borrow.Author.Tests.{leb-true, eqb-true}
 use Rattle.laws.specs.Checks.{rising, rising_seconds, degree_fine}
 use Rattle.laws.specs.Bools.{both_true}
 use Rattle.slices.proofs.Calls.{cond_passes}
+use Rattle.slices.specs.Calls.{Verdict, accepted}
+use Rattle.slices.specs.declared.refusal.Refusal.TheVariants.{Degree, Count, Length, Value, Order}
 use Rattle.inputs.specs.Inputs.{Model, sizes_fit, window_room, fit_room, kind, field_size, few, first_of, counts_fine, model_fits, states_fit, least_scratch, scratch_fits, lengths_fit, whole_scratch_fits}
 use Rattle.inputs.specs.Inputs.{rise}
 
 -- all of five tests, and the rest
-pub record AllPass (d k n v o : Bool) (r : ℕ) : Type 0 where
+pub record AllPass (d k n v o : Bool) (r : Verdict) : Type 0 where
   pub degree : d ≡ true
   pub counts : k ≡ true
   pub lengths : n ≡ true
   pub values : v ≡ true
   pub order : o ≡ true
-  pub rest : r ≡ 0
+  pub rest : r ≡ accepted
 
-pub all_pass : (d k n v o : Bool) (r : ℕ) → first_of d k n v o r ≡ 0 → AllPass d k n v o r
+pub all_pass : (d k n v o : Bool) (r : Verdict) → first_of d k n v o r ≡ accepted → AllPass d k n v o r
 all_pass d k n v o r h =
-    let a = cond_passes d _ 0 h in
-    let b = cond_passes k _ 1 a.1 in
-    let e = cond_passes n _ 2 b.1 in
-    let f = cond_passes v _ 3 e.1 in
-    let g = cond_passes o _ 4 f.1 in
+    let a = cond_passes d _ Degree h in
+    let b = cond_passes k _ Count a.1 in
+    let e = cond_passes n _ Length b.1 in
+    let f = cond_passes v _ Value e.1 in
+    let g = cond_passes o _ Order f.1 in
     record { degree = a.0; counts = b.0; lengths = e.0; values = f.0; order = g.0; rest = g.1 }
 
 pub degree_passes : (N : ℕ) → degree_fine N ≡ true → N ≤ 180
@@ -131,68 +133,5 @@ pub record Sized (M : Model) : Type 0 where
 pub sizes_pass : (M : Model) (scratch : ℕ) → sizes_fit M scratch ≡ true → Sized M
 sizes_pass M scratch h = let l = lengths_pass M.fixed.degree _ _ _ _ _ scratch h in record { static = l.static; added = l.added; a = l.a; b = l.b }
 
--- ---- one way through each test
-
 pub product_small : (a b : ℕ) → a ≤ 32 → b ≤ 32944 → a * b ≤ 1054208
 product_small a b h k = mul-le-mul {n₂ = 32} {m₂ = 32944} h k
-
-module _ (N fields field added a b : ℕ) where
-  pub model_degree : 180 < N → false ≡ model_fits N fields field added a b
-  unfolding model_fits
-  model_degree h = rw (lt-leb N 180 h)
-
-  pub model_count : N ≤ 180 → 32 < fields → false ≡ model_fits N fields field added a b
-  unfolding model_fits
-  model_count h k = rw (le-leb N 180 h, lt-leb fields 32 k)
-
-  pub model_within : (r : Bool) → N ≤ 180 → fields ≤ 32 → r ≡ ((eqb field (field_size N) && eqb added (fields * field_size N)) && (eqb a (kind N) && eqb b (kind N)))
-      → r ≡ model_fits N fields field added a b
-  unfolding model_fits
-  model_within r h k e = rw (le-leb N 180 h, le-leb fields 32 k) e
-
-pub states_many : (n values : ℕ) → 200000 < n → false ≡ states_fit n values
-unfolding states_fit
-states_many n values h = rw (lt-leb n 200000 h)
-
-pub states_within : (n values : ℕ) → n ≤ 200000 → eqb values (6 * n) ≡ states_fit n values
-unfolding states_fit
-states_within n values h = rw (le-leb n 200000 h)
-
-module _ (N fields count scratch : ℕ) where
-  pub scratch_degree : 180 < N → false ≡ scratch_fits N fields count scratch
-  unfolding scratch_fits
-  scratch_degree h = rw (lt-leb N 180 h)
-
-  pub scratch_fields : N ≤ 180 → 32 < fields → false ≡ scratch_fits N fields count scratch
-  unfolding scratch_fits
-  scratch_fields h k = rw (le-leb N 180 h, lt-leb fields 32 k)
-
-  pub scratch_count : N ≤ 180 → fields ≤ 32 → 100000 < count → false ≡ scratch_fits N fields count scratch
-  unfolding scratch_fits
-  scratch_count h k l = rw (le-leb N 180 h, le-leb fields 32 k, lt-leb count 100000 l)
-
-  pub scratch_within : (r : ℕ) → N ≤ 180 → fields ≤ 32 → count ≤ 100000 → r ≡ least_scratch N fields count → leb r scratch ≡ scratch_fits N fields count scratch
-  unfolding scratch_fits
-  scratch_within r h k l e = rw (le-leb N 180 h, le-leb fields 32 k, le-leb count 100000 l) (ap (λ (i : ℕ). leb i scratch) e)
-
-module _ (N fields nodes count scratch : ℕ) where
-  pub whole_degree : 180 < N → false ≡ whole_scratch_fits N fields nodes count scratch
-  unfolding whole_scratch_fits
-  whole_degree h = rw (lt-leb N 180 h)
-
-  pub whole_fields : N ≤ 180 → 32 < fields → false ≡ whole_scratch_fits N fields nodes count scratch
-  unfolding whole_scratch_fits
-  whole_fields h k = rw (le-leb N 180 h, lt-leb fields 32 k)
-
-  pub whole_nodes : N ≤ 180 → fields ≤ 32 → 64 < nodes → false ≡ whole_scratch_fits N fields nodes count scratch
-  unfolding whole_scratch_fits
-  whole_nodes h k n = rw (le-leb N 180 h, le-leb fields 32 k, lt-leb nodes 64 n)
-
-  pub whole_count : N ≤ 180 → fields ≤ 32 → nodes ≤ 64 → 100000 < count → false ≡ whole_scratch_fits N fields nodes count scratch
-  unfolding whole_scratch_fits
-  whole_count h k n l = rw (le-leb N 180 h, le-leb fields 32 k, le-leb nodes 64 n, lt-leb count 100000 l)
-
-  pub whole_within : (r : ℕ) → N ≤ 180 → fields ≤ 32 → nodes ≤ 64 → count ≤ 100000 → r ≡ least_scratch N fields count + window_room * (nodes - 1)
-      → leb r scratch ≡ whole_scratch_fits N fields nodes count scratch
-  unfolding whole_scratch_fits
-  whole_within r h k n l e = rw (le-leb N 180 h, le-leb fields 32 k, le-leb nodes 64 n, le-leb count 100000 l) (ap (λ (i : ℕ). leb i scratch) e)

@@ -1,10 +1,12 @@
 -- What the calls of modules 3 to 5 and the whole path are lent, as records of three parts, and what is tested of it (document 01, "Outcomes" and "Bounds").
 -- Assumes nothing.
-use Rattle.std.specs.Prelude.{◌≡◌, ℕ, ◌+◌, ◌-◌, ◌*◌, ◌≤◌, ◌<◌, Bool, ◌&&◌, cond, List, [], leb, eqb, ℤ, Float, length, get_or}
+use Rattle.std.specs.Prelude.{◌≡◌, ℕ, ◌+◌, ◌-◌, ◌*◌, ◌≤◌, ◌<◌, Bool, ◌&&◌, cond, List, [], leb, eqb, ℤ, Float, length, Err}
 use Rattle.std.specs.Float.Ieee.Scale.{finite}
-use Rattle.std.specs.Borrow.{Bor}
-use Rattle.laws.specs.Checks.{all, is_time, is_key, rising, rising_seconds}
+use Rattle.std.specs.List.{list_all}
+use Rattle.laws.specs.Checks.{is_time, is_key, rising, rising_seconds}
 use Rattle.laws.specs.Tables.{tri}
+use Rattle.slices.specs.Calls.{Verdict}
+use Rattle.slices.specs.declared.refusal.Refusal.TheVariants.{Degree, Count, Length, Value, Order}
 
 -- ---- the inputs, in three parts
 
@@ -69,19 +71,11 @@ inputs M states accs = record { model = M; states = states; accs = accs }
 abbrev pub inputs_in : Fixed → Lists → Inputs
 inputs_in F l = inputs (model_in F l) l.tracks.states l.tracks.accs
 
--- ---- the inputs as they are lent
+-- ---- the same of lists one by one
 
--- the i-th of the lists that are lent as one array
-abbrev pub lent_list : {A : Type 0} → List (Bor (List A)) → ℕ → List A
-lent_list l i = (get_or l i (record { ref_ptr = (0, 0); now = [] })).now
-
--- of lists that are lent one by one
 abbrev pub model_with : ℕ → List Float → List Float → List Float → List Float → List Float → Model
 model_with N static a b field_times added =
     record { fixed = record { degree = N; static = static; a = a; b = b }; fields = record { field_times = field_times; added = added } }
-
-abbrev pub model_of : ℕ → List (Bor (List Float)) → Model
-model_of N l = model_with N (lent_list l 0) (lent_list l 1) (lent_list l 2) (lent_list l 3) (lent_list l 4)
 
 abbrev pub keyed : List ℤ → List Float → Keyed
 keyed keys values = record { keys = keys; values = values }
@@ -90,11 +84,8 @@ keyed keys values = record { keys = keys; values = values }
 abbrev pub pair_with : List ℤ → List Float → List ℤ → List Float → Pair
 pair_with keys_c values_c keys_d values_d = record { c = keyed keys_c values_c; d = keyed keys_d values_d }
 
-abbrev pub pair_of : List (Bor (List ℤ)) → List (Bor (List Float)) → Pair
-pair_of keys rows = pair_with (lent_list keys 0) (lent_list rows 0) (lent_list keys 1) (lent_list rows 1)
-
-abbrev pub observed_of : List Float → List Float → List ℕ → Observed
-observed_of obs_times values good = record { obs_times = obs_times; values = values; good = good }
+abbrev pub observed_with : List Float → List Float → List ℕ → Observed
+observed_with obs_times values good = record { obs_times = obs_times; values = values; good = good }
 
 abbrev pub lists : Model → Pair → Pair → List Float → Observed → Lists
 lists M states accs nodes obs =
@@ -102,9 +93,10 @@ lists M states accs nodes obs =
 
 -- ---- tests
 
--- the number of the first of five tests that fails; `rest` is that of the tests behind them, 0 where a call has none or none fails
-abbrev pub first_of : Bool → Bool → Bool → Bool → Bool → ℕ → ℕ
-first_of degree counts lengths values order rest = cond degree (cond counts (cond lengths (cond values (cond order rest 5) 4) 3) 2) 1
+-- the refusal of the first of five tests that fails; `rest` is what the tests behind them say
+abbrev pub first_of : Bool → Bool → Bool → Bool → Bool → Verdict → Verdict
+first_of degree counts lengths values order rest =
+    cond degree (cond counts (cond lengths (cond values (cond order rest (Err Order)) (Err Value)) (Err Length)) (Err Count)) (Err Degree)
 
 -- how many coefficients of one kind a field of degree N has, and how many numbers
 abbrev pub kind : ℕ → ℕ
@@ -189,11 +181,11 @@ whole_scratch_fits N fields nodes count scratch =
 
 unfoldable pub model_fine : Model → Bool
 model_fine M =
-    (all finite M.fixed.static && all finite M.fields.added) &&
-    (all is_time M.fields.field_times && (all finite M.fixed.a && all finite M.fixed.b))
+    (list_all finite M.fixed.static && list_all finite M.fields.added) &&
+    (list_all is_time M.fields.field_times && (list_all finite M.fixed.a && list_all finite M.fixed.b))
 
 unfoldable pub keyed_fine : List ℤ → List Float → Bool
-keyed_fine keys values = all is_key keys && all finite values
+keyed_fine keys values = list_all is_key keys && list_all finite values
 
 -- ---- 5: strictly rising
 

@@ -1,6 +1,5 @@
 -- Document 01, "Checked instances": the rows with a star, as one list. A module's rows join it as the module does. Assumes nothing.
-use Rattle.std.specs.Prelude.{ℕ, ◌≡◌, Bool, true, not, List, [], ◌∷◌, ◌++◌, T, eqb, pos, Float, length, replicate}
-use Rattle.std.proofs.Math.Option.{some}
+use Rattle.std.specs.Prelude.{Some, Ok, Err, ℕ, ◌≡◌, Bool, true, not, List, [], ◌∷◌, ◌++◌, T, eqb, pos, Float, length, replicate}
 use Rattle.std.specs.Float.{binary64}
 use Rattle.std.specs.Float.Ieee.{neg, to_bits}
 use Rattle.laws.specs.Floats.{bits, zero64, one64, two64}
@@ -8,10 +7,9 @@ use Rattle.laws.specs.WholeNumbers.{number}
 use Rattle.laws.specs.Runs.{runs_of}
 use Rattle.root.specs.Root.{sqrt}
 use Rattle.numbers.specs.Numbers.{sine, cosine, arctangent, power}
-use Rattle.slices.specs.Calls.{left}
-use Rattle.slices.specs.declared.Outcome.TheVariants.{Accepted, Refused}
+use Rattle.slices.specs.Calls.{left, accepted}
+use Rattle.slices.specs.declared.refusal.Refusal.TheVariants.{Singular}
 use Rattle.fields.specs.Calls.{index_of}
-use Rattle.fields.specs.declared.Index.TheVariants.{At}
 use Rattle.model.specs.Model.{bracket, weight}
 use Rattle.filter.specs.Filter.{pass}
 use Rattle.least_squares.specs.Calls.{least_squares_call}
@@ -57,8 +55,8 @@ angles =
 abbrev pub powers : List Instance
 powers =
     gives (power (number 2) 10) 0x4090_0000_0000_0000
-    ∷ states (index_of 2 1 ≡ At 4)
-    ∷ states (index_of 180 180 ≡ At 16470)
+    ∷ states (index_of 2 1 ≡ Ok 4)
+    ∷ states (index_of 180 180 ≡ Ok 16470)
     ∷ []
 
 abbrev pub field_times : List Float
@@ -82,13 +80,13 @@ filtered =
     ∷ states (pass (replicate 65 zero64) ≡ replicate 65 zero64)
     ∷ []
 
--- least squares of rows 1, 1 on 2, 4: 3, with the residuals −1 and 1; a zero column: refused 9
+-- least squares of rows 1, 1 on 2, 4: 3, with the residuals −1 and 1; a zero column: refused
 abbrev pub solutions : List Instance
 solutions =
     states (least_squares_call (one64 ∷ one64 ∷ []) (two64 ∷ bits 0x4010000000000000 ∷ []) 1 (zero64 ∷ []) (zero64 ∷ zero64 ∷ [])
-    ≡ left Accepted ((bits 0x4008000000000000 ∷ []) ∷ (bits 0xbff0000000000000 ∷ one64 ∷ []) ∷ []) [])
+    ≡ left accepted ((bits 0x4008000000000000 ∷ []) ∷ (bits 0xbff0000000000000 ∷ one64 ∷ []) ∷ []) [])
     ∷ states (least_squares_call (zero64 ∷ zero64 ∷ []) (two64 ∷ bits 0x4010000000000000 ∷ []) 1 (one64 ∷ []) (one64 ∷ one64 ∷ [])
-    ≡ left (Refused 9) ((zero64 ∷ []) ∷ (zero64 ∷ zero64 ∷ []) ∷ []) [])
+    ≡ left (Err Singular) ((zero64 ∷ []) ∷ (zero64 ∷ zero64 ∷ []) ∷ []) [])
     ∷ []
 
 -- nodes 10000 and 15000, and every other list ends at second k, as a time t; of the toy's stages, since a horizon looks at times alone
@@ -107,8 +105,8 @@ ending k t =
 -- all last times 16804 give z = 15000, all 16803 give 10000
 abbrev pub horizons : List Instance
 horizons =
-    states (horizon toy_stages (ending 16804 (bits 0x40d0690000000000)) ≡ some (bits 0x40cd4c0000000000))
-    ∷ states (horizon toy_stages (ending 16803 (bits 0x40d068c000000000)) ≡ some (bits 0x40c3880000000000))
+    states (horizon toy_stages (ending 16804 (bits 0x40d0690000000000)) ≡ Some (bits 0x40cd4c0000000000))
+    ∷ states (horizon toy_stages (ending 16803 (bits 0x40d068c000000000)) ≡ Some (bits 0x40c3880000000000))
     ∷ []
 
 abbrev pub instances : List Instance

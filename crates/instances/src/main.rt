@@ -24,13 +24,11 @@ fn fill(work: &mut [f64], n: usize)
 {
     let mut t = 0.0;
     let mut v = 1.0;
-    let mut i: usize = 0;
-    while i < n {
+    for i in 0..n {
         work[i] = t;
         work[n + i] = v;
-        t = t + 2.0;
+        t += 2.0;
         v = 3.0 - v;
-        i += 1;
     }
 }
 
@@ -40,14 +38,11 @@ fn unchanged(work: &[f64], n: usize) -> u64
 {
     let mut same = 0;
     let mut v = 1.0;
-    let mut i: usize = 0;
-    while i < n {
-        let kept = work[n + i] == v;
-        v = 3.0 - v;
-        i += 1;
-        if kept {
+    for x in &work[n..n + n] {
+        if *x == v {
             same += 1;
         }
+        v = 3.0 - v;
     }
     same
 }

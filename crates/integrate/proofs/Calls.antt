@@ -1,16 +1,15 @@
 -- Laws of the public call. Assumes nothing.
-use Rattle.std.proofs.Common.{◌≡◌, ℕ, zero, suc, ◌+◌, ◌-◌, ◌*◌, ◌<◌, ◌≤◌, Bool, true, false, ◌&&◌, eqb, leb, List, [], ◌∷◌, ◌++◌, length, get_or, take, drop, sym, refl, ap, ◌∙◌, arith, length-append, length-drop, length-take-le, get_or-drop, get_or-take, drop-drop, ext_get_or, take-add, eqb-true, le-leb, leb-true}
-use mathlib.Core.Bool.{and-true}
+use Rattle.std.proofs.Common.{Ok, Err, ◌≡◌, ℕ, zero, suc, ◌+◌, ◌-◌, ◌*◌, ◌<◌, ◌≤◌, Bool, true, false, ◌&&◌, eqb, leb, List, [], ◌∷◌, ◌++◌, length, get_or, take, drop, sym, refl, ap, ◌∙◌, arith, length-append, length-drop, length-take-le, get_or-drop, get_or-take, drop-drop, ext_get_or, take-add, eqb-true, le-leb, leb-true}
 use lib.Ieee.{Float, nan}
 use lib.Ieee.Scale.{finite}
-use borrow.Author.Tests.{lt-leb}
-use Rattle.laws.specs.Checks.{all, is_time, rising, degree_fine}
+use Rattle.std.specs.List.{list_all}
+use Rattle.laws.specs.Checks.{rising, degree_fine}
 use Rattle.laws.specs.Loops.{cleared}
 use Rattle.laws.specs.Bools.{both_true}
 use Rattle.slices.specs.Slices.{copied}
-use Rattle.slices.specs.Calls.{left}
-use Rattle.slices.specs.declared.Outcome.TheVariants.{Accepted, Refused}
-use Rattle.slices.proofs.Calls.{call_refused, call_handed}
+use Rattle.slices.specs.Calls.{Verdict, accepted, left}
+use Rattle.slices.specs.declared.refusal.Refusal.TheVariants.{NotFinite}
+use Rattle.slices.proofs.Calls.{one_accepted, one_unfit}
 use Rattle.slices.proofs.SliceLoops.{copied_all}
 use Rattle.inputs.specs.Inputs.{Model, fit_room, fields_fine, sizes_fit, model_fine, front_size, Front}
 use Rattle.inputs.proofs.Passed.{all_pass, degree_passes, sizes_room}
@@ -19,27 +18,15 @@ use Rattle.integrate.specs.declared.kernel.Force.{Force}
 use Rattle.integrate.specs.Room.{run_size, Run, Orbit, six, flat}
 use Rattle.integrate.specs.Force.{attraction_of, run_of, run_fits}
 use Rattle.integrate.specs.Work.{Ran, Listed}
-use Rattle.integrate.specs.Calls.{is_start, out_fits, arc_fits, refusal, integrate_call}
+use Rattle.integrate.specs.Calls.{out_fits, arc_fits, refusal, integrate_call}
 
 -- ---- the tests
-
-pub out_many : (steps out : ℕ) → 5302 < steps → false ≡ out_fits steps out
-unfolding out_fits
-out_many steps out h = rw (lt-leb steps 5302 h)
-
-pub out_within : (steps out : ℕ) → steps ≤ 5302 → eqb out (6 * (steps + 1)) ≡ out_fits steps out
-unfolding out_fits
-out_within steps out h = rw (le-leb steps 5302 h)
 
 pub out_passes : (steps out : ℕ) → out_fits steps out ≡ true → (steps ≤ 5302) × (out ≡ 6 * (steps + 1))
 unfolding out_fits
 out_passes steps out h =
     let p = both_true (leb steps 5302) (eqb out (6 * (steps + 1))) h in
     (leb-true steps 5302 p.0, eqb-true out (6 * (steps + 1)) p.1)
-
-pub arc_is : (arc : Arc) (s n f t r : Bool) → s ≡ is_start arc.t0 → n ≡ is_time arc.node → t ≡ s && n → f ≡ finite arc.period → r ≡ t && f → r ≡ arc_fits arc
-unfolding arc_fits
-arc_is arc s n f t r es en et ef er = simp (er, et, es, en, ef)
 
 -- ---- what holds where none fails
 
@@ -49,11 +36,11 @@ pub record Passed (N : ℕ) (arc : Arc) (out scratch : ℕ) : Type 0 where
   pub room : front_size N + fit_room ≤ scratch
   pub each : out ≡ 6 * (arc.steps + 1)
 
-pub passes : (M : Model) (arc : Arc) (p : List Float) (out scratch : ℕ) → refusal M arc p out scratch ≡ 0 → Passed M.fixed.degree arc out scratch
+pub passes : (M : Model) (arc : Arc) (p : List Float) (out scratch : ℕ) → refusal M arc p out scratch ≡ accepted → Passed M.fixed.degree arc out scratch
 unfolding refusal
 passes M arc q out scratch h =
     let p = all_pass (degree_fine M.fixed.degree) (fields_fine (length M.fields.field_times) && leb arc.steps 5302) (sizes_fit M scratch && out_fits arc.steps out)
-    (model_fine M && (arc_fits arc && all finite q)) (rising M.fields.field_times) 0 h in
+    (model_fine M && (arc_fits arc && list_all finite q)) (rising M.fields.field_times) accepted h in
     let l = both_true (sizes_fit M scratch) (out_fits arc.steps out) p.lengths in
     let o = out_passes arc.steps out l.1 in
     record { degree = degree_passes M.fixed.degree p.degree; few = o.0; room = sizes_room M scratch l.0; each = o.1 }
@@ -113,35 +100,21 @@ states_are N steps base w w' out out' run h k l q r e c =
     ap (λ (n : ℕ). length (take n (drop base w'))) z ∙ length-take-le (6 * (steps + 1)) (drop base w') (omega (arith, length-drop base w', long)) in
     record { states = c ∙ copied_all (take (base + 6 * (steps + 1) - base) (drop base w')) out (q ∙ sym lp) ∙ part; long = long }
 
--- ---- the call
+-- ---- the call, nothing being refused before the work
 
-module _ (force : Force) (M : Model) (arc : Arc) (p out scratch : List Float) (n : ℕ) (en : n ≡ refusal M arc p (length out) (length scratch)) where
-  pub integrate_refused : (n ≡ 0 → ⊥) → left (Refused n) (out ∷ []) scratch ≡ integrate_call force M arc p out scratch
+module _ (force : Force) (M : Model) (arc : Arc) (p out scratch out' scratch' scratch'' : List Float) (v : Verdict)
+    (ev : v ≡ refusal M arc p (length out) (length scratch)) (h : v ≡ accepted)
+    (eo : Listed (run_of (attraction_of force M) arc p) (arc.steps + 1) out' scratch scratch') (es : scratch'' ≡ cleared scratch')
+    (t : Bool) (et : t ≡ list_all finite out') where
+  passed : refusal M arc p (length out) (length scratch) ≡ accepted
+  passed = sym ev ∙ h
+
+  pub integrate_accepted : t ≡ true → left (Ok tt) (out' ∷ []) scratch'' ≡ integrate_call force M arc p out scratch
   unfolding integrate_call
-  integrate_refused h = call_refused Accepted Refused _ _ _ n _ _ en h
+  integrate_accepted q = one_accepted tt _ _ out scratch out' scratch'' scratch' t passed eo.states es eo.long et q
 
-  pub passed_here : n ≡ 0 → Passed M.fixed.degree arc (length out) (length scratch)
-  passed_here h = passes M arc p (length out) (length scratch) (sym en ∙ h)
-
-  module _ (h : n ≡ 0) (out' scratch' scratch'' : List Float)
-      (eo : Listed (run_of (attraction_of force M) arc p) (arc.steps + 1) out' scratch scratch') (es : scratch'' ≡ cleared scratch') (t : Bool) (et : t ≡ all finite out') where
-    clear_is : scratch'' ≡ cleared scratch
-    clear_is = let l = eo.long in es ∙ rw l
-
-    finite_is : t ≡ all (all finite) (flat (run_of (attraction_of force M) arc p) (arc.steps + 1) ∷ [])
-    finite_is = et ∙ ap (all finite) eo.states ∙ sym (and-true (all finite (flat (run_of (attraction_of force M) arc p) (arc.steps + 1))))
-
-    pub integrate_accepted : t ≡ true → left Accepted (out' ∷ []) scratch'' ≡ integrate_call force M arc p out scratch
-    unfolding integrate_call
-    integrate_accepted q =
-        (λ i. left Accepted (eo.states i ∷ []) (clear_is i))
-        ∙ call_handed Accepted Refused (flat (run_of (attraction_of force M) arc p) (arc.steps + 1) ∷ []) (out ∷ []) scratch true _ 0 (sym h ∙ en) refl (sym q ∙ finite_is)
-
-    pub integrate_unfit : t ≡ false → (out'' : List Float) → out'' ≡ cleared out' → left (Refused 10) (out'' ∷ []) scratch'' ≡ integrate_call force M arc p out scratch
-    unfolding integrate_call
-    integrate_unfit q out'' e =
-        (λ i. left (Refused 10) ((e ∙ same (ap length eo.states ∙ flat_length _ (arc.steps + 1) ∙ sym (passed_here h).each)) i ∷ []) (clear_is i))
-        ∙ call_handed Accepted Refused (flat (run_of (attraction_of force M) arc p) (arc.steps + 1) ∷ []) (out ∷ []) scratch false _ 0 (sym h ∙ en) refl (sym q ∙ finite_is)
-      where
-        same : length out' ≡ length out → cleared out' ≡ cleared out
-        same l = rw l
+  pub integrate_unfit : t ≡ false → (out'' : List Float) → out'' ≡ cleared out' → left (Err NotFinite) (out'' ∷ []) scratch'' ≡ integrate_call force M arc p out scratch
+  unfolding integrate_call
+  integrate_unfit q out'' e =
+      let long : length out' ≡ length out = ap length eo.states ∙ flat_length _ (arc.steps + 1) ∙ sym (passes M arc p (length out) (length scratch) passed).each in
+      one_unfit tt _ _ out scratch out' out'' scratch'' out' scratch' t passed eo.states e long es eo.long et q

@@ -1,10 +1,10 @@
 -- Laws of the force and of one step. Assumes nothing.
-use Rattle.std.proofs.Common.{◌≡◌, ℕ, ◌+◌, ◌-◌, ◌*◌, ◌<◌, ◌≤◌, Bool, true, false, leb, List, length, get_or, take, replicate, sym, refl, ap, ◌∙◌, subst, add-one, arith, length-take-le, le-leb, leb-true}
+use Rattle.std.proofs.Common.{◌≡◌, ℕ, ◌+◌, ◌-◌, ◌*◌, ◌<◌, ◌≤◌, Bool, true, false, ◌&&◌, leb, List, length, get_or, take, replicate, sym, refl, ap, ◌∙◌, subst, add-one, arith, length-take-le, leb-true}
 use mathlib.Core.Bool.{false≢true}
 use native.Mathlib.Decide.{dec_le}
 use lib.Ieee.{Float, nan}
 use borrow.Rule.Slice.PartMut.{mid_of, put_mid}
-use borrow.Author.Tests.{lt-leb}
+use Rattle.laws.specs.Bools.{both_true}
 use Rattle.inputs.specs.Inputs.{Model, front_size}
 use Rattle.laws.specs.Floats.{◌⊕◌, ◌⊘◌, two64, zero64}
 use Rattle.laws.specs.Loops.{cleared}
@@ -27,7 +27,7 @@ use Rattle.forces.specs.Forces.{gravity_with}
 use Rattle.integrate.specs.Steps.{Acceleration, along_of, weighed_of, step_of, state_at}
 use Rattle.integrate.specs.Force.{gravity_at, full_force, attraction_of, argument_of, acceleration_of, strengths_of, run_of, run_fits}
 use Rattle.integrate.specs.Room.{run_size, state_in, Run, Only, Holds3, Orbit}
-use Rattle.integrate.specs.Work.{front_at, Ready, ReadyFor, Refreshed, Pulled, Pushed, Moved, Stored, Advanced, Begun, Flown, Fitting, Ran}
+use Rattle.integrate.specs.Work.{instant_of, front_at, Ready, ReadyFor, Refreshed, Pulled, Pushed, Moved, Stored, Advanced, Begun, Flown, Ran}
 use Rattle.integrate.proofs.Places.{only_same, only_then, orbit_first}
 use Rattle.integrate.proofs.Front.{at_length, at_again, front_length, front_gravity, put_front, put_only, take_only}
 
@@ -36,39 +36,42 @@ use Rattle.integrate.proofs.Front.{at_length, at_again, front_length, front_grav
 front_part : (n : ℕ) (w : List Float) → n ≤ length w → mid_of 0 (n - 0) w ≡ take n w
 front_part n w h = let e : n - 0 ≡ n = omega arith in ap (λ (k : ℕ). take k w) e
 
-pub opened : (M : Model) (base : ℕ) (w y : List Float) (t : Float) (m : Moment) → base ≡ front_size M.fixed.degree → base ≤ length w →
-    y ≡ at_left M t (prepared M.fixed.degree (cleared (mid_of 0 (base - 0) w))) → m ≡ moment_of t →
-    Ready M (put_mid 0 (base - 0) w y) (record { time = t; moment = m }) × Only 0 (front_size M.fixed.degree) w (put_mid 0 (base - 0) w y)
+pub opened : (M : Model) (base : ℕ) (w y : List Float) (t : Float) (r : Instant) → base ≡ front_size M.fixed.degree → base ≤ length w →
+    y ≡ at_left M t (prepared M.fixed.degree (cleared (mid_of 0 (base - 0) w))) → r ≡ instant_of t →
+    Ready M (put_mid 0 (base - 0) w y) r × Only 0 (front_size M.fixed.degree) w (put_mid 0 (base - 0) w y)
 unfolding front_at
-opened M base w y t m e h ey em =
+opened M base w y t r e h ey er =
     let part : length (mid_of 0 (base - 0) w) ≡ front_size M.fixed.degree = ap length (front_part base w h) ∙ length-take-le base w h ∙ e in
     let is : y ≡ front_at M t = ey ∙ ap (λ (k : ℕ). at_left M t (prepared M.fixed.degree (replicate k zero64))) part in
-    let long : length y ≡ base = ap length is ∙ front_length M t ∙ sym e in (
-      record { front = subst (λ (k : ℕ). take k (put_mid 0 (base - 0) w y) ≡ front_at M t) e (put_front base w y h long ∙ is); sky = em },
+    let long : length y ≡ base = ap length is ∙ front_length M t ∙ sym e in
+    let ready : Ready M (put_mid 0 (base - 0) w y) (instant_of t) =
+    record { front = subst (λ (k : ℕ). take k (put_mid 0 (base - 0) w y) ≡ front_at M t) e (put_front base w y h long ∙ is); sky = refl } in (
+      subst (λ (x : Instant). Ready M (put_mid 0 (base - 0) w y) x) (sym er) ready,
       subst (λ (k : ℕ). Only 0 k w (put_mid 0 (base - 0) w y)) e (put_only base w y h long),
     )
 
 pub kept_instant : (M : Model) (w : List Float) (known : Instant) (t : Float) (b : Bool) → (b ≡ true → known.time ≡ t) → b ≡ true → Refreshed M w w known t known
 kept_instant M w known t b f h = record { ready = λ r. r; time = f h; only = only_same 0 (front_size M.fixed.degree) w }
 
-pub new_instant : (M : Model) (base : ℕ) (w y : List Float) (known : Instant) (t : Float) (m : Moment) → base ≡ front_size M.fixed.degree → base ≤ length w →
-    y ≡ at_left M t (mid_of 0 (base - 0) w) → m ≡ moment_of t →
-    Refreshed M w (put_mid 0 (base - 0) w y) known t (record { time = t; moment = m })
+pub new_instant : (M : Model) (base : ℕ) (w y : List Float) (known : Instant) (t : Float) (r : Instant) → base ≡ front_size M.fixed.degree → base ≤ length w →
+    y ≡ at_left M t (mid_of 0 (base - 0) w) → r ≡ instant_of t →
+    Refreshed M w (put_mid 0 (base - 0) w y) known t r
 unfolding front_at
-new_instant M base w y known t m e h ey em =
+new_instant M base w y known t r e h ey er =
     let whole : List Float = put_mid 0 (base - 0) w y in
     let long : length y ≡ base = ap length ey ∙ at_length M t (mid_of 0 (base - 0) w) ∙ ap length (front_part base w h) ∙ length-take-le base w h in
-    record {
-      ready = λ r.
-          let old : mid_of 0 (base - 0) w ≡ front_at M known.time = front_part base w h ∙ ap (λ (k : ℕ). take k w) e ∙ r.front in
+    let fresh : Refreshed M w whole known t (instant_of t) = record {
+      ready = λ q.
+          let old : mid_of 0 (base - 0) w ≡ front_at M known.time = front_part base w h ∙ ap (λ (k : ℕ). take k w) e ∙ q.front in
           record {
             front = ap (λ (k : ℕ). take k whole) (sym e) ∙ put_front base w y h long ∙ ey ∙ ap (at_left M t) old
                 ∙ at_again M t known.time (prepared M.fixed.degree (replicate (front_size M.fixed.degree) zero64));
-            sky = em;
+            sky = refl;
           };
       time = refl;
       only = subst (λ (k : ℕ). Only 0 k w whole) e (put_only base w y h long);
-    }
+    } in
+    subst (λ (x : Instant). Refreshed M w whole known t x) (sym er) fresh
 
 -- ---- the force
 
@@ -236,24 +239,15 @@ flown_more force M w w' base k known a t0 start s r es o g h =
 
 -- ---- the guard
 
-pub fits_degree : (N steps room : ℕ) → 180 < N → Fitting N steps room false
+-- what holds where it lets a run through
+pub fits_parts : (N steps room : ℕ) → run_fits N steps room ≡ true → (N ≤ 180) × (steps ≤ 5302) × (front_size N + run_size ≤ room)
 unfolding run_fits
-fits_degree N steps room h = record { says = simp (lt-leb N 180 h); degree = λ e. absurd (false≢true e); few = λ e. absurd (false≢true e); enough = λ e. absurd (false≢true e) }
+fits_parts N steps room h =
+    let a = both_true (leb N 180 && leb steps 5302) (leb (front_size N + run_size) room) h in
+    let b = both_true (leb N 180) (leb steps 5302) a.0 in
+    (leb-true N 180 b.0, leb-true steps 5302 b.1, leb-true (front_size N + run_size) room a.1)
 
-pub fits_steps : (N steps room : ℕ) → N ≤ 180 → 5302 < steps → Fitting N steps room false
-unfolding run_fits
-fits_steps N steps room g h = record { says = simp (le-leb N 180 g, lt-leb steps 5302 h); degree = λ e. absurd (false≢true e); few = λ e. absurd (false≢true e); enough = λ e. absurd (false≢true e) }
-
-pub fits_room : (N steps room base : ℕ) → N ≤ 180 → steps ≤ 5302 → base ≡ front_size N → Fitting N steps room (leb (base + run_size) room)
-unfolding run_fits
-fits_room N steps room base g h e = record {
-  says = simp (le-leb N 180 g, le-leb steps 5302 h, e);
-  degree = λ _. g;
-  few = λ _. h;
-  enough = λ q. subst (λ (n : ℕ). n + run_size ≤ room) e (leb-true (base + run_size) room q);
-}
-
-module _ (force : Force) (M : Model) (p w w' : List Float) (arc : Arc) (base : ℕ) (t : Bool) (g : Fitting M.fixed.degree arc.steps (length w) t) where
+module _ (force : Force) (M : Model) (p w w' : List Float) (arc : Arc) (base : ℕ) (t : Bool) (g : t ≡ run_fits M.fixed.degree arc.steps (length w)) where
   pub ran : (e : List Float) (s : State) → t ≡ true → base ≡ front_size M.fixed.degree → e ≡ strengths_of p → s ≡ state_in p 0 →
       Flown w w' base arc.steps (state_at (acceleration_of (attraction_of force M) arc e) arc.t0 s) →
       Ran (run_fits M.fixed.degree arc.steps (length w)) w w' (front_size M.fixed.degree) arc.steps (run_of (attraction_of force M) arc p)
@@ -262,8 +256,8 @@ module _ (force : Force) (M : Model) (p w w' : List Float) (arc : Arc) (base : �
     flown = λ _. subst (λ (x : List Float). Flown w w' (front_size M.fixed.degree) arc.steps (state_at (acceleration_of (attraction_of force M) arc x) arc.t0 (state_in p 0))) ee
         (subst (λ (x : State). Flown w w' (front_size M.fixed.degree) arc.steps (state_at (acceleration_of (attraction_of force M) arc e) arc.t0 x)) es
         (subst (λ (n : ℕ). Flown w w' n arc.steps (state_at (acceleration_of (attraction_of force M) arc e) arc.t0 s)) eb f));
-    kept = λ q. absurd (false≢true (sym q ∙ sym g.says ∙ h));
+    kept = λ q. absurd (false≢true (sym q ∙ sym g ∙ h));
   }
 
   pub not_ran : t ≡ false → Ran (run_fits M.fixed.degree arc.steps (length w)) w w (front_size M.fixed.degree) arc.steps (run_of (attraction_of force M) arc p)
-  not_ran h = record { flown = λ q. absurd (false≢true (sym h ∙ g.says ∙ q)); kept = λ _. refl }
+  not_ran h = record { flown = λ q. absurd (false≢true (sym h ∙ g ∙ q)); kept = λ _. refl }

@@ -1,10 +1,11 @@
 -- The published series: with the Legendre tables that `Legendre::new` fills, the gravity of a run and of an epoch is that of the published series of the field at each time
 -- (`gravity_of` of crate `solid_tide`: fully normalised functions of Holmes and Featherstone 2002), and `integrate` answers and leaves what it does over that series. Assumes nothing.
-use Rattle.std.proofs.Common.{◌≡◌, ℕ, zero, suc, ◌+◌, ◌*◌, ◌/◌, ◌<◌, ◌≤◌, true, ◌&&◌, leb, List, [], ◌∷◌, length, refl, ap, ◌∙◌, mul-div_cancel, arith, eq-eqb, le-leb, leb-true}
+use Rattle.std.proofs.Common.{Ok, Err, ◌≡◌, ℕ, ◌+◌, ◌*◌, ◌/◌, ◌<◌, ◌≤◌, true, ◌&&◌, leb, List, [], ◌∷◌, length, refl, ap, ◌∙◌, mul-div_cancel, arith, eq-eqb, le-leb, leb-true}
 use lib.Ieee.{Float}
 use lib.Ieee.Scale.{finite}
 use Rattle.laws.specs.Bools.{both_true}
-use Rattle.laws.specs.Checks.{all, rising, degree_fine}
+use Rattle.std.specs.List.{list_all}
+use Rattle.laws.specs.Checks.{rising, degree_fine}
 use Rattle.laws.specs.Tables.{rows}
 use Rattle.vectors.specs.declared.Vector.{Vector}
 use Rattle.legendre.specs.Legendre.{a_of, b_of}
@@ -14,8 +15,8 @@ use Rattle.forces.proofs.Published.{lent_gravity}
 use Rattle.model.specs.Field.{gm, radius, cosines, sines}
 use Rattle.model.specs.Model.{kind_at}
 use Rattle.model.specs.Calls.{at_fits, sized as fits_for}
-use Rattle.slices.specs.Calls.{settled}
-use Rattle.slices.specs.declared.Outcome.TheVariants.{Accepted, Refused}
+use Rattle.slices.specs.Calls.{Verdict, accepted, settled}
+use Rattle.slices.specs.declared.refusal.Refusal.{Refusal}
 use Rattle.inputs.specs.Inputs.{Model, kind, field_size, fields_fine, sizes_fit, model_fine}
 use Rattle.inputs.proofs.Passed.{all_pass, degree_passes, sizes_pass}
 use Rattle.integrate.specs.declared.kernel.Arc.{Arc}
@@ -89,26 +90,26 @@ module _ (M : Model) (sized : Sized M) where
 -- ---- the call
 
 -- acceptance gives the lengths
-pub accepted_sized : (M : Model) (arc : Arc) (p : List Float) (out scratch : ℕ) → refusal M arc p out scratch ≡ 0 → Sized M
+pub accepted_sized : (M : Model) (arc : Arc) (p : List Float) (out scratch : ℕ) → refusal M arc p out scratch ≡ accepted → Sized M
 unfolding refusal
 accepted_sized M arc q out scratch h =
     let n : ℕ = length M.fields.field_times in
-    let p = all_pass (degree_fine M.fixed.degree) (fields_fine n && leb arc.steps 5302) (sizes_fit M scratch && out_fits arc.steps out) (model_fine M && (arc_fits arc && all finite q))
-    (rising M.fields.field_times) 0 h in
+    let p = all_pass (degree_fine M.fixed.degree) (fields_fine n && leb arc.steps 5302) (sizes_fit M scratch && out_fits arc.steps out) (model_fine M && (arc_fits arc && list_all finite q))
+    (rising M.fields.field_times) accepted h in
     let l = sizes_pass M scratch (both_true (sizes_fit M scratch) (out_fits arc.steps out) p.lengths).0 in
     let f = (both_true (fields_fine n) (leb arc.steps 5302) p.counts).0 in
     record { degree = degree_passes M.fixed.degree p.degree; static = l.static; fields = leb-true 2 n (both_true (leb 2 n) (leb n 32) f).0; added = l.added; a = l.a; b = l.b }
 
 -- what a call leaves depends on x only where nothing is refused
-pub by_acceptance : {A X : Type 0} (call : ℕ → X → A) (n : ℕ) (x y : X) → ((k : ℕ) → call (suc k) x ≡ call (suc k) y) → (n ≡ 0 → x ≡ y) → call n x ≡ call n y
-by_acceptance call zero x y other same = ap (call zero) (same refl)
-by_acceptance call (suc k) x y other same = other k
+pub by_acceptance : {A X : Type 0} (call : Verdict → X → A) (v : Verdict) (x y : X) → ((e : Refusal) → call (Err e) x ≡ call (Err e) y) → (v ≡ accepted → x ≡ y) → call v x ≡ call v y
+by_acceptance call (Ok u) x y other same = ap (call (Ok u)) (same refl)
+by_acceptance call (Err e) x y other same = other e
 
 -- `integrate` over the published series
 pub integrate_published : (force : Force) (M : Model) → Published M → (arc : Arc) (p out scratch : List Float) →
     integrate_call force M arc p out scratch ≡ integrate_by (attraction_by force (full_by (published_at M))) M arc p out scratch
 unfolding integrate_call attraction_of
 integrate_published force M tables arc p out scratch =
-    by_acceptance (λ (n : ℕ) (full : Float → Vector → Vector). settled Accepted Refused n 0 (flat (run_of (attraction_by force full) arc p) (arc.steps + 1) ∷ []) (out ∷ []) scratch)
-    (refusal M arc p (length out) (length scratch)) (full_force M) (full_by (published_at M)) (λ k. refl)
+    by_acceptance (λ (v : Verdict) (full : Float → Vector → Vector). settled v accepted (flat (run_of (attraction_by force full) arc p) (arc.steps + 1) ∷ []) (out ∷ []) scratch)
+    (refusal M arc p (length out) (length scratch)) (full_force M) (full_by (published_at M)) (λ e. refl)
     (λ h. full_published M (accepted_sized M arc p (length out) (length scratch) h) tables)

@@ -13,8 +13,12 @@ use Rattle.integrate.specs.declared.kernel.Push.{Push}
 use Rattle.integrate.specs.declared.kernel.Stepped.{Stepped}
 use Rattle.integrate.specs.declared.kernel.Force.{Force}
 use Rattle.integrate.specs.declared.kernel.Force.TheVariants.{Full}
-use Rattle.integrate.specs.Force.{full_force, run_fits}
+use Rattle.integrate.specs.Force.{full_force}
 use Rattle.integrate.specs.Room.{run_size, Run, Only, Holds3, Orbit, flat}
+
+-- a time with what the tides take from it
+abbrev pub instant_of : Float → Instant
+instant_of t = record { time = t; moment = moment_of t }
 
 -- the numbers before the states of a run at time t: the field's coefficients, and the tables that the degree alone gives
 unfoldable pub front_at : Model → Float → List Float
@@ -82,13 +86,6 @@ pub record Begun (force : Force) (M : Model) (w w' : List Float) (r : Instant) :
 pub record Flown (w w' : List Float) (base steps : ℕ) (run : Run) : Type 0 where
   pub states : Orbit w' base run (steps + 1)
   pub only : Only 0 (base + run_size) w w'
-
--- the guard's answer, and what holds where it is true
-pub record Fitting (N steps room : ℕ) (r : Bool) : Type 0 where
-  pub says : r ≡ run_fits N steps room
-  pub degree : r ≡ true → N ≤ 180
-  pub few : r ≡ true → steps ≤ 5302
-  pub enough : r ≡ true → front_size N + run_size ≤ room
 
 -- a run where it fits, and nothing otherwise
 pub record Ran (fits : Bool) (w w' : List Float) (base steps : ℕ) (run : Run) : Type 0 where

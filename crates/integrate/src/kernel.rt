@@ -4,14 +4,14 @@ ghost use Rattle.std.specs.Float.{nan};
 ghost use Rattle.laws.specs.Times.{step_time};
 ghost use Rattle.laws.specs.Loops.{cleared};
 ghost use Rattle.laws.specs.Tables.{tri};
-ghost use Rattle.forces.specs.Forces.{moment_of};
 ghost use Rattle.model.specs.Calls.{at_left};
 ghost use Rattle.legendre.specs.Prepared.{prepared};
 ghost use Rattle.integrate.specs.Steps.{along_of, weighed_of, step_of, state_at};
-ghost use Rattle.inputs.specs.Inputs.{front_size, model_of};
+ghost use Rattle.inputs.specs.Inputs.{front_size};
+ghost use Rattle.inputs.specs.Lent.{model_of};
 ghost use Rattle.integrate.specs.Force.{attraction_of, argument_of, acceleration_of, strengths_of, run_of, run_fits};
 ghost use Rattle.integrate.specs.Room.{run_size, state_in, Only};
-ghost use Rattle.integrate.specs.Work.{Ready, Refreshed, Pulled, Pushed, Moved, Placed, Stored, Advanced, Begun, Flown, Fitting, Ran};
+ghost use Rattle.integrate.specs.Work.{instant_of, Ready, Refreshed, Pulled, Pushed, Moved, Placed, Stored, Advanced, Begun, Flown, Ran};
 
 #[derive(Clone, Copy)]
 pub struct State {
@@ -42,6 +42,17 @@ pub struct Instant {
     pub moment: forces::kernel::Moment,
 }
 
+impl Instant {
+    fn of(t: f64) -> Self
+        ensures { result ≡ instant_of t }
+    {
+        Self {
+            time: t,
+            moment: forces::kernel::sky_at(t),
+        }
+    }
+}
+
 #[derive(Clone, Copy)]
 pub struct Push {
     pub known: Instant,
@@ -54,8 +65,6 @@ pub struct Stepped {
     pub state: State,
 }
 
-const PI: f64 = 3.141592653589793;
-
 const STEP: f64 = 2.0;
 
 // The states of the longest run, six numbers each.
@@ -65,149 +74,35 @@ const RUN_SIZE: usize = 31_818;
 pub fn element(s: &[f64], i: usize) -> f64
     ensures { result ≡ slice_index_or s.now i nan }
 {
-    if i < s.len() { s[i] } else { 0.0 / 0.0 }
+    s.get(i).copied().unwrap_or(f64::NAN)
 }
 
 // Whether two times are the same to the bit; a NaN is never known.
 fn same_bits(a: f64, b: f64) -> bool
     ensures { result ≡ true → a ≡ b }
 {
-    if a == a {
-        if b == b {
-            return f64::to_bits(a) == f64::to_bits(b);
-        }
-    }
-    false
+    (a == a && b == b) && f64::to_bits(a) == f64::to_bits(b)
 }
 
 // The field at t and what the degree gives, over whatever stood there.
-fn fill<'a>(degree: usize, model: inputs::Model<'a>, t: f64, front: &mut [f64])
-    ensures { front.new ≡ at_left (model_of degree model.entry) t (prepared degree (cleared front.old)) }
+fn fill(model: inputs::Model<'_>, t: f64, front: &mut [f64])
+    ensures { front.new ≡ at_left (model_of model.entry) t (prepared model.entry.degree (cleared front.old)) }
 {
     slices::clear(front);
-    fields::kernel::prepare(degree, front);
-    model::kernel::at(degree, model, t, front);
-}
-
-// The first instant of a run.
-fn open<'a>(degree: usize, model: inputs::Model<'a>, t: f64, base: usize, w: &mut [f64]) -> Instant
-    requires { (base ≡ front_size degree) × (base ≤ length w.old) }
-    ensures { Ready (model_of degree model.entry) w.new result × Only 0 (front_size degree) w.old w.new }
-{
-    fill(degree, model, t, &mut w[0..base]);
-    Instant {
-        time: t,
-        moment: forces::kernel::sky_at(t),
-    }
-}
-
-// The instant of t; what is known stays where t is the same to the bit.
-fn refresh<'a>(
-    degree: usize,
-    model: inputs::Model<'a>,
-    known: Instant,
-    t: f64,
-    base: usize,
-    w: &mut [f64],
-) -> Instant
-    requires { (base ≡ front_size degree) × (base ≤ length w.old) }
-    ensures { Refreshed (model_of degree model.entry) w.old w.new known t result }
-{
-    if same_bits(known.time, t) {
-        return known;
-    }
-    model::kernel::at(degree, model, t, &mut w[0..base]);
-    Instant {
-        time: t,
-        moment: forces::kernel::sky_at(t),
-    }
-}
-
-// The full model's attraction with the tides.
-fn full_pull<'a>(
-    degree: usize,
-    model: inputs::Model<'a>,
-    known: Instant,
-    t: f64,
-    x: vectors::Vector,
-    base: usize,
-    w: &mut [f64],
-) -> Push
-    requires { (base ≡ front_size degree) × (base ≤ length w.old) }
-    ensures { Pulled (model_of degree model.entry) w.old w.new known t x result }
-{
-    let here = refresh(degree, model, known, t, base, w);
-    let static_field = model[inputs::STATIC];
-    let g = forces::kernel::gravity(
-        degree,
-        element(static_field, 0),
-        element(static_field, 1),
-        model[inputs::TABLE_A],
-        model[inputs::TABLE_B],
-        &w[0..base],
-        x,
-    );
-    let moment = here.moment;
-    let pull = vectors::add(g, forces::kernel::tides_at(moment, x));
-    Push { known: here, pull }
-}
-
-fn attraction<'a>(
-    force: Force,
-    degree: usize,
-    model: inputs::Model<'a>,
-    known: Instant,
-    t: f64,
-    x: vectors::Vector,
-    base: usize,
-    w: &mut [f64],
-) -> Push
-    requires { (base ≡ front_size degree) × (base ≤ length w.old) }
-    ensures { Pushed force (model_of degree model.entry) w.old w.new known
-        (attraction_of force (model_of degree model.entry) t x) result }
-{
-    match force {
-        Force::Full => full_pull(degree, model, known, t, x, base, w),
-        Force::J2 => {
-            let pull = forces::kernel::j2_gravity(x);
-            Push { known, pull }
-        }
-    }
+    fields::kernel::prepare(model.degree, front);
+    model::kernel::at(model, t, front);
 }
 
 // The angle from the node at a time.
+#[tactic(auto, unfolding(crate::specs::Force::argument_of))]
 fn argument(arc: Arc, t: f64) -> f64
     ensures { result ≡ argument_of arc t }
 {
-    2.0 * PI * (t - arc.node) / arc.period
-}
-
-fn acceleration<'a>(
-    force: Force,
-    degree: usize,
-    model: inputs::Model<'a>,
-    arc: Arc,
-    e: [f64; 9],
-    known: Instant,
-    t: f64,
-    x: vectors::Vector,
-    v: vectors::Vector,
-    base: usize,
-    w: &mut [f64],
-) -> Push
-    requires { (base ≡ front_size degree) × (base ≤ length w.old) }
-    ensures { Pushed force (model_of degree model.entry) w.old w.new known
-        (acceleration_of (attraction_of force (model_of degree model.entry)) arc e t x v) result }
-{
-    let g = attraction(force, degree, model, known, t, x, base, w);
-    let f = forces::kernel::fictitious(x, v);
-    let p = forces::kernel::empirical(x, v, argument(arc, t), e);
-    let here = g.known;
-    let pull = vectors::add(g.pull, vectors::add(f, p));
-    Push { known: here, pull }
+    2.0 * std::f64::consts::PI * (t - arc.node) / arc.period
 }
 
 // a + b·k
+#[tactic(auto, unfolding(crate::specs::Steps::along_of))]
 fn along(a: vectors::Vector, b: vectors::Vector, k: f64) -> vectors::Vector
     ensures { result ≡ along_of a b k }
 {
@@ -215,6 +110,7 @@ fn along(a: vectors::Vector, b: vectors::Vector, k: f64) -> vectors::Vector
 }
 
 // a + 2b + (2c + d)
+#[tactic(auto, unfolding(crate::specs::Steps::weighed_of))]
 fn weighed(
     a: vectors::Vector,
     b: vectors::Vector,
@@ -229,77 +125,8 @@ fn weighed(
     )
 }
 
-// One step by the classical Runge-Kutta rule.
-fn step<'a>(
-    force: Force,
-    degree: usize,
-    model: inputs::Model<'a>,
-    arc: Arc,
-    e: [f64; 9],
-    known: Instant,
-    t: f64,
-    s: State,
-    base: usize,
-    w: &mut [f64],
-) -> Stepped
-    requires { (base ≡ front_size degree) × (base ≤ length w.old) }
-    ensures { Moved force (model_of degree model.entry) w.old w.new known
-        (step_of (acceleration_of (attraction_of force (model_of degree model.entry)) arc e) t s) result }
-{
-    let h = STEP;
-    let x = s.position;
-    let v = s.velocity;
-    let p1 = acceleration(force, degree, model, arc, e, known, t, x, v, base, w);
-    let a1 = p1.pull;
-    let x2 = along(x, v, h / 2.0);
-    let v2 = along(v, a1, h / 2.0);
-    let k1 = p1.known;
-    let p2 = acceleration(
-        force,
-        degree,
-        model,
-        arc,
-        e,
-        k1,
-        t + h / 2.0,
-        x2,
-        v2,
-        base,
-        w,
-    );
-    let a2 = p2.pull;
-    let x3 = along(x, v2, h / 2.0);
-    let v3 = along(v, a2, h / 2.0);
-    let k2 = p2.known;
-    let p3 = acceleration(
-        force,
-        degree,
-        model,
-        arc,
-        e,
-        k2,
-        t + h / 2.0,
-        x3,
-        v3,
-        base,
-        w,
-    );
-    let a3 = p3.pull;
-    let x4 = along(x, v3, h);
-    let v4 = along(v, a3, h);
-    let k3 = p3.known;
-    let p4 = acceleration(force, degree, model, arc, e, k3, t + h, x4, v4, base, w);
-    let a4 = p4.pull;
-    let position = along(x, weighed(v, v2, v3, v4), h / 6.0);
-    let velocity = along(v, weighed(a1, a2, a3, a4), h / 6.0);
-    let k4 = p4.known;
-    Stepped {
-        known: k4,
-        state: State { position, velocity },
-    }
-}
-
 // The time of step k.
+#[tactic(auto, unfolding(laws::specs::Times::step_time, laws::specs::WholeNumbers::number))]
 pub fn time(t0: f64, k: usize) -> f64
     ensures { result ≡ step_time t0 k }
 {
@@ -307,6 +134,7 @@ pub fn time(t0: f64, k: usize) -> f64
 }
 
 // Six numbers of a list, from a place in it or at its end.
+#[tactic(auto, unfolding(crate::specs::Room::state_in))]
 fn state_within(l: &[f64], i: usize) -> State
     requires { i ≤ length l.now }
     ensures { result ≡ state_in l.now i }
@@ -339,12 +167,10 @@ pub fn state_in(l: &[f64], i: usize) -> State
 pub fn put(w: &mut [f64], at: usize, v: vectors::Vector)
     ensures { Placed w.old w.new at v }
 {
-    if at < w.len() {
-        if 3 <= w.len() - at {
-            w[at] = v.x;
-            w[at + 1] = v.y;
-            w[at + 2] = v.z;
-        }
+    if at < w.len() && 3 <= w.len() - at {
+        w[at] = v.x;
+        w[at + 1] = v.y;
+        w[at + 2] = v.z;
     }
 }
 
@@ -358,85 +184,173 @@ pub fn put_state(w: &mut [f64], at: usize, s: State)
     }
 }
 
-// Step k of a run: the next state, stored at its place.
-fn advance<'a>(
+// What a run is flown by: its force, its arc and its nine empirical parameters, and where its states begin in the lent numbers.
+#[derive(Clone, Copy)]
+struct Flight<'a> {
     force: Force,
-    degree: usize,
     model: inputs::Model<'a>,
     arc: Arc,
-    e: [f64; 9],
-    known: Instant,
-    k: usize,
-    s: State,
+    strengths: [f64; 9],
     base: usize,
-    w: &mut [f64],
-) -> Stepped
-    requires { (k < 5302) × (base ≡ front_size degree) × (base ≤ 131768) × (base + run_size ≤ length w.old) }
-    ensures { Advanced force (model_of degree model.entry) w.old w.new base k known
-        (step_of (acceleration_of (attraction_of force (model_of degree model.entry)) arc e) (step_time arc.t0 k) s) result }
-{
-    let t = time(arc.t0, k);
-    let next = step(force, degree, model, arc, e, known, t, s, base, w);
-    let state = next.state;
-    put_state(w, base + 6 * (k + 1), state);
-    next
+    ghost behind_front: { base ≡ front_size model.degree },
 }
 
-// The instant that a run begins with; the force without a model needs none.
-fn begin<'a>(
-    force: Force,
-    degree: usize,
-    model: inputs::Model<'a>,
-    t: f64,
-    base: usize,
-    w: &mut [f64],
-) -> Instant
-    requires { (base ≡ front_size degree) × (base ≤ length w.old) }
-    ensures { Begun force (model_of degree model.entry) w.old w.new result }
-{
-    match force {
-        Force::Full => open(degree, model, t, base, w),
-        Force::J2 => Instant {
-            time: t,
-            moment: forces::kernel::sky_at(t),
-        },
+impl<'a> Flight<'a> {
+    // The first instant of a run.
+    fn open(&self, w: &mut [f64]) -> Instant
+        requires { self.now.base ≤ length w.old }
+        ensures { Ready (model_of self.now.model) w.new result × Only 0 (front_size self.now.model.degree) w.old
+            w.new }
+    {
+        let t = self.arc.t0;
+        fill(self.model, t, &mut w[0..self.base]);
+        Instant::of(t)
     }
-}
 
-fn run_from<'a>(
-    force: Force,
-    degree: usize,
-    model: inputs::Model<'a>,
-    arc: Arc,
-    e: [f64; 9],
-    start: State,
-    base: usize,
-    w: &mut [f64],
-)
-    requires { (arc.steps ≤ 5302) × (base ≡ front_size degree) × (base ≤ 131768) × (base + run_size ≤ length w.old) }
-    ensures { Flown w.old w.new base arc.steps
-        (state_at (acceleration_of (attraction_of force (model_of degree model.entry)) arc e) arc.t0 start) }
-{
-    let mut known = begin(force, degree, model, arc.t0, base, w);
-    let mut state = start;
-    put_state(w, base, state);
-    for k in 0..arc.steps {
-        let next = advance(force, degree, model, arc, e, known, k, state, base, w);
-        known = next.known;
-        state = next.state;
+    // The instant of t; what is known stays where t is the same to the bit.
+    fn refresh(&self, known: Instant, t: f64, w: &mut [f64]) -> Instant
+        requires { self.now.base ≤ length w.old }
+        ensures { Refreshed (model_of self.now.model) w.old w.new known t result }
+    {
+        if same_bits(known.time, t) {
+            return known;
+        }
+        model::kernel::at(self.model, t, &mut w[0..self.base]);
+        Instant::of(t)
     }
-}
 
-// Where the states begin in the lent numbers.
-fn base_of(degree: usize) -> usize
-    requires { degree ≤ 180 }
-    ensures { (result ≡ front_size degree) × (result ≤ 131768) }
-{
-    let n = degree + 1;
-    8 * (n * (n + 1) / 2)
+    // The full model's attraction with the tides.
+    fn full_pull(&self, known: Instant, t: f64, x: vectors::Vector, w: &mut [f64]) -> Push
+        requires { self.now.base ≤ length w.old }
+        ensures { Pulled (model_of self.now.model) w.old w.new known t x result }
+    {
+        let here = self.refresh(known, t, w);
+        let model = self.model;
+        let g = forces::kernel::gravity(
+            model.degree,
+            element(model.static_field, 0),
+            element(model.static_field, 1),
+            model.table_a,
+            model.table_b,
+            &w[0..self.base],
+            x,
+        );
+        let pull = vectors::add(g, forces::kernel::tides_at(here.moment, x));
+        Push { known: here, pull }
+    }
+
+    fn attraction(&self, known: Instant, t: f64, x: vectors::Vector, w: &mut [f64]) -> Push
+        requires { self.now.base ≤ length w.old }
+        ensures { Pushed self.now.force (model_of self.now.model) w.old w.new known
+            (attraction_of self.now.force (model_of self.now.model) t x) result }
+    {
+        match self.force {
+            Force::Full => self.full_pull(known, t, x, w),
+            Force::J2 => {
+                let pull = forces::kernel::j2_gravity(x);
+                Push { known, pull }
+            }
+        }
+    }
+
+    fn acceleration(
+        &self,
+        known: Instant,
+        t: f64,
+        x: vectors::Vector,
+        v: vectors::Vector,
+        w: &mut [f64],
+    ) -> Push
+        requires { self.now.base ≤ length w.old }
+        ensures { Pushed self.now.force (model_of self.now.model) w.old w.new known
+            (acceleration_of (attraction_of self.now.force (model_of self.now.model)) self.now.arc self.now.strengths t x v) result }
+    {
+        let g = self.attraction(known, t, x, w);
+        let f = forces::kernel::fictitious(x, v);
+        let p = forces::kernel::empirical(x, v, argument(self.arc, t), self.strengths);
+        let pull = vectors::add(g.pull, vectors::add(f, p));
+        Push {
+            known: g.known,
+            pull,
+        }
+    }
+
+    // One step by the classical Runge-Kutta rule.
+    fn step(&self, known: Instant, t: f64, s: State, w: &mut [f64]) -> Stepped
+        requires { self.now.base ≤ length w.old }
+        ensures { Moved self.now.force (model_of self.now.model) w.old w.new known
+            (step_of (acceleration_of (attraction_of self.now.force (model_of self.now.model)) self.now.arc self.now.strengths) t s) result }
+    {
+        let h = STEP;
+        let x = s.position;
+        let v = s.velocity;
+        let p1 = self.acceleration(known, t, x, v, w);
+        let a1 = p1.pull;
+        let x2 = along(x, v, h / 2.0);
+        let v2 = along(v, a1, h / 2.0);
+        let p2 = self.acceleration(p1.known, t + h / 2.0, x2, v2, w);
+        let a2 = p2.pull;
+        let x3 = along(x, v2, h / 2.0);
+        let v3 = along(v, a2, h / 2.0);
+        let p3 = self.acceleration(p2.known, t + h / 2.0, x3, v3, w);
+        let a3 = p3.pull;
+        let x4 = along(x, v3, h);
+        let v4 = along(v, a3, h);
+        let p4 = self.acceleration(p3.known, t + h, x4, v4, w);
+        let a4 = p4.pull;
+        let position = along(x, weighed(v, v2, v3, v4), h / 6.0);
+        let velocity = along(v, weighed(a1, a2, a3, a4), h / 6.0);
+        Stepped {
+            known: p4.known,
+            state: State { position, velocity },
+        }
+    }
+
+    // Step k of a run: the next state, stored at its place.
+    fn advance(&self, known: Instant, k: usize, s: State, w: &mut [f64]) -> Stepped
+        requires few { k < 5302 }
+        requires small { self.now.base ≤ 131768 }
+        requires room { self.now.base + run_size ≤ length w.old }
+        ensures { Advanced self.now.force (model_of self.now.model) w.old w.new self.now.base k known
+            (step_of (acceleration_of (attraction_of self.now.force (model_of self.now.model)) self.now.arc self.now.strengths) (step_time self.now.arc.t0 k) s) result }
+    {
+        let t = time(self.arc.t0, k);
+        let next = self.step(known, t, s, w);
+        put_state(w, self.base + 6 * (k + 1), next.state);
+        next
+    }
+
+    // The instant that a run begins with; the force without a model needs none.
+    fn begin(&self, w: &mut [f64]) -> Instant
+        requires { self.now.base ≤ length w.old }
+        ensures { Begun self.now.force (model_of self.now.model) w.old w.new result }
+    {
+        match self.force {
+            Force::Full => self.open(w),
+            Force::J2 => Instant::of(self.arc.t0),
+        }
+    }
+
+    fn fly(&self, start: State, w: &mut [f64])
+        requires few { self.now.arc.steps ≤ 5302 }
+        requires small { self.now.base ≤ 131768 }
+        requires room { self.now.base + run_size ≤ length w.old }
+        ensures { Flown w.old w.new self.now.base self.now.arc.steps
+            (state_at (acceleration_of (attraction_of self.now.force (model_of self.now.model)) self.now.arc self.now.strengths) self.now.arc.t0 start) }
+    {
+        let mut known = self.begin(w);
+        let mut state = start;
+        put_state(w, self.base, state);
+        for k in 0..self.arc.steps {
+            let next = self.advance(known, k, state, w);
+            known = next.known;
+            state = next.state;
+        }
+    }
 }
 
 // The nine empirical parameters behind a state's six numbers.
+#[tactic(auto, unfolding(crate::specs::Force::strengths_of, laws::specs::Tables::row))]
 fn strengths(p: [f64; 15]) -> [f64; 9]
     ensures { result ≡ strengths_of p }
 {
@@ -444,34 +358,26 @@ fn strengths(p: [f64; 15]) -> [f64; 9]
 }
 
 // Whether the lent numbers hold a run.
+#[tactic(auto, unfolding(crate::specs::Force::run_fits))]
 fn run_fits(degree: usize, steps: usize, room: usize) -> bool
-    ensures { Fitting degree steps room result }
+    ensures { result ≡ run_fits degree steps room }
 {
-    if degree > 180 {
-        return false;
-    }
-    if steps > 5302 {
-        return false;
-    }
-    base_of(degree) + RUN_SIZE <= room
+    (degree <= 180 && steps <= 5302) && inputs::front_size(degree) + RUN_SIZE <= room
 }
 
 // The states of a run from the first six parameters, behind the numbers before them; nothing is done where they do not fit.
-pub fn run<'a>(
-    force: Force,
-    degree: usize,
-    model: inputs::Model<'a>,
-    arc: Arc,
-    parameters: [f64; 15],
-    w: &mut [f64],
-)
-    ensures { Ran (run_fits degree arc.steps (length w.old)) w.old w.new (front_size degree) arc.steps
-        (run_of (attraction_of force (model_of degree model.entry)) arc parameters) }
+pub fn run(force: Force, model: inputs::Model<'_>, arc: Arc, parameters: [f64; 15], w: &mut [f64])
+    ensures { Ran (run_fits model.entry.degree arc.steps (length w.old)) w.old w.new (front_size model.entry.degree) arc.steps
+        (run_of (attraction_of force (model_of model.entry)) arc parameters) }
 {
-    if run_fits(degree, arc.steps, w.len()) {
-        let base = base_of(degree);
-        let e = strengths(parameters);
-        let start = state_in(&parameters, 0);
-        run_from(force, degree, model, arc, e, start, base, w);
+    if run_fits(model.degree, arc.steps, w.len()) {
+        let flight = Flight {
+            force,
+            model,
+            arc,
+            strengths: strengths(parameters),
+            base: inputs::front_size(model.degree),
+        };
+        flight.fly(state_in(&parameters, 0), w);
     }
 }

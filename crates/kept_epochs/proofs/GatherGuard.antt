@@ -11,8 +11,9 @@ use lib.ListN.{length, replicate, length-replicate}
 use borrow.Author.Tests.{leb-true, eqb-true}
 use Rattle.inputs.specs.Inputs.{front_size, Front}
 use Rattle.laws.specs.Floats.{zero64}
-use Rattle.laws.specs.Checks.{all, is_time, rising_seconds}
-use Rattle.laws.specs.Bools.{by, both_true}
+use Rattle.std.specs.List.{list_all}
+use Rattle.laws.specs.Checks.{is_time, rising_seconds}
+use Rattle.laws.specs.Bools.{both_true}
 use Rattle.epoch.specs.Work.{Opened}
 use Rattle.kept_epochs.specs.KeptEpochs.{Given, gather_serves, SoFar, Done, Gathered}
 use Rattle.kept_epochs.proofs.LookUps.{stand_stays}
@@ -20,24 +21,12 @@ use Rattle.kept_epochs.proofs.Turns.{begins}
 
 -- ---- the test
 
-front_test : (N r room : ℕ) → (N ≤ 180 → r ≡ front_size N) → (leb N 180 && leb r room) ≡ (leb N 180 && leb (front_size N) room)
-front_test N r room e = by (leb N 180) (λ h. ap (λ (k : ℕ). leb N 180 && leb k room) (e (leb-true N 180 h))) (λ h. rw h refl)
-
-module _ (N : ℕ) (p q : List ℤ) (ts : List Float) (values good outtimes outraws room : ℕ) where
-  pub serves_all : (r : ℕ) (b1 k1 k2 b2 b3 b4 b5 b6 t1 b7 b8 : Bool) → (N ≤ 180 → r ≡ front_size N) → b1 ≡ (leb N 180 && leb r room) → k1 ≡ rising_seconds p → k2 ≡ rising_seconds q → b2 ≡ (k1 && k2) →
-      b3 ≡ (eqb values (length ts) && eqb good (length ts)) → b4 ≡ (eqb outtimes (length ts) && eqb outraws (length ts)) → b5 ≡ (b3 && b4) → b6 ≡ (b1 && b2) → t1 ≡ all is_time ts → b7 ≡ (t1 && b5)
-      → b8 ≡ (b6 && b7) →
-      b8 ≡ gather_serves N p q ts values good outtimes outraws room
-  unfolding gather_serves
-  serves_all r b1 k1 k2 b2 b3 b4 b5 b6 t1 b7 b8 er e1 f1 f2 e2 e3 e4 e5 e6 et e7 e8 =
-      e8 ∙ (λ i. e6 i && e7 i) ∙ (λ i. (e1 i && e2 i) && (et i && e5 i)) ∙ (λ i. (front_test N r room er i && (f1 i && f2 i)) && (all is_time ts && (e3 i && e4 i)))
-
 pub record Serving (N : ℕ) (p q : List ℤ) (ts : List Float) (v b o w n : ℕ) : Type 0 where
   pub degree : N ≤ 180
   pub room : front_size N ≤ n
   pub acc_c : rising_seconds p ≡ true
   pub acc_d : rising_seconds q ≡ true
-  pub times : all is_time ts ≡ true
+  pub times : list_all is_time ts ≡ true
   pub values : v ≡ length ts
   pub good : b ≡ length ts
   pub outtimes : o ≡ length ts
@@ -48,11 +37,11 @@ pub serving : (N : ℕ) (p q : List ℤ) (ts : List Float) (values good outtimes
 unfolding gather_serves
 serving N p q ts values good outtimes outraws room h =
     let m : ℕ = length ts in
-    let whole = both_true ((leb N 180 && leb (front_size N) room) && (rising_seconds p && rising_seconds q)) (all is_time ts && ((eqb values m && eqb good m) && (eqb outtimes m && eqb outraws m))) h in
+    let whole = both_true ((leb N 180 && leb (front_size N) room) && (rising_seconds p && rising_seconds q)) (list_all is_time ts && ((eqb values m && eqb good m) && (eqb outtimes m && eqb outraws m))) h in
     let first = both_true (leb N 180 && leb (front_size N) room) (rising_seconds p && rising_seconds q) whole.0 in
     let front = both_true (leb N 180) (leb (front_size N) room) first.0 in
     let keys = both_true (rising_seconds p) (rising_seconds q) first.1 in
-    let second = both_true (all is_time ts) ((eqb values m && eqb good m) && (eqb outtimes m && eqb outraws m)) whole.1 in
+    let second = both_true (list_all is_time ts) ((eqb values m && eqb good m) && (eqb outtimes m && eqb outraws m)) whole.1 in
     let lengths = both_true (eqb values m && eqb good m) (eqb outtimes m && eqb outraws m) second.1 in
     let own = both_true (eqb values m) (eqb good m) lengths.0 in
     let outs = both_true (eqb outtimes m) (eqb outraws m) lengths.1 in

@@ -1,7 +1,7 @@
 -- The look-ups of one observation, and slots that stay. Assumes nothing.
-use mathlib.Core.Path.{◌≡◌, refl, ap, ◌∙◌, subst}
+use mathlib.Core.Path.{◌≡◌, ap, ◌∙◌, subst}
 use mathlib.Core.Bool.{true}
-use mathlib.Core.Option.{Option, none, some}
+use Rattle.std.specs.Prelude.{Option}
 use mathlib.Core.List.{List, [], ◌∷◌}
 use Prim.Native.Nat.{ℕ, zero, suc, ◌+◌, ◌*◌, ◌≤◌, ◌<◌}
 use native.Mathlib.Omega.{arith}
@@ -9,7 +9,8 @@ use lib.IntN.{ℤ, pos}
 use lib.Ieee.{Float, nan}
 use lib.ListN.{length, get_or}
 use borrow.Author.Tests.{le-leb}
-use Rattle.laws.specs.Checks.{all, is_time, is_key, time_says}
+use Rattle.std.specs.List.{list_all}
+use Rattle.laws.specs.Checks.{is_time, is_key, time_says}
 use Rattle.laws.specs.Times.{Time, natural, natural_bound, second_is}
 use Rattle.laws.specs.Bools.{by, holds, left_true, right_true}
 use Rattle.numbers.specs.Seconds.{is_held, whole_second}
@@ -17,16 +18,12 @@ use Rattle.finality.specs.Tables.{Table, find}
 use Rattle.integrate.specs.Room.{Only}
 use Rattle.integrate.specs.RowsBySecond.{values_in}
 use Rattle.integrate.specs.declared.kernel.State.{State}
-use Rattle.fit.specs.declared.kernel.Held.{Held}
-use Rattle.windows.specs.Stage.{held_of}
 use Rattle.windows.specs.Windows.{slot_at}
 use Rattle.windows.proofs.Filling.{slot_same}
 use Rattle.slots.specs.LookUp.{joined, SlotsHold, Looked}
-use Rattle.epoch.specs.Work.{given_state, given_number, sighting_from}
-use Rattle.epoch.specs.declared.StateFound.{StateFound}
-use Rattle.epoch.specs.declared.NumberFound.{NumberFound}
+use Rattle.epoch.specs.Work.{sighting_of}
 use Rattle.epoch.specs.declared.Sighting.{Sighting}
-use Rattle.kept_epochs.specs.KeptEpochs.{Given, Stand, found_of, Found}
+use Rattle.kept_epochs.specs.KeptEpochs.{Given, Stand, Found}
 use Rattle.inputs.specs.Inputs.{window_room, slot_room, fit_room, Pair}
 
 -- ---- the whole second of a time is a key
@@ -45,28 +42,22 @@ key_second t h =
 
 -- ---- a time of the list
 
-pub time_at : (ts : List Float) (i : ℕ) → all is_time ts ≡ true → i < length ts → is_time (get_or ts i nan) ≡ true
+pub time_at : (ts : List Float) (i : ℕ) → list_all is_time ts ≡ true → i < length ts → is_time (get_or ts i nan) ≡ true
 time_at [] i h l = absurd (omega arith)
-time_at (t ∷ ts) zero h l = left_true (is_time t) (all is_time ts) h
-time_at (t ∷ ts) (suc i) h l = time_at ts i (right_true (is_time t) (all is_time ts) h) (omega arith)
+time_at (t ∷ ts) zero h l = left_true (is_time t) (list_all is_time ts) h
+time_at (t ∷ ts) (suc i) h l = time_at ts i (right_true (is_time t) (list_all is_time ts) h) (omega arith)
 
 -- ---- what was found
 
-held_found : (o : Option State) → found_of (held_of o) ≡ given_state o
-held_found none = refl
-held_found (some x) = refl
-
 module _ (first windows : ℕ) (accs : Pair) (s : List Float) (t : Float) (k : ℤ) (ek : k ≡ whole_second t) where
-  state_found : (at : ℕ) (h : Held) (x : StateFound) → Looked s at windows k h → x ≡ found_of h → is_time t ≡ true → (c : ℕ → Table State) → SlotsHold s at c windows
-      → x ≡ given_state (find (whole_second t) (joined c windows))
-  state_found at h x l e tm c st =
-      e ∙ ap found_of (l.is c (ap is_key ek ∙ key_second t tm) st) ∙ held_found (find k (joined c windows)) ∙ ap (λ (k : ℤ). given_state (find k (joined c windows))) ek
+  state_found : (at : ℕ) (h : Option State) → Looked s at windows k h → is_time t ≡ true → (c : ℕ → Table State) → SlotsHold s at c windows → h ≡ find (whole_second t) (joined c windows)
+  state_found at h l tm c st = l.is c (ap is_key ek ∙ key_second t tm) st ∙ ap (λ (k : ℤ). find k (joined c windows)) ek
 
-  pub found : (h₁ h₂ : Held) (x y : StateFound) (p q : NumberFound) (r : Sighting) → Looked s first windows k h₁ → x ≡ found_of h₁ → Looked s (first + slot_room) windows k h₂ → y ≡ found_of h₂ →
-      p ≡ given_number (find k (values_in accs.c)) → q ≡ given_number (find k (values_in accs.d)) → r ≡ sighting_from x y p q → Found first windows accs s t r
-  found h₁ h₂ x y p q r l₁ e₁ l₂ e₂ ep eq er = record {
-    is = λ tm c d sc sd. er ∙ (λ i. sighting_from (state_found first h₁ x l₁ e₁ tm c sc i) (state_found (first + slot_room) h₂ y l₂ e₂ tm d sd i)
-        ((ep ∙ ap (λ (k : ℤ). given_number (find k (values_in accs.c))) ek) i) ((eq ∙ ap (λ (k : ℤ). given_number (find k (values_in accs.d))) ek) i));
+  pub found : (x y : Option State) (p q : Option Float) (r : Option Sighting) → Looked s first windows k x → Looked s (first + slot_room) windows k y →
+      p ≡ find k (values_in accs.c) → q ≡ find k (values_in accs.d) → r ≡ sighting_of x y p q → Found first windows accs s t r
+  found x y p q r l₁ l₂ ep eq er = record {
+    is = λ tm c d sc sd. er ∙ (λ i. sighting_of (state_found first x l₁ tm c sc i) (state_found (first + slot_room) y l₂ tm d sd i)
+        ((ep ∙ ap (λ (k : ℤ). find k (values_in accs.c)) ek) i) ((eq ∙ ap (λ (k : ℤ). find k (values_in accs.d)) ek) i));
   }
 
 -- ---- slots behind a change stay
@@ -85,10 +76,10 @@ stand_stays g base s s' c d o st = record {
 }
 
 -- the first slots, as the code has them
-pub stand_found : (g : Given) (base : ℕ) (s : List Float) (t : Float) (r : Sighting) (c d : ℕ → Table State) → Found (base + fit_room) g.windows g.accs s t r → is_time t ≡ true
+pub stand_found : (g : Given) (base : ℕ) (s : List Float) (t : Float) (r : Option Sighting) (c d : ℕ → Table State) → Found (base + fit_room) g.windows g.accs s t r → is_time t ≡ true
     → Stand g base s c d →
-    r ≡ sighting_from (given_state (find (whole_second t) (joined c g.windows))) (given_state (find (whole_second t) (joined d g.windows)))
-    (given_number (find (whole_second t) (values_in g.accs.c))) (given_number (find (whole_second t) (values_in g.accs.d)))
+    r ≡ sighting_of (find (whole_second t) (joined c g.windows)) (find (whole_second t) (joined d g.windows))
+    (find (whole_second t) (values_in g.accs.c)) (find (whole_second t) (values_in g.accs.d))
 stand_found g base s t r c d f tm st =
     let ec : slot_at base 0 0 ≡ base + fit_room = omega arith in
     let ed : slot_at base 1 0 ≡ base + fit_room + slot_room = omega arith in

@@ -1,7 +1,7 @@
 -- One turn of the loop over the observations, its beginning and its end. Assumes nothing.
 use mathlib.Core.Path.{◌≡◌, refl, sym, ap, ◌∙◌, subst}
-use mathlib.Core.Bool.{true, false}
-use mathlib.Core.Option.{Option, none, some}
+use mathlib.Core.Bool.{true}
+use Rattle.std.specs.Prelude.{Option, None, Some}
 use mathlib.Core.List.{List, [], ◌∷◌, ◌++◌, map, append-nil}
 use Prim.Native.Nat.{ℕ, ◌+◌, ◌-◌, ◌≤◌, ◌<◌}
 use native.Mathlib.Omega.{arith}
@@ -9,7 +9,6 @@ use lib.Ieee.{Float, nan}
 use lib.ListN.{length, get_or, set, replicate, length-append, length-set}
 use Rattle.laws.specs.Floats.{zero64}
 use Rattle.laws.specs.Checks.{is_time}
-use Rattle.laws.specs.Bools.{by, clash}
 use Rattle.laws.specs.Loops.{filled_none}
 use Rattle.finality.specs.Tables.{Table}
 use Rattle.finality.specs.Sheet.{Observation, published, keep}
@@ -18,9 +17,8 @@ use Rattle.epoch_record.specs.declared.Epoch.{Epoch}
 use Rattle.integrate.specs.declared.kernel.State.{State}
 use Rattle.integrate.proofs.Places.{only_same}
 use Rattle.epoch.specs.Kept.{epoch_by, observation}
-use Rattle.epoch.specs.Work.{made_of, Tried}
+use Rattle.epoch.specs.Work.{Tried}
 use Rattle.epoch.specs.declared.Sighting.{Sighting}
-use Rattle.epoch.specs.declared.Made.{Made}
 use Rattle.epoch.proofs.Kept.{observation_at, kept_up_to, kept_more, kept_few, kept_all, kept_none, set_more}
 use Rattle.kept_epochs.specs.KeptEpochs.{Given, epoch_in, Stand, Listed, Found, Added, Able, SoFar, Done}
 use Rattle.kept_epochs.proofs.LookUps.{time_at, stand_stays, stand_found}
@@ -28,39 +26,46 @@ use Rattle.inputs.specs.Inputs.{fit_room}
 
 -- ---- what was made is stored
 
-pub added_kept : (m : Made) (count : ℕ) (ts rs : List Float) → m.kept ≡ true → Added m count (count + 1) ts rs (set ts count m.epoch.t) (set rs count m.epoch.residual)
-added_kept m count ts rs k = record { counted = λ h. refl; put = λ h. (refl, refl); same = λ h. clash m.kept k h; still = λ h. clash m.kept k h }
+pub added_kept : (made : Option Epoch) (e : Epoch) (count : ℕ) (ts rs : List Float) → made ≡ Some e → Added made count (count + 1) ts rs (set ts count e.t) (set rs count e.residual)
+added_kept made e count ts rs k = record {
+  put = λ f q. let same : e ≡ f = cc in (refl, ap (λ (e : Epoch). set ts count e.t) same, ap (λ (e : Epoch). set rs count e.residual) same);
+  still = λ q. absurd (cc);
+}
 
-pub added_not : (m : Made) (count : ℕ) (ts rs : List Float) → m.kept ≡ false → Added m count count ts rs ts rs
-added_not m count ts rs k = record { counted = λ h. clash m.kept h k; put = λ h. clash m.kept h k; same = λ h. refl; still = λ h. (refl, refl) }
+pub added_not : (made : Option Epoch) (count : ℕ) (ts rs : List Float) → made ≡ None → Added made count count ts rs ts rs
+added_not made count ts rs k = record { put = λ e q. absurd (cc); still = λ q. (refl, refl, refl) }
 
-module _ (made : Made) (count r : ℕ) (ts rs ts' rs' : List Float) (ad : Added made count r ts rs ts' rs') where
-  added_times : length ts' ≡ length ts
-  added_times = by made.kept (λ e. ap length (ad.put e).0 ∙ length-set ts count made.epoch.t) (λ e. ap length (ad.still e).0)
+module _ (made : Option Epoch) (count r : ℕ) (ts rs ts' rs' : List Float) (ad : Added made count r ts rs ts' rs') where
+  record Sizes : Type 0 where
+    pub times : length ts' ≡ length ts
+    pub raws : length rs' ≡ length rs
+    pub few : r ≤ count + 1
 
-  added_raws : length rs' ≡ length rs
-  added_raws = by made.kept (λ e. ap length (ad.put e).1 ∙ length-set rs count made.epoch.residual) (λ e. ap length (ad.still e).1)
-
-  added_few : r ≤ count + 1
-  added_few = by made.kept (λ e. omega (arith, ad.counted e)) (λ e. omega (arith, ad.same e))
+  added_sizes : Sizes
+  added_sizes = cases made refl
+    where
+      cases : (o : Option Epoch) → made ≡ o → Sizes
+      cases (Some e) q =
+          let p = ad.put e q in
+          record { times = ap length p.1 ∙ length-set ts count e.t; raws = ap length p.2 ∙ length-set rs count e.residual; few = omega (arith, p.0) }
+      cases None q = let p = ad.still q in record { times = ap length p.1; raws = ap length p.2; few = omega (arith, p.0) }
 
   module _ (m : ℕ) (es es' : List Epoch) (h : length es < m) (l : Listed m es ts rs count) where
-    advance : (o : Option Epoch) → es' ≡ es ++ keep o [] → made ≡ made_of o → Listed m es' ts' rs' r
-    advance none e k =
-        let no : made.kept ≡ false = ap (λ (x : Made). x.kept) k in
+    advance : (o : Option Epoch) → es' ≡ es ++ keep o [] → made ≡ o → Listed m es' ts' rs' r
+    advance None e k =
+        let no = ad.still k in
         let same : es' ≡ es = e ∙ append-nil es in
         record {
-          count = ad.same no ∙ l.count ∙ ap length (sym same);
-          times = (ad.still no).0 ∙ l.times ∙ ap (λ (es : List Epoch). published m (map time es)) (sym same);
-          raws = (ad.still no).1 ∙ l.raws ∙ ap (λ (es : List Epoch). published m (map residual es)) (sym same);
+          count = no.0 ∙ l.count ∙ ap length (sym same);
+          times = no.1 ∙ l.times ∙ ap (λ (es : List Epoch). published m (map time es)) (sym same);
+          raws = no.2 ∙ l.raws ∙ ap (λ (es : List Epoch). published m (map residual es)) (sym same);
         }
-    advance (some x) e k =
-        let yes : made.kept ≡ true = ap (λ (x : Made). x.kept) k in
-        let is : made.epoch ≡ x = ap (λ (x : Made). x.epoch) k in
+    advance (Some x) e k =
+        let yes = ad.put x k in
         record {
-          count = ad.counted yes ∙ omega (arith, l.count, ap length e, length-append es (x ∷ []));
-          times = (ad.put yes).0 ∙ (λ i. set (l.times i) (l.count i) (is i).t) ∙ set_more zero64 time m es x h ∙ ap (λ (es : List Epoch). published m (map time es)) (sym e);
-          raws = (ad.put yes).1 ∙ (λ i. set (l.raws i) (l.count i) (is i).residual) ∙ set_more zero64 residual m es x h ∙ ap (λ (es : List Epoch). published m (map residual es)) (sym e);
+          count = yes.0 ∙ omega (arith, l.count, ap length e, length-append es (x ∷ []));
+          times = yes.1 ∙ (λ i. set (l.times i) (l.count i) x.t) ∙ set_more zero64 time m es x h ∙ ap (λ (es : List Epoch). published m (map time es)) (sym e);
+          raws = yes.2 ∙ (λ i. set (l.raws i) (l.count i) x.residual) ∙ set_more zero64 residual m es x h ∙ ap (λ (es : List Epoch). published m (map residual es)) (sym e);
         }
 
 -- ---- a turn
@@ -70,22 +75,23 @@ room_left g base i count ts rs s a h k = (omega (arith, a.outtimes), omega (arit
 
 module _ (g : Given) (base i count : ℕ) (ts rs s : List Float) (hi : i < length g.observed.obs_times) (t v : Float) (byte : ℕ)
     (et : t ≡ get_or g.observed.obs_times i nan) (ev : v ≡ get_or g.observed.values i nan) (eb : byte ≡ get_or g.observed.good i 0)
-    (r : Sighting) (f : Found (base + fit_room) g.windows g.accs s t r) (made : Made) (s' : List Float)
+    (r : Option Sighting) (f : Found (base + fit_room) g.windows g.accs s t r) (made : Option Epoch) (s' : List Float)
     (tried : Tried g.model (observation t v byte) base r s s' made) (room : base ≤ length s) where
   abbrev observed : Observation
   observed = observation_at g.observed i
 
   -- what was made is the epoch that is kept, or none
-  made_is : Able g base ts rs s → (c d : ℕ → Table State) → Stand g base s c d → made ≡ made_of (epoch_in g c d observed)
+  made_is : Able g base ts rs s → (c d : ℕ → Table State) → Stand g base s c d → made ≡ epoch_in g c d observed
   unfolding epoch_by
   made_is a c d st =
       let tm : is_time t ≡ true = ap is_time et ∙ time_at g.observed.obs_times i a.times hi in
       tried.is room a.usable _ _ _ _ (stand_found g base s t r c d f tm st)
-      ∙ (λ j. made_of (epoch_in g c d (observation (et j) (ev j) (eb j))))
+      ∙ (λ j. epoch_in g c d (observation (et j) (ev j) (eb j)))
 
   pub turned : (n : ℕ) (ts' rs' : List Float) → Added made count n ts rs ts' rs' → (s₀ : List Float) → SoFar g base i s₀ ts rs s count → SoFar g base (i + 1) s₀ ts' rs' s' n
   turned n ts' rs' ad s₀ so =
       let a : Able g base ts rs s = so.able in
+      let z = added_sizes made count n ts rs ts' rs' ad in
       record {
         able = record {
           acc_c = a.acc_c;
@@ -93,13 +99,13 @@ module _ (g : Given) (base i count : ℕ) (ts rs s : List Float) (hi : i < lengt
           times = a.times;
           values = a.values;
           good = a.good;
-          outtimes = added_times made count n ts rs ts' rs' ad ∙ a.outtimes;
-          outraws = added_raws made count n ts rs ts' rs' ad ∙ a.outraws;
+          outtimes = z.times ∙ a.outtimes;
+          outraws = z.raws ∙ a.outraws;
           small = a.small;
           room = omega (arith, a.room, tried.only.long);
           usable = tried.usable room a.usable;
         };
-        few = omega (arith, added_few made count n ts rs ts' rs' ad, so.few);
+        few = omega (arith, z.few, so.few);
         only = record { long = tried.only.long ∙ so.only.long; same = λ k h. tried.only.same k h ∙ so.only.same k h };
         is = λ c d st.
             let es : List Epoch = kept_up_to (epoch_in g c d) g.observed i in

@@ -2,9 +2,10 @@
 -- time and residual are listed.
 -- Assumes nothing.
 use Rattle.std.specs.Prelude.{◌≡◌, Bool, true, false, ◌&&◌, List, map, ℕ, ◌+◌, ◌≤◌, leb, eqb, ℤ, Float, length, take, set}
-use Rattle.std.proofs.Math.Option.{Option, none, some}
+use Rattle.std.specs.Prelude.{Option, None, Some}
 use Rattle.inputs.specs.Inputs.{Model, slot_room, front_size, Pair, Observed}
-use Rattle.laws.specs.Checks.{all, is_time, rising_seconds}
+use Rattle.std.specs.List.{list_all}
+use Rattle.laws.specs.Checks.{is_time, rising_seconds}
 use Rattle.numbers.specs.Seconds.{whole_second}
 use Rattle.finality.specs.Tables.{Table, find}
 use Rattle.finality.specs.Sheet.{Observation, published, kept_of}
@@ -13,15 +14,11 @@ use Rattle.epoch_record.specs.declared.Epoch.{Epoch}
 use Rattle.integrate.specs.Room.{Only}
 use Rattle.integrate.specs.RowsBySecond.{values_in}
 use Rattle.integrate.specs.declared.kernel.State.{State}
-use Rattle.fit.specs.declared.kernel.Held.{Held}
-use Rattle.fit.specs.declared.kernel.Held.TheVariants.{Known, Missing}
 use Rattle.windows.specs.Windows.{slot_at}
 use Rattle.slots.specs.LookUp.{joined, SlotsHold}
 use Rattle.epoch.specs.Kept.{epoch_by, observations_in}
-use Rattle.epoch.specs.Work.{given_state, sighting_of, Usable}
-use Rattle.epoch.specs.declared.StateFound.{StateFound}
+use Rattle.epoch.specs.Work.{sighting_of, Usable}
 use Rattle.epoch.specs.declared.Sighting.{Sighting}
-use Rattle.epoch.specs.declared.Made.{Made}
 
 -- what is read: the model, the accelerometer values of the satellites C and D, how many windows there are, and the observations
 pub record Given : Type 0 where
@@ -46,7 +43,7 @@ kept_in g c d = kept_of (epoch_in g c d) (observations_in g.observed)
 unfoldable pub gather_serves : ℕ → List ℤ → List ℤ → List Float → ℕ → ℕ → ℕ → ℕ → ℕ → Bool
 gather_serves N acc_keys_c acc_keys_d times values good outtimes outraws room =
     ((leb N 180 && leb (front_size N) room) && (rising_seconds acc_keys_c && rising_seconds acc_keys_d))
-    && (all is_time times && ((eqb values (length times) && eqb good (length times)) && (eqb outtimes (length times) && eqb outraws (length times))))
+    && (list_all is_time times && ((eqb values (length times) && eqb good (length times)) && (eqb outtimes (length times) && eqb outraws (length times))))
 
 -- the slots of both satellites hold these states
 pub record Stand (g : Given) (base : ℕ) (s : List Float) (c d : ℕ → Table State) : Type 0 where
@@ -69,28 +66,22 @@ pub record Gathered (g : Given) (serves : Bool) (outtimes outraws s outtimes' ou
 
 -- ---- between the parts of the code
 
-abbrev pub found_of : Held → StateFound
-found_of (Known state) = given_state (some state)
-found_of Missing = given_state none
-
 -- both satellites' states and accelerometer values at the whole part of a time; C's first slot stands at a place, D's behind it
-pub record Found (first windows : ℕ) (accs : Pair) (s : List Float) (t : Float) (r : Sighting) : Type 0 where
+pub record Found (first windows : ℕ) (accs : Pair) (s : List Float) (t : Float) (r : Option Sighting) : Type 0 where
   pub is : is_time t ≡ true → (c d : ℕ → Table State) → SlotsHold s first c windows → SlotsHold s (first + slot_room) d windows →
       r ≡ sighting_of (find (whole_second t) (joined c windows)) (find (whole_second t) (joined d windows)) (find (whole_second t) (values_in accs.c))
       (find (whole_second t) (values_in accs.d))
 
 -- what was made is stored and counted, where it is kept
-pub record Added (m : Made) (count r : ℕ) (times raws times' raws' : List Float) : Type 0 where
-  pub counted : m.kept ≡ true → r ≡ count + 1
-  pub put : m.kept ≡ true → (times' ≡ set times count m.epoch.t) × (raws' ≡ set raws count m.epoch.residual)
-  pub same : m.kept ≡ false → r ≡ count
-  pub still : m.kept ≡ false → (times' ≡ times) × (raws' ≡ raws)
+pub record Added (made : Option Epoch) (count r : ℕ) (times raws times' raws' : List Float) : Type 0 where
+  pub put : (e : Epoch) → made ≡ Some e → (r ≡ count + 1) × (times' ≡ set times count e.t) × (raws' ≡ set raws count e.residual)
+  pub still : made ≡ None → (r ≡ count) × (times' ≡ times) × (raws' ≡ raws)
 
 -- all that a turn needs of the lists and of the work slice
 pub record Able (g : Given) (base : ℕ) (ts rs s : List Float) : Type 0 where
   pub acc_c : rising_seconds g.accs.c.keys ≡ true
   pub acc_d : rising_seconds g.accs.d.keys ≡ true
-  pub times : all is_time g.observed.obs_times ≡ true
+  pub times : list_all is_time g.observed.obs_times ≡ true
   pub values : length g.observed.values ≡ length g.observed.obs_times
   pub good : length g.observed.good ≡ length g.observed.obs_times
   pub outtimes : length ts ≡ length g.observed.obs_times

@@ -1,1 +1,2 @@
 pub mod KeptEpochs
+pub mod Lent

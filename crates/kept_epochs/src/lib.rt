@@ -1,64 +1,64 @@
-// The kept epochs of the whole path (document 01, modules 5 and 8): their times and residuals, from the fitted states in the slots of both satellites.
+// The kept epochs of the whole path: their times and residuals, from the fitted states in the slots of both satellites.
 #![tactic(auto)]
 
 ghost use Rattle.std.specs.Prelude.{◌≡◌, true, List, ◌+◌, ◌≤◌, ◌<◌, Float, length};
 ghost use Rattle.laws.specs.Checks.{rising_seconds};
-ghost use Rattle.inputs.specs.Inputs.{model_of, front_size, lent_list, pair_of, observed_of};
-ghost use Rattle.kept_epochs.specs.KeptEpochs.{given, gather_serves, found_of, Found, Added, Able, SoFar, Done, Gathered};
+ghost use Rattle.inputs.specs.Inputs.{front_size};
+ghost use Rattle.inputs.specs.Lent.{pair_of};
+ghost use Rattle.kept_epochs.specs.Lent.{given_of, serves_of};
+ghost use Rattle.kept_epochs.specs.KeptEpochs.{Found, Added, Able, SoFar, Done, Gathered};
 
-fn state_of(held: fit::kernel::Held) -> epoch::StateFound
-    ensures { result ≡ found_of held }
-{
-    match held {
-        fit::kernel::Held::Known(state) => epoch::StateFound { there: true, state },
-        fit::kernel::Held::Missing => epoch::no_state(),
-    }
+// What an epoch is made from beside the slots: the model, both satellites' accelerometer values, how many windows there are, and the observations.
+#[derive(Clone, Copy)]
+pub struct Given<'a> {
+    pub model: inputs::Model<'a>,
+    pub accs: inputs::Pair<'a>,
+    pub windows: usize,
+    pub observed: inputs::Observed<'a>,
 }
 
 // Both satellites' states and accelerometer values at the whole part of t; `first` is the slot of C's first window.
-fn look<'a>(
+fn look(
     s: &[f64],
     first: usize,
     windows: usize,
-    acckeys: inputs::Keys<'a>,
-    accs: inputs::Rows<'a>,
+    accs: inputs::Pair<'_>,
     t: f64,
-) -> epoch::Sighting
-    requires { (first ≤ 281768) × (rising_seconds (lent_list acckeys 0) ≡ true) × (rising_seconds (lent_list acckeys 1) ≡ true) }
-    ensures { Found first windows (pair_of acckeys.entry accs.entry) s.now t result }
+) -> Option<epoch::Sighting>
+    requires { (first ≤ 281768) × (rising_seconds accs.c.keys.now ≡ true) × (rising_seconds accs.d.keys.now ≡ true) }
+    ensures { Found first windows (pair_of accs.entry) s.now t result }
 {
     let second = numbers::whole_second(numbers::GpsTime(t));
-    let c = state_of(slots::held(s, first, windows, second));
-    let d = state_of(slots::held(s, first + inputs::SLOT_ROOM, windows, second));
-    let axc = epoch::number_at(acckeys[inputs::C], accs[inputs::C], second);
-    let axd = epoch::number_at(acckeys[inputs::D], accs[inputs::D], second);
+    let c = slots::held(s, first, windows, second);
+    let d = slots::held(s, first + inputs::SLOT_ROOM, windows, second);
+    let axc = integrate::rows::number_at(accs.c, second);
+    let axd = integrate::rows::number_at(accs.d, second);
     epoch::sighted(c, d, axc, axd)
 }
 
 // Stores time and residual at the next place, where the epoch is kept.
-fn add(made: epoch::Made, count: usize, outtimes: &mut [f64], outraws: &mut [f64]) -> usize
+fn add(
+    made: Option<epoch_record::Epoch>,
+    count: usize,
+    outtimes: &mut [f64],
+    outraws: &mut [f64],
+) -> usize
     requires { (count < length outtimes.old) × (count < length outraws.old) }
     ensures { Added made count result outtimes.old outraws.old outtimes.new outraws.new }
 {
-    if made.kept {
-        let e = made.epoch;
-        outtimes[count] = e.t;
-        outraws[count] = e.residual;
-        return count + 1;
+    match made {
+        Some(e) => {
+            outtimes[count] = e.t;
+            outraws[count] = e.residual;
+            count + 1
+        }
+        None => count,
     }
-    count
 }
 
 // Observation i.
-fn turn<'a>(
-    degree: usize,
-    model: inputs::Model<'a>,
-    acckeys: inputs::Keys<'a>,
-    accs: inputs::Rows<'a>,
-    windows: usize,
-    obstimes: &[f64],
-    obsvalues: &[f64],
-    good: &[u8],
+fn turn(
+    given: Given<'_>,
     i: usize,
     count: usize,
     base: usize,
@@ -66,148 +66,74 @@ fn turn<'a>(
     outraws: &mut [f64],
     s: &mut [f64],
 ) -> usize
-    requires { Able (given (model_of degree model) (pair_of acckeys accs) windows (observed_of obstimes.now obsvalues.now good.now)) base outtimes.old
-        outraws.old s.old × (i < length obstimes.now) × (count ≤ i) }
-    ensures { (s₀ : List Float) → SoFar
-        (given (model_of degree model.entry) (pair_of acckeys.entry accs.entry) windows
-        (observed_of obstimes.now obsvalues.now good.now)) base i s₀ outtimes.old outraws.old
-        s.old count → SoFar (given (model_of degree model.entry) (pair_of acckeys.entry accs.entry) windows
-        (observed_of obstimes.now obsvalues.now good.now)) base (i + 1) s₀ outtimes.new outraws.new
-        s.new result }
+    requires { Able (given_of given) base outtimes.old outraws.old s.old × (i < length given.observed.times.now) × (count ≤ i) }
+    ensures { (s₀ : List Float) → SoFar (given_of given.entry) base i s₀ outtimes.old outraws.old s.old count
+        → SoFar (given_of given.entry) base (i + 1) s₀ outtimes.new outraws.new s.new result }
 {
-    let t = integrate::kernel::element(obstimes, i);
-    let observed = integrate::kernel::element(obsvalues, i);
-    let byte = good[i];
-    let found = look(&s[..], base + inputs::FIT_ROOM, windows, acckeys, accs, t);
-    let made = epoch::try_seen(degree, model, found, t, observed, byte, base, s);
+    let t = integrate::kernel::element(given.observed.times, i);
+    let value = integrate::kernel::element(given.observed.values, i);
+    let byte = given.observed.good[i];
+    let found = look(
+        &s[..],
+        base + inputs::FIT_ROOM,
+        given.windows,
+        given.accs,
+        t,
+    );
+    let made = epoch::try_seen(given.model, found, t, value, byte, base, s);
     add(made, count, outtimes, outraws)
 }
 
 // From an empty beginning.
-fn gather_from<'a>(
-    degree: usize,
-    model: inputs::Model<'a>,
-    acckeys: inputs::Keys<'a>,
-    accs: inputs::Rows<'a>,
-    windows: usize,
-    obstimes: &[f64],
-    obsvalues: &[f64],
-    good: &[u8],
+fn gather_from(
+    given: Given<'_>,
     base: usize,
     outtimes: &mut [f64],
     outraws: &mut [f64],
     s: &mut [f64],
 ) -> usize
-    requires { SoFar (given (model_of degree model) (pair_of acckeys accs) windows (observed_of obstimes.now obsvalues.now good.now)) base 0 s.old
-        outtimes.old outraws.old s.old 0 }
-    ensures { Done (given (model_of degree model.entry) (pair_of acckeys.entry accs.entry) windows
-        (observed_of obstimes.now obsvalues.now good.now)) base s.old s.new outtimes.new
-        outraws.new result }
+    requires { SoFar (given_of given) base 0 s.old outtimes.old outraws.old s.old 0 }
+    ensures { Done (given_of given.entry) base s.old s.new outtimes.new outraws.new result }
 {
     let mut count: usize = 0;
-    let mut i: usize = 0;
-    while i < obstimes.len() {
-        count = turn(
-            degree, model, acckeys, accs, windows, obstimes, obsvalues, good, i, count, base,
-            outtimes, outraws, s,
-        );
-        i += 1;
+    for i in 0..given.observed.times.len() {
+        count = turn(given, i, count, base, outtimes, outraws, s);
     }
     count
 }
 
-fn gather_all<'a>(
-    degree: usize,
-    model: inputs::Model<'a>,
-    acckeys: inputs::Keys<'a>,
-    accs: inputs::Rows<'a>,
-    windows: usize,
-    obstimes: &[f64],
-    obsvalues: &[f64],
-    good: &[u8],
-    outtimes: &mut [f64],
-    outraws: &mut [f64],
-    s: &mut [f64],
-) -> usize
-    requires { gather_serves degree (lent_list acckeys 0) (lent_list acckeys 1) obstimes.now (length obsvalues.now) (length good.now)
-        (length outtimes.old) (length outraws.old) (length s.old) ≡ true }
-    ensures { Done (given (model_of degree model.entry) (pair_of acckeys.entry accs.entry) windows
-        (observed_of obstimes.now obsvalues.now good.now)) (front_size degree) s.old s.new
-        outtimes.new outraws.new result }
+fn gather_all(given: Given<'_>, outtimes: &mut [f64], outraws: &mut [f64], s: &mut [f64]) -> usize
+    requires { serves_of given (length outtimes.old) (length outraws.old) (length s.old) ≡ true }
+    ensures { Done (given_of given.entry) (front_size given.entry.model.degree) s.old s.new outtimes.new outraws.new result }
 {
-    let base = inputs::front_size(degree);
+    let base = inputs::front_size(given.model.degree);
     slices::clear(outtimes);
     slices::clear(outraws);
-    epoch::open(degree, base, s);
-    gather_from(
-        degree, model, acckeys, accs, windows, obstimes, obsvalues, good, base, outtimes, outraws,
-        s,
-    )
+    epoch::open(given.model.degree, base, s);
+    gather_from(given, base, outtimes, outraws, s)
 }
 
-fn serves<'a>(
-    degree: usize,
-    acckeys: inputs::Keys<'a>,
-    obstimes: &[f64],
-    values: usize,
-    good: usize,
-    outtimes: usize,
-    outraws: usize,
-    room: usize,
-) -> bool
-    ensures { result ≡ gather_serves degree (lent_list acckeys.entry 0) (lent_list acckeys.entry 1) obstimes.now values good outtimes outraws
-        room }
+#[tactic(auto, unfolding(crate::specs::KeptEpochs::gather_serves))]
+fn serves(given: Given<'_>, outtimes: usize, outraws: usize, room: usize) -> bool
+    ensures { result ≡ serves_of given.entry outtimes outraws room }
 {
-    let m = obstimes.len();
-    let front = slices::both(degree <= 180, inputs::front_size(degree) <= room);
-    let keys = slices::both(
-        slices::rising_keys(acckeys[inputs::C]),
-        slices::rising_keys(acckeys[inputs::D]),
-    );
-    let lengths = slices::both(
-        slices::both(values == m, good == m),
-        slices::both(outtimes == m, outraws == m),
-    );
-    slices::both(
-        slices::both(front, keys),
-        slices::both(slices::all_times(obstimes), lengths),
-    )
+    let degree = given.model.degree;
+    let m = given.observed.times.len();
+    let front = degree <= 180 && inputs::front_size(degree) <= room;
+    let keys = slices::rising_keys(given.accs.c.keys) && slices::rising_keys(given.accs.d.keys);
+    let lengths = (given.observed.values.len() == m && given.observed.good.len() == m)
+        && (outtimes == m && outraws == m);
+    (front && keys) && (slices::all_times(given.observed.times) && lengths)
 }
 
 // Times and residuals of the kept epochs, in order, +0.0 after the last, and how many there are. None, and nothing is done, where the slices do not serve.
-pub fn gather<'a>(
-    degree: usize,
-    model: inputs::Model<'a>,
-    acckeys: inputs::Keys<'a>,
-    accs: inputs::Rows<'a>,
-    windows: usize,
-    obstimes: &[f64],
-    obsvalues: &[f64],
-    good: &[u8],
-    outtimes: &mut [f64],
-    outraws: &mut [f64],
-    s: &mut [f64],
-) -> usize
-    ensures { Gathered (given (model_of degree model.entry) (pair_of acckeys.entry accs.entry) windows
-        (observed_of obstimes.now obsvalues.now good.now))
-        (gather_serves degree (lent_list acckeys.entry 0) (lent_list acckeys.entry 1) obstimes.now (length obsvalues.now)
-        (length good.now) (length outtimes.old) (length outraws.old) (length s.old)) outtimes.old
+pub fn gather(given: Given<'_>, outtimes: &mut [f64], outraws: &mut [f64], s: &mut [f64]) -> usize
+    ensures { Gathered (given_of given.entry)
+        (serves_of given.entry (length outtimes.old) (length outraws.old) (length s.old)) outtimes.old
         outraws.old s.old outtimes.new outraws.new s.new result }
 {
-    let ok = serves(
-        degree,
-        acckeys,
-        obstimes,
-        obsvalues.len(),
-        good.len(),
-        outtimes.len(),
-        outraws.len(),
-        s.len(),
-    );
-    if ok {
-        return gather_all(
-            degree, model, acckeys, accs, windows, obstimes, obsvalues, good, outtimes, outraws, s,
-        );
+    if serves(given, outtimes.len(), outraws.len(), s.len()) {
+        return gather_all(given, outtimes, outraws, s);
     }
     0
 }

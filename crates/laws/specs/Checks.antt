@@ -1,4 +1,5 @@
 -- What a call tests of its lists, as Bools that compute, and what each says of every element: finite, within 0 to 2^31, strictly rising. Assumes nothing.
+use Rattle.std.specs.List.{list_all}
 use Rattle.std.specs.Prelude.{◌≡◌, refl, Bool, true, ◌&&◌, List, [], ◌∷◌, ℕ, T, leb, ℤ, pos, negsuc, Float}
 use Rattle.std.proofs.Common.{subst, ltb→lt, lt→ltb, arith}
 use Rattle.std.specs.Int.Signed.{lt_z, le_z}
@@ -12,10 +13,6 @@ use Rattle.laws.specs.WholeNumbers.{between}
 use Rattle.laws.specs.Times.{Rising, RisingSeconds, Time, bound}
 
 -- ---- the tests
-abbrev pub all {ℓ} : {A : Type ℓ} → (A → Bool) → List A → Bool
-all test [] = true
-all test (x ∷ xs) = test x && all test xs
-
 -- 2^31, the last time, as a literal of the code
 abbrev pub latest : Float
 latest = bits 0x41e0000000000000
@@ -45,9 +42,9 @@ abbrev pub rising_seconds : List ℤ → Bool
 rising_seconds ks = ascending lt_z ks
 
 -- ---- what they say
-pub all_says {ℓ} : {A : Type ℓ} (test : A → Bool) (xs : List A) → T (all test xs) → All (λ x. T (test x)) xs
+pub all_says : {A : Type 0} (test : A → Bool) (xs : List A) → T (list_all test xs) → All (λ x. T (test x)) xs
 all_says test [] h = tt
-all_says test (x ∷ xs) h = (and_l (test x) (all test xs) h, all_says test xs (and_r (test x) (all test xs) h))
+all_says test (x ∷ xs) h = (and_l (test x) (list_all test xs) h, all_says test xs (and_r (test x) (list_all test xs) h))
 
 latest_is : latest ≡ bound
 unfolding of_bits
@@ -60,27 +57,27 @@ time_says t h =
     let high : T (le t bound) = subst (λ (x : Float). T (le t x)) latest_is (and_r (le zero64 t) (le t latest) h) in
     record { is_finite = between zero⁺ t bound tt tt low high; from_zero = low; to_bound = high }
 
-pub times_say {ℓ} : {A : Type ℓ} (time : A → Float) (xs : List A) → T (all (λ x. is_time (time x)) xs) → All (λ x. Time (time x)) xs
+pub times_say : {A : Type 0} (time : A → Float) (xs : List A) → T (list_all (λ x. is_time (time x)) xs) → All (λ x. Time (time x)) xs
 times_say {A = A} time xs h = all_map (λ (x : A). T (is_time (time x))) (λ (x : A). Time (time x)) xs (λ x k. time_says (time x) k)
     (all_says (λ (x : A). is_time (time x)) xs h)
 
-pub rising_says : (ts : List Float) → T (all finite ts) → T (rising ts) → Rising ts
+pub rising_says : (ts : List Float) → T (list_all finite ts) → T (rising ts) → Rising ts
 rising_says [] f r = tt
 rising_says (t ∷ []) f r = (and_l (finite t) true f, tt, tt)
 rising_says (t ∷ u ∷ ts) f r =
     let tu = and_l (lt t u) (rising (u ∷ ts)) r in
-    let rest = rising_says (u ∷ ts) (and_r (finite t) (all finite (u ∷ ts)) f) (and_r (lt t u) (rising (u ∷ ts)) r) in (
-      and_l (finite t) (all finite (u ∷ ts)) f,
+    let rest = rising_says (u ∷ ts) (and_r (finite t) (list_all finite (u ∷ ts)) f) (and_r (lt t u) (rising (u ∷ ts)) r) in (
+      and_l (finite t) (list_all finite (u ∷ ts)) f,
       (tu, all_map (λ (y : Float). T (lt u y)) (λ (y : Float). T (lt t y)) ts (λ y h. lt_tr t u y tu h) rest.1),
       rest,
     )
 
-all_finite : (ts : List Float) → T (all is_time ts) → T (all finite ts)
+all_finite : (ts : List Float) → T (list_all is_time ts) → T (list_all finite ts)
 all_finite [] h = tt
 all_finite (t ∷ ts) h =
-    and_i (finite t) (all finite ts) (time_says t (and_l (is_time t) (all is_time ts) h)).is_finite (all_finite ts (and_r (is_time t) (all is_time ts) h))
+    and_i (finite t) (list_all finite ts) (time_says t (and_l (is_time t) (list_all is_time ts) h)).is_finite (all_finite ts (and_r (is_time t) (list_all is_time ts) h))
 
-pub rising_times_say : (ts : List Float) → T (all is_time ts) → T (rising ts) → Rising ts
+pub rising_times_say : (ts : List Float) → T (list_all is_time ts) → T (rising ts) → Rising ts
 rising_times_say ts h r = rising_says ts (all_finite ts h) r
 
 -- the order of whole seconds is transitive

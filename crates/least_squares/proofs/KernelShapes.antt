@@ -1,7 +1,8 @@
 -- Laws of the kernel of least squares. Assumes nothing.
-use mathlib.Core.Path.{◌≡◌, sym, ap, ◌∙◌}
-use mathlib.Core.Bool.{Bool, true, false, false≢true}
+use mathlib.Core.Path.{◌≡◌, refl, sym, ap, ◌∙◌}
+use mathlib.Core.Bool.{Bool, true, false, cond, false≢true}
 use mathlib.Core.List.{List}
+use Rattle.std.specs.Prelude.{Some, None}
 use Prim.Native.Nat.{ℕ, ◌*◌, ◌≤◌}
 use lib.Dec.{ltb, eqb}
 use lib.Ieee.{Float}
@@ -10,8 +11,8 @@ use borrow.Author.Tests.{le-ltb, eq-eqb, ltb-false, eqb-true}
 use Rattle.laws.specs.Tables.{row}
 use Rattle.laws.specs.Bools.{by}
 use Rattle.least_squares.specs.Flat.{fine_in, stage_in, view, equations}
-use Rattle.least_squares.specs.Kernel.{coefficients_of, shape_fits, solvable_for, solved_else}
-use Rattle.least_squares.specs.LeastSquares.{coefficient_at, solvable}
+use Rattle.least_squares.specs.Kernel.{coefficients_of, estimate, shape_fits, solvable_for, solved_else}
+use Rattle.least_squares.specs.LeastSquares.{coefficient_at, solvable, solved}
 use Rattle.least_squares.proofs.Matrices.{solvable_flat, solved_flat}
 
 solvable_is : (rows y : List Float) (p : ℕ) (n : List Float) (t g : Bool) → p ≤ 15 → n ≡ equations rows y p → t ≡ fine_in p n p → t ≡ g → g ≡ solvable rows y p
@@ -46,22 +47,6 @@ pub shape_is : (rows y : List Float) (p nb : ℕ) → length rows ≡ length y *
 unfolding shape_fits
 shape_is rows y p nb h k l = simp (le-ltb 15 p k, eq-eqb (length rows) (length y * p) h, eq-eqb nb p l)
 
-pub shaped : (rows y b : List Float) (p : ℕ) (t r : Bool) → t ≡ shape_fits rows y p (length b) → t ≡ true → r ≡ solvable rows y p → r ≡ solvable_for rows y p (length b)
-unfolding solvable_for
-shaped rows y b p t r e h er = simp (sym e ∙ h) er
-
-pub shaped_is : (rows y b b' : List Float) (p : ℕ) (t : Bool) → t ≡ shape_fits rows y p (length b) → t ≡ true → b' ≡ solved_else rows y p b → b' ≡ coefficients_of rows y p b
-unfolding coefficients_of
-shaped_is rows y b b' p t e h eb = simp (sym e ∙ h) eb
-
-pub unshaped : (rows y b : List Float) (p : ℕ) (t : Bool) → t ≡ shape_fits rows y p (length b) → t ≡ false → false ≡ solvable_for rows y p (length b)
-unfolding solvable_for
-unshaped rows y b p t e h = simp (sym e ∙ h)
-
-pub unshaped_is : (rows y b : List Float) (p : ℕ) (t : Bool) → t ≡ shape_fits rows y p (length b) → t ≡ false → b ≡ coefficients_of rows y p b
-unfolding coefficients_of
-unshaped_is rows y b p t e h = simp (sym e ∙ h)
-
 -- what the kernel gives where the shape fits
 pub kernel_is : (rows y b : List Float) (p : ℕ) → length rows ≡ length y * p → p ≤ 15 → length b ≡ p →
     (solvable_for rows y p (length b) ≡ solvable rows y p) × (coefficients_of rows y p b ≡ solved_else rows y p b)
@@ -70,12 +55,22 @@ kernel_is rows y b p h k l =
     let q : shape_fits rows y p (length b) ≡ true = shape_is rows y p (length b) h k l in
     (simp q, simp q)
 
-module _ (rows y : List Float) (p nb : ℕ) (t : Bool) (e : t ≡ shape_fits rows y p nb) (h : t ≡ true) where
-  pub shape_rows : length rows ≡ length y * p
-  shape_rows = (shape_true rows y p nb (sym e ∙ h)).0
+-- the same for a number of columns that is known beforehand
+pub estimate_is : (rows y : List Float) (p : ℕ) → length rows ≡ length y * p → p ≤ 15 → estimate rows y p ≡ cond (solvable rows y p) (Some (solved rows y p)) None
+unfolding estimate solvable_for
+estimate_is rows y p h k = let q : shape_fits rows y p p ≡ true = shape_is rows y p p h k refl in simp q
 
-  pub shape_few : p ≤ 15
-  shape_few = (shape_true rows y p nb (sym e ∙ h)).1
+-- b is what stood there before
+module _ (rows y b : List Float) (p : ℕ) (t : Bool) (e : t ≡ solvable_for rows y p (length b)) (l : length b ≡ p) where
+  pub estimate_none : t ≡ false → None ≡ estimate rows y p
+  unfolding estimate
+  estimate_none h = let q : solvable_for rows y p p ≡ false = ap (solvable_for rows y p) (sym l) ∙ sym e ∙ h in simp q
 
-  pub shape_places : nb ≡ p
-  shape_places = (shape_true rows y p nb (sym e ∙ h)).2
+  pub estimate_some : (b' : List Float) → b' ≡ coefficients_of rows y p b → t ≡ true → Some b' ≡ estimate rows y p
+  unfolding estimate coefficients_of solvable_for solved_else
+  estimate_some b' f h =
+      by (shape_fits rows y p (length b))
+      (λ q. let s : solvable rows y p ≡ true = sym (simp q) ∙ sym e ∙ h in
+      let g : shape_fits rows y p p ≡ true = ap (shape_fits rows y p) (sym l) ∙ q in
+      simp (g, s) (ap Some (f ∙ simp (q, s))))
+      (λ q. absurd (false≢true (sym (simp q) ∙ sym e ∙ h)))

@@ -1,7 +1,5 @@
 -- Least squares for callers that test nothing: the coefficients alone. Assumes nothing.
-use Rattle.std.specs.Prelude.{◌≡◌, ℕ, ◌*◌, Bool, true, false, cond, ◌&&◌, List, ltb, eqb, Float, length, replicate}
-use Rattle.laws.specs.Floats.{zero64}
-use Rattle.least_squares.specs.declared.kernel.Estimate.{Estimate}
+use Rattle.std.specs.Prelude.{ℕ, ◌*◌, Bool, false, cond, ◌&&◌, List, ltb, eqb, Float, length, Option, Some, None}
 use Rattle.least_squares.specs.LeastSquares.{solvable, solved}
 
 -- p columns, at most 15, for each of y, and as many places for coefficients
@@ -20,12 +18,14 @@ solvable_for rows y p places = cond (shape_fits rows y p places) (solvable rows 
 unfoldable pub coefficients_of : List Float → List Float → ℕ → List Float → List Float
 coefficients_of rows y p b = cond (shape_fits rows y p (length b)) (solved_else rows y p b) b
 
+-- p coefficients, or none
+unfoldable pub estimate : List Float → List Float → ℕ → Option (List Float)
+estimate rows y p = cond (solvable_for rows y p p) (Some (solved rows y p)) None
+
 -- fifteen numbers a row, and no more rows than the bound
 unfoldable pub shaped15 : ℕ → ℕ → Bool
 shaped15 rows misfits = cond (ltb 100000 misfits) false (eqb rows (misfits * 15))
 
 -- what the kernel for fifteen columns answers
-pub record Estimated (rows y : List Float) (s : Estimate) : Type 0 where
-  pub said : s.fine ≡ (shaped15 (length rows) (length y) && solvable rows y 15)
-  pub values : s.fine ≡ true → s.beta ≡ solved rows y 15
-  pub none : s.fine ≡ false → s.beta ≡ replicate 15 zero64
+unfoldable pub estimate15 : List Float → List Float → Option (List Float)
+estimate15 rows y = cond (shaped15 (length rows) (length y) && solvable rows y 15) (Some (solved rows y 15)) None

@@ -1,14 +1,19 @@
 // Least squares by normal equations and Gauss-Jordan elimination with partial pivoting.
 #![tactic(auto)]
 
+mod equations;
 pub mod kernel;
 
-ghost use Rattle.std.specs.Prelude.{◌≡◌, [], ◌∷◌, ◌+◌, ◌*◌, ◌≤◌, ◌<◌, eqb, length};
-ghost use Rattle.slices.specs.Calls.{left, first_failed};
+ghost use Rattle.std.specs.Prelude.{◌≡◌, [], ◌∷◌, ◌+◌, ◌*◌, ◌≤◌, ◌<◌, length};
+ghost use Rattle.slices.specs.Calls.{left};
 ghost use Rattle.least_squares.specs.LeastSquares.{fitted_at, residuals_of};
-ghost use Rattle.least_squares.specs.Calls.{up_to, refusal as refusal_of, later_tests, least_squares_call};
+ghost use Rattle.least_squares.specs.Calls.{up_to, refusal as refusal_of, least_squares_call};
 
-fn fitted(rows: &[f64], beta: &[f64], p: usize, r: usize) -> f64
+use slices::Refusal;
+
+// What the coefficients give for row r.
+#[tactic(auto, using(laws::specs::Sums::sum_more), unfolding(laws::specs::Sums::sum_to, crate::specs::LeastSquares::fitted_at))]
+pub fn fitted(rows: &[f64], beta: &[f64], p: usize, r: usize) -> f64
     requires { (length beta.now ≡ p) × (r * p + p ≤ length rows.now) }
     ensures { result ≡ fitted_at rows.now beta.now p r }
 {
@@ -29,80 +34,50 @@ fn residuals_of(rows: &[f64], y: &[f64], p: usize, beta: &[f64], residuals: &mut
 }
 
 // From 1 to n.
+#[tactic(auto, unfolding(crate::specs::Calls::up_to))]
 fn up_to(n: usize, k: usize) -> bool
     ensures { result ≡ up_to n k }
 {
-    slices::both(1 <= k, k <= n)
+    1 <= k && k <= n
 }
 
-// Whether rows has p numbers for each of y.
-fn full(rows: &[f64], y: &[f64], p: usize) -> bool
-    requires { p ≤ 15 }
-    ensures { result ≡ eqb (length rows.now) (length y.now * p) }
-{
-    rows.len() == y.len() * p
-}
-
-// The tests after that of the columns.
-fn later_refusal(rows: &[f64], y: &[f64], p: usize, places: usize, misfits: usize) -> u8
-    requires { p ≤ 15 }
-    ensures { result ≡ first_failed (later_tests rows.now y.now p places misfits) }
-{
-    let numbers = slices::unless(
-        slices::all_finite(rows),
-        4,
-        slices::unless(slices::all_finite(y), 4, 0),
-    );
-    let lengths = slices::unless(
-        places == p,
-        3,
-        slices::unless(misfits == y.len(), 3, numbers),
-    );
-    slices::unless(
-        up_to(100000, y.len()),
-        2,
-        slices::unless(full(rows, y, p), 3, lengths),
-    )
-}
-
-fn refusal(rows: &[f64], y: &[f64], p: usize, places: usize, misfits: usize) -> u8
+#[tactic(auto, unfolding(crate::specs::Calls::refusal))]
+fn refusal(rows: &[f64], y: &[f64], p: usize, places: usize, misfits: usize) -> Result<(), Refusal>
     ensures { result ≡ refusal_of rows.now y.now p places misfits }
 {
-    if up_to(15, p) {
-        later_refusal(rows, y, p, places, misfits)
-    } else {
-        2
-    }
+    slices::tested(up_to(15, p), Refusal::Count)?;
+    slices::tested(up_to(100000, y.len()), Refusal::Count)?;
+    slices::tested(rows.len() == y.len() * p, Refusal::Length)?;
+    slices::tested(places == p, Refusal::Length)?;
+    slices::tested(misfits == y.len(), Refusal::Length)?;
+    slices::tested(slices::all_finite(rows), Refusal::Value)?;
+    slices::tested(slices::all_finite(y), Refusal::Value)?;
+    Ok(())
 }
 
 // Coefficients and residuals of the rows, p numbers each, on y.
+#[tactic(auto, unfolding(crate::specs::Calls::least_squares_call))]
 pub fn ols(
     rows: &[f64],
     y: &[f64],
     columns: usize,
     beta: &mut [f64],
     residuals: &mut [f64],
-) -> slices::Outcome
+) -> Result<(), Refusal>
     ensures { left result (beta.new ∷ residuals.new ∷ []) [] ≡ least_squares_call rows.now y.now columns
         beta.old residuals.old }
 {
-    let refused = refusal(rows, y, columns, beta.len(), residuals.len());
-    if refused != 0 {
-        return slices::Outcome::Refused(refused);
-    }
+    refusal(rows, y, columns, beta.len(), residuals.len())?;
     if !kernel::coefficients(rows, y, columns, beta) {
         slices::clear(beta);
         slices::clear(residuals);
-        return slices::Outcome::Refused(9);
+        return Err(Refusal::Singular);
     }
-    residuals_of(rows, y, columns, &beta[..], residuals);
-    if slices::both(
-        slices::all_finite(&beta[..]),
-        slices::all_finite(&residuals[..]),
-    ) {
-        return slices::Outcome::Accepted;
+    residuals_of(rows, y, columns, beta, residuals);
+    if slices::all_finite(beta) && slices::all_finite(residuals) {
+        return Ok(());
     }
     slices::clear(beta);
     slices::clear(residuals);
-    slices::Outcome::Refused(10)
+    Err(Refusal::NotFinite)
 }

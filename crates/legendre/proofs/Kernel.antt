@@ -1,6 +1,6 @@
 -- The guarded calls: a work slice prepared part by part, a table where its length fits, an evaluation from the parts of a work slice. Assumes nothing.
 use Prim.Native.Nat.{ℕ, ◌+◌, ◌-◌, ◌*◌, ◌≤◌, ◌<◌}
-use mathlib.Core.Path.{◌≡◌, sym, ap, ap₂, ◌∙◌}
+use mathlib.Core.Path.{◌≡◌, sym, ap, ap₂, subst, ◌∙◌}
 use mathlib.Core.Bool.{Bool, true, false}
 use mathlib.Core.List.{List, ◌++◌, append_assoc}
 use native.Mathlib.Omega.{arith}
@@ -14,18 +14,17 @@ use Rattle.laws.specs.Tables.{tri, row, rows, rows_length}
 use Rattle.numbers.specs.Numbers.{sine_cosine}
 use Rattle.numbers.specs.declared.SineCosine.{SineCosine}
 use Rattle.legendre.specs.Legendre.{lower_of, upper_of, diagonal}
-use Rattle.legendre.specs.Rows.{tables_of, Room}
+use Rattle.legendre.specs.Rows.{Tables, Room}
 use Rattle.legendre.specs.Sums.{evaluation, degrees, FieldRoom}
-use Rattle.legendre.specs.Field.{totals, finished, size, part, evaluation_in, fits_in, Fits, nothing, partials_with}
-use Rattle.legendre.specs.Prepared.{factor_of, tabulated, prepared}
+use Rattle.legendre.specs.Field.{totals, finished, size, part, tables_in, evaluation_in, fits_in, Fits, nothing, partials_with}
+use Rattle.legendre.specs.Prepared.{tabulated, prepared}
 use Rattle.legendre.specs.declared.Totals.{Totals}
-use Rattle.legendre.specs.declared.Factor.{Factor}
 use Rattle.legendre.proofs.Index.{in_table}
 use Rattle.legendre.proofs.Filling.{fits_says, heads_in}
 
 -- ---- a table
 
-module _ (f : Factor) (N : ℕ) (out : List Float) where
+module _ (f : ℕ → ℕ → Float) (N : ℕ) (out : List Float) where
   pub tabulated_over : 180 < N → out ≡ tabulated f N out
   unfolding tabulated
   tabulated_over h = rw (lt-leb N 180 h)
@@ -34,7 +33,7 @@ module _ (f : Factor) (N : ℕ) (out : List Float) where
   unfolding tabulated
   tabulated_other l h e g = rw (le-leb N 180 h, ne_eqb (length out) (tri (N + 1)) (λ k. g (k ∙ sym e)))
 
-  pub tabulated_is : (l : ℕ) (x : List Float) → N ≤ 180 → l ≡ tri (N + 1) → length out ≡ l → x ≡ rows (factor_of f) (N + 1) → x ≡ tabulated f N out
+  pub tabulated_is : (l : ℕ) (x : List Float) → N ≤ 180 → l ≡ tri (N + 1) → length out ≡ l → x ≡ rows f (N + 1) → x ≡ tabulated f N out
   unfolding tabulated
   tabulated_is l x h e g q = rw (le-leb N 180 h, eq-eqb (length out) (tri (N + 1)) (g ∙ e)) q
 
@@ -82,21 +81,20 @@ prepared_is N l w x y z h g e ex ey ez =
 part_length : (w : List Float) (a e : ℕ) → e ≤ length w → length (part w a e) ≡ e - a
 part_length w a e h = mid_len a e w h
 
-pub room_in : (N l : ℕ) (a b work : List Float) (t u lon : Float) → Fits N (length a) (length b) (length work) → l ≡ tri (N + 1) →
-    (N ≤ 180) × Room N (tables_of a b (part work (2 * l) (3 * l)) (part work (3 * l) (4 * l)) (part work (4 * l) (4 * l + (N + 1))))
-    × FieldRoom N (evaluation (tables_of a b (part work (2 * l) (3 * l)) (part work (3 * l) (4 * l)) (part work (4 * l) (4 * l + (N + 1)))) t u lon (part work 0 l) (part work l (2 * l)))
-room_in N l a b work t u lon f e =
+pub room_in : (N l : ℕ) (a b work : List Float) (T : Tables) (t u lon : Float) → Fits N (length a) (length b) (length work) → l ≡ tri (N + 1) → T ≡ tables_in N a b work →
+    (N ≤ 180) × Room N T × FieldRoom N (evaluation T t u lon (part work 0 l) (part work l (2 * l)))
+room_in N l a b work T t u lon f e q =
     let i = in_table N N N (omega arith) (omega arith) in
     let k = heads_in N in
     let g = f.work in (
       f.degree,
-      record {
+      subst (Room N) (sym q) (record {
         a = omega (arith, f.a);
         b = omega (arith, f.b);
-        lower = omega (arith, part_length work (2 * l) (3 * l) (omega arith));
-        upper = omega (arith, part_length work (3 * l) (4 * l) (omega arith));
-        heads = omega (arith, part_length work (4 * l) (4 * l + (N + 1)) (omega arith));
-      },
+        lower = omega (arith, part_length work (2 * size N) (3 * size N) (omega arith));
+        upper = omega (arith, part_length work (3 * size N) (4 * size N) (omega arith));
+        heads = omega (arith, part_length work (4 * size N) (4 * size N + (N + 1)) (omega arith));
+      }),
       record { c = omega (arith, part_length work 0 l (omega arith)); s = omega (arith, part_length work l (2 * l) (omega arith)) },
     )
 
@@ -108,15 +106,12 @@ module _ (N : ℕ) (gm radius : Float) (a b work : List Float) (r lat lon : Floa
   unfolding partials_with
   evaluated f = rw (fits_true N (length a) (length b) (length work) f)
 
-  pub partials_are : (l : ℕ) (w : SineCosine) (z : Totals) → Fits N (length a) (length b) (length work) → l ≡ tri (N + 1) → w ≡ sine_cosine lat →
-      z ≡ totals (degrees (evaluation (tables_of a b (part work (2 * l) (3 * l)) (part work (3 * l) (4 * l)) (part work (4 * l) (4 * l + (N + 1)))) w.sine w.cosine lon (part work 0 l)
-      (part work l (2 * l)))) (radius ⊘ r) (N + 1) →
-      finished gm r z ≡ partials_with N gm radius a b work r lat lon
+  pub partials_are : (l : ℕ) (w : SineCosine) (T : Tables) (z : Totals) → Fits N (length a) (length b) (length work) → l ≡ tri (N + 1) → w ≡ sine_cosine lat → T ≡ tables_in N a b work →
+      z ≡ totals (degrees (evaluation T w.sine w.cosine lon (part work 0 l) (part work l (2 * l)))) (radius ⊘ r) (N + 1) → finished gm r z ≡ partials_with N gm radius a b work r lat lon
   unfolding sine_cosine
-  partials_are l w z f el ew ez =
+  partials_are l w T z f el ew eT ez =
       ap (finished gm r) ez
-      ∙ (λ i. finished gm r (totals (degrees (evaluation (tables_of a b (part work (2 * el i) (3 * el i)) (part work (3 * el i) (4 * el i)) (part work (4 * el i) (4 * el i + (N + 1)))) (ew i).sine
-      (ew i).cosine lon (part work 0 (el i)) (part work (el i) (2 * el i)))) (radius ⊘ r) (N + 1)))
+      ∙ (λ i. finished gm r (totals (degrees (evaluation (eT i) (ew i).sine (ew i).cosine lon (part work 0 (el i)) (part work (el i) (2 * el i)))) (radius ⊘ r) (N + 1)))
       ∙ evaluated f
 
   pub partials_none : (y : Bool) → y ≡ fits_in N (length a) (length b) (length work) → y ≡ false → nothing ≡ partials_with N gm radius a b work r lat lon

@@ -15,7 +15,7 @@ mod Rows
 mod Recur
 mod FilledArrays
 mod Added
-mod Filling
+pub mod Filling
 mod Kernel
 mod RowsOfTables
 mod Series

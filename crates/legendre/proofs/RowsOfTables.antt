@@ -1,19 +1,18 @@
 -- Rows of arrays as rows of whole tables. Assumes nothing.
 use Prim.Native.Nat.{ℕ, ◌+◌, ◌*◌}
-use mathlib.Core.Path.{◌≡◌, sym, ap, ap₂, ◌∙◌}
-use mathlib.Core.Bool.{Bool, true, false, ◌&&◌}
+use mathlib.Core.Path.{◌≡◌, sym, ap, ◌∙◌}
+use mathlib.Core.Bool.{Bool, true, false}
 use mathlib.Core.List.{List}
 use native.Mathlib.Omega.{arith}
 use lib.ListN.{length}
 use lib.Ieee.{Float}
 use Rattle.laws.specs.Tables.{tri, row, rows, row_same}
-use Rattle.laws.specs.Bools.{both_true}
 use Rattle.numbers.specs.Numbers.{sine_cosine}
 use Rattle.numbers.specs.declared.SineCosine.{SineCosine}
 use Rattle.legendre.specs.Legendre.{derived_row}
 use Rattle.legendre.specs.Arrays.{at, from, Has}
-use Rattle.legendre.specs.Rows.{tables_of, legendre_by, derived_by}
-use Rattle.legendre.specs.Field.{part, fits_in, Fits}
+use Rattle.legendre.specs.Rows.{Tables, legendre_by, derived_by}
+use Rattle.legendre.specs.Field.{part, tables_in, fits_in, Fits}
 use Rattle.legendre.specs.Tables.{derived_from, derived_with, both_fit, legendre_with, derivative_with}
 use Rattle.legendre.proofs.Rows.{der_cong}
 use Rattle.legendre.proofs.Kernel.{fits_true}
@@ -44,26 +43,15 @@ both_fit_law : (N : ℕ) (a b work p dp : List Float) → Fits N (length a) (len
 both_fit_law N a b work p dp f g = rw (fits_true N (length a) (length b) (length work) f, fits_true N (length p) (length dp) (length work) g)
 
 module _ (N : ℕ) (a b work : List Float) (lat : Float) (p dp : List Float) where
-  pub computed_is : (l : ℕ) (w : SineCosine) (x y : List Float) → Fits N (length a) (length b) (length work) → Fits N (length p) (length dp) (length work) → l ≡ tri (N + 1) → w ≡ sine_cosine lat →
-      x ≡ rows (legendre_by (tables_of a b (part work (2 * l) (3 * l)) (part work (3 * l) (4 * l)) (part work (4 * l) (4 * l + (N + 1)))) w.sine w.cosine) (N + 1) →
-      y ≡ rows (derived_by (tables_of a b (part work (2 * l) (3 * l)) (part work (3 * l) (4 * l)) (part work (4 * l) (4 * l + (N + 1)))) w.sine w.cosine) (N + 1) →
+  pub computed_is : (w : SineCosine) (T : Tables) (x y : List Float) → Fits N (length a) (length b) (length work) → Fits N (length p) (length dp) (length work) → w ≡ sine_cosine lat →
+      T ≡ tables_in N a b work → x ≡ rows (legendre_by T w.sine w.cosine) (N + 1) → y ≡ rows (derived_by T w.sine w.cosine) (N + 1) →
       (x ≡ legendre_with N a b work lat p dp) × (y ≡ derivative_with N a b work lat p dp)
   unfolding legendre_with derivative_with sine_cosine
-  computed_is l w x y f g e ew ex ey = (
-    ex ∙ (λ i. rows (legendre_by (tables_of a b (part work (2 * e i) (3 * e i)) (part work (3 * e i) (4 * e i)) (part work (4 * e i) (4 * e i + (N + 1)))) (ew i).sine (ew i).cosine) (N + 1))
-        ∙ rw (both_fit_law N a b work p dp f g),
-    ey ∙ (λ i. rows (derived_by (tables_of a b (part work (2 * e i) (3 * e i)) (part work (3 * e i) (4 * e i)) (part work (4 * e i) (4 * e i + (N + 1)))) (ew i).sine (ew i).cosine) (N + 1))
-        ∙ rw (both_fit_law N a b work p dp f g),
+  computed_is w T x y f g ew eT ex ey = (
+    ex ∙ (λ i. rows (legendre_by (eT i) (ew i).sine (ew i).cosine) (N + 1)) ∙ rw (both_fit_law N a b work p dp f g),
+    ey ∙ (λ i. rows (derived_by (eT i) (ew i).sine (ew i).cosine) (N + 1)) ∙ rw (both_fit_law N a b work p dp f g),
   )
 
-  pub computed_not : (x y z : Bool) → x ≡ fits_in N (length a) (length b) (length work) → y ≡ fits_in N (length p) (length dp) (length work) → z ≡ x && y → z ≡ false →
-      (p ≡ legendre_with N a b work lat p dp) × (dp ≡ derivative_with N a b work lat p dp)
+  pub computed_not : both_fit N a b work p dp ≡ false → (p ≡ legendre_with N a b work lat p dp) × (dp ≡ derivative_with N a b work lat p dp)
   unfolding legendre_with derivative_with
-  computed_not x y z ex ey ez h =
-      let q : both_fit N a b work p dp ≡ false = ap₂ (λ (i j : Bool). i && j) (sym ex) (sym ey) ∙ sym ez ∙ h in
-      (rw q, rw q)
-
-pub compute_fits : (N la lb lp ld lw : ℕ) (x y z : Bool) → x ≡ fits_in N la lb lw → y ≡ fits_in N lp ld lw → z ≡ x && y → z ≡ true → Fits N la lb lw × Fits N lp ld lw
-compute_fits N la lb lp ld lw x y z ex ey ez h =
-    let q = both_true x y (sym ez ∙ h) in
-    (Rattle.legendre.proofs.Kernel.fits_gives N la lb lw x ex q.0, Rattle.legendre.proofs.Kernel.fits_gives N lp ld lw y ey q.1)
+  computed_not h = (rw h, rw h)

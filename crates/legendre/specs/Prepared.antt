@@ -1,21 +1,16 @@
 -- The tables of factors as lists, and the work slice with the tables that depend on the degree alone. Assumes nothing.
-use Rattle.std.specs.Prelude.{ℕ, ◌+◌, ◌*◌, cond, ◌&&◌, List, ◌++◌, eqb, leb, length, take, drop, Float}
+use Rattle.std.specs.Prelude.{◌≡◌, ◌≤◌, ℕ, ◌+◌, ◌*◌, cond, ◌&&◌, List, ◌++◌, eqb, leb, length, take, drop, Float}
 use Rattle.laws.specs.Tables.{row, rows}
-use Rattle.legendre.specs.Legendre.{a_of, b_of, lower_of, upper_of, diagonal}
+use Rattle.legendre.specs.Legendre.{lower_of, upper_of, diagonal}
 use Rattle.legendre.specs.Field.{size}
-use Rattle.legendre.specs.declared.Factor.{Factor}
-use Rattle.legendre.specs.declared.Factor.TheVariants.{RecursionA, RecursionB, Lower, Upper}
 
--- the factor at degree n and order m
-abbrev pub factor_of : Factor → ℕ → ℕ → Float
-factor_of RecursionA = a_of
-factor_of RecursionB = b_of
-factor_of Lower = lower_of
-factor_of Upper = upper_of
+-- what a call returns at degree n and order m of a table is f n m
+abbrev pub Gives : (ℕ → ℕ → Float → Type 0) → (ℕ → ℕ → Float) → Type 0
+Gives post f = (n m : ℕ) (x : Float) → m ≤ n → n ≤ 180 → post n m x → x ≡ f n m
 
--- the table of a factor to degree N, in place of a list of L numbers
-unfoldable pub tabulated : Factor → ℕ → List Float → List Float
-tabulated f N out = cond (leb N 180 && eqb (length out) (size N)) (rows (factor_of f) (N + 1)) out
+-- the table of the factor f to degree N, in place of a list of L numbers
+unfoldable pub tabulated : (ℕ → ℕ → Float) → ℕ → List Float → List Float
+tabulated f N out = cond (leb N 180 && eqb (length out) (size N)) (rows f (N + 1)) out
 
 -- a work slice of at least 8·L numbers is prepared: lower factors at 2·L, upper factors at 3·L, the diagonal at 4·L; the rest is kept
 unfoldable pub prepared : ℕ → List Float → List Float

@@ -6,6 +6,7 @@ use Rattle.laws.specs.Floats.{◌⊖◌, ◌⊗◌, zero64}
 use Rattle.laws.specs.Tables.{tri}
 use Rattle.legendre.specs.Legendre.{unscale, derived_row}
 use Rattle.legendre.specs.Arrays.{from}
+use Rattle.legendre.specs.declared.Tables.{Tables as LentTables}
 
 -- the recursion's factors a, b and the derivative's, each by degree and order, and the diagonal by order
 pub record Tables : Type 0 where
@@ -17,6 +18,10 @@ pub record Tables : Type 0 where
 
 abbrev pub tables_of : List Float → List Float → List Float → List Float → List Float → Tables
 tables_of a b lower upper heads = record { a = a; b = b; lower = lower; upper = upper; heads = heads }
+
+-- lent tables, without where they lie in memory
+abbrev pub lent : LentTables → Tables
+lent t = tables_of t.a.now t.b.now t.lower.now t.upper.now t.heads.now
 
 -- one step of the recursion within a column, at place k of the tables
 abbrev pub step_at : List Float → List Float → Float → ℕ → Float → Float → Float

@@ -8,8 +8,8 @@ use Rattle.laws.specs.Sums.{sum_to}
 use Rattle.numbers.specs.Numbers.{sine, cosine}
 use Rattle.legendre.specs.Arrays.{from}
 use Rattle.legendre.specs.Legendre.{legendre, derived}
-use Rattle.legendre.specs.Rows.{Tables, legendre_by, derived_by}
-use Rattle.legendre.specs.declared.Point.{Point}
+use Rattle.legendre.specs.Rows.{Tables, lent, legendre_by, derived_by}
+use Rattle.legendre.specs.declared.Terms.{Terms}
 
 -- one degree, by order m: the coefficients, cos mλ, sin mλ, and the Legendre row with its derivative
 pub record Degree : Type 0 where
@@ -91,9 +91,9 @@ pub record Evaluation : Type 0 where
 abbrev pub evaluation : Tables → Float → Float → Float → List Float → List Float → Evaluation
 evaluation T t u lon c s = record { tables = T; t = t; u = u; lon = lon; c = c; s = s }
 
--- at a point that the code carries as one
-abbrev pub evaluation_at : Point → Tables → List Float → List Float → Evaluation
-evaluation_at point T c s = evaluation T point.sine point.cosine point.lon c s
+-- of what the code carries as one
+abbrev pub evaluation_of : Terms → Evaluation
+evaluation_of g = evaluation (lent g.tables) g.point.sine g.point.cosine g.point.lon g.c.now g.s.now
 
 abbrev pub degrees : Evaluation → ℕ → Degree
 degrees f n =

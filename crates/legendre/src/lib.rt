@@ -1,7 +1,7 @@
 // The spherical harmonic series of a field: its tables, and one evaluation streamed by rows, with no square root and no work slice.
 #![tactic(auto)]
 
-ghost use Rattle.std.specs.Prelude.{◌≡◌, ◌++◌, ℕ, suc, ◌+◌, ◌*◌, ◌-◌, ◌≤◌, ◌<◌, length, take};
+ghost use Rattle.std.specs.Prelude.{◌≡◌, ◌++◌, Float, ℕ, suc, ◌+◌, ◌*◌, ◌-◌, ◌≤◌, ◌<◌, length, take};
 ghost use Rattle.std.specs.Float.{binary64};
 ghost use Rattle.root.specs.Root.{sqrt};
 ghost use Rattle.laws.specs.Floats.{◌⊗◌};
@@ -9,54 +9,38 @@ ghost use Rattle.laws.specs.WholeNumbers.{number};
 ghost use Rattle.laws.specs.Tables.{tri, row, rows};
 ghost use Rattle.legendre.specs.Legendre.{a_of, b_of, lower_of, upper_of, ratio, diagonal, unscale, derived_row};
 ghost use Rattle.legendre.specs.Arrays.{at, from, Begins, Has};
-ghost use Rattle.legendre.specs.Rows.{next_row, tables_of, legendre_by, derived_by, Holds, Room};
-ghost use Rattle.legendre.specs.Sums.{RowSums, degree_of, cosines, sines, evaluation_at, degrees, FieldRoom, AllSums};
-ghost use Rattle.legendre.specs.Field.{totals as totals_of, size, Fits, fits_in, finished, evaluation_in, partials_with};
-ghost use Rattle.legendre.specs.Prepared.{factor_of, tabulated, prepared};
+ghost use Rattle.legendre.specs.Rows.{next_row, lent, legendre_by, derived_by, Holds, Room};
+ghost use Rattle.legendre.specs.Sums.{RowSums, degree_of, cosines, sines, evaluation_of, degrees, FieldRoom, AllSums};
+ghost use Rattle.legendre.specs.Field.{totals as totals_of, size, Fits, fits_in, finished, tables_in, evaluation_in, partials_with};
+ghost use Rattle.legendre.specs.Prepared.{Gives, tabulated, prepared};
 ghost use Rattle.legendre.specs.Tables.{derived_from, derived_with, legendre_with, derivative_with};
+
+use std::f64::consts::SQRT_2;
 
 const SCALE: f64 = 1e-280;
 
-const SQRT_2: f64 = 1.4142135623730951;
-
-// Where row n of a triangular table begins.
-fn tri_of(n: usize) -> usize
-    requires { n ≤ 181 }
-    ensures { (result ≡ tri n) × (result ≤ 16471) }
-{
-    n * (n + 1) / 2
-}
-
-// A small whole number as a float.
-fn float_of(n: usize) -> f64
-    requires { n ≤ 1000 }
-    ensures { result ≡ number n }
-{
-    n as f64
-}
-
 // The factors of the recursion.
-fn a_of(n: usize, m: usize) -> f64
+pub fn a_of(n: usize, m: usize) -> f64
     requires { (m ≤ n) × (n ≤ 180) }
     ensures { result ≡ a_of n m }
 {
     if m == n {
         return 0.0;
     }
-    let nf = float_of(n);
-    let mf = float_of(m);
+    let nf = numbers::float_of(n);
+    let mf = numbers::float_of(m);
     root::root((2.0 * nf - 1.0) * (2.0 * nf + 1.0) / ((nf - mf) * (nf + mf)))
 }
 
-fn b_of(n: usize, m: usize) -> f64
+pub fn b_of(n: usize, m: usize) -> f64
     requires { (m ≤ n) × (n ≤ 180) }
     ensures { result ≡ b_of n m }
 {
     if n <= m + 1 {
         return 0.0;
     }
-    let nf = float_of(n);
-    let mf = float_of(m);
+    let nf = numbers::float_of(n);
+    let mf = numbers::float_of(m);
     root::root(
         (2.0 * nf + 1.0) * (nf + mf - 1.0) * (nf - mf - 1.0)
             / ((nf - mf) * (nf + mf) * (2.0 * nf - 3.0)),
@@ -68,8 +52,8 @@ fn lower_of(n: usize, m: usize) -> f64
     requires { (m ≤ n) × (n ≤ 180) }
     ensures { result ≡ lower_of n m }
 {
-    let nf = float_of(n);
-    let mf = float_of(m);
+    let nf = numbers::float_of(n);
+    let mf = numbers::float_of(m);
     let f = root::root((nf + mf) * (nf - mf + 1.0));
     if m == 1 {
         return SQRT_2 * f;
@@ -81,68 +65,42 @@ fn upper_of(n: usize, m: usize) -> f64
     requires { (m ≤ n) × (n ≤ 180) }
     ensures { result ≡ upper_of n m }
 {
-    let nf = float_of(n);
+    let nf = numbers::float_of(n);
     if m == 0 {
         return root::root(nf * (nf + 1.0) / 2.0);
     }
-    let mf = float_of(m);
+    let mf = numbers::float_of(m);
     root::root((nf - mf) * (nf + mf + 1.0))
 }
 
-// The factors that stand in tables.
-#[derive(Clone, Copy)]
-pub enum Factor {
-    RecursionA,
-    RecursionB,
-    Lower,
-    Upper,
-}
-
-fn factor_at(f: Factor, n: usize, m: usize) -> f64
-    requires { (m ≤ n) × (n ≤ 180) }
-    ensures { result ≡ factor_of f n m }
-{
-    match f {
-        Factor::RecursionA => a_of(n, m),
-        Factor::RecursionB => b_of(n, m),
-        Factor::Lower => lower_of(n, m),
-        Factor::Upper => upper_of(n, m),
-    }
-}
-
 // Row n of a factor's table, which begins at k.
-fn factor_row(f: Factor, n: usize, k: usize, out: &mut [f64])
-    requires { (n ≤ 180) × (k ≤ 16471) × (k + (n + 1) ≤ length out.old) }
-    ensures { take (k + (n + 1)) out.new ≡ take k out.old ++ row (factor_of f n) (n + 1) }
+fn factor_row<F: Fn(usize, usize) -> f64>(factor: &F, n: usize, k: usize, out: &mut [f64])
+    requires pre { (i j : ℕ) → j ≤ i → i ≤ 180 → F.pre factor.now i j }
+    requires room { (n ≤ 180) × (k ≤ 16471) × (k + (n + 1) ≤ length out.old) }
+    ensures { (f : ℕ → ℕ → Float) → Gives (F.post factor.now) f → take (k + (n + 1)) out.new ≡ take k out.old ++ row (f n) (n + 1) }
 {
-    let mut m = 0;
-    while m <= n {
-        out[k + m] = factor_at(f, n, m);
-        m += 1;
+    for m in 0..n + 1 {
+        out[k + m] = factor(n, m);
     }
 }
 
-fn factor_rows(f: Factor, degree: usize, out: &mut [f64])
-    requires { (degree ≤ 180) × (length out.old ≡ size degree) }
-    ensures { out.new ≡ rows (factor_of f) (degree + 1) }
+fn factor_rows<F: Fn(usize, usize) -> f64>(factor: &F, degree: usize, out: &mut [f64])
+    requires pre { (i j : ℕ) → j ≤ i → i ≤ 180 → F.pre factor.now i j }
+    requires room { (degree ≤ 180) × (length out.old ≡ size degree) }
+    ensures { (f : ℕ → ℕ → Float) → Gives (F.post factor.now) f → out.new ≡ rows f (degree + 1) }
 {
-    let mut n = 0;
-    while n <= degree {
-        let k = tri_of(n);
-        factor_row(f, n, k, out);
-        n += 1;
+    for n in 0..degree + 1 {
+        factor_row(factor, n, numbers::triangle(n), out);
     }
 }
 
 // The table of a factor, where out has its length.
-pub fn tabulate(f: Factor, degree: usize, out: &mut [f64])
-    ensures { out.new ≡ tabulated f degree out.old }
+pub fn tabulate<F: Fn(usize, usize) -> f64>(factor: F, degree: usize, out: &mut [f64])
+    requires { (i j : ℕ) → j ≤ i → i ≤ 180 → F.pre factor i j }
+    ensures { (f : ℕ → ℕ → Float) → Gives (F.post factor) f → out.new ≡ tabulated f degree out.old }
 {
-    if degree > 180 {
-        return;
-    }
-    if out.len() == tri_of(degree + 1) {
-        factor_rows(f, degree, out);
+    if degree <= 180 && out.len() == numbers::triangle(degree + 1) {
+        factor_rows(&factor, degree, out);
     }
 }
 
@@ -154,7 +112,7 @@ fn diagonal_next(m: usize, pmm: f64) -> f64
     if m == 1 {
         return pmm * root::root(3.0);
     }
-    pmm * root::root(float_of(2 * m + 1) / float_of(2 * m))
+    pmm * root::root(numbers::float_of(2 * m + 1) / numbers::float_of(2 * m))
 }
 
 fn diagonal_row(degree: usize, out: &mut [f64])
@@ -162,11 +120,9 @@ fn diagonal_row(degree: usize, out: &mut [f64])
     ensures { out.new ≡ row diagonal (degree + 1) }
 {
     let mut pmm = SCALE;
-    let mut m = 0;
-    while m <= degree {
+    for m in 0..degree + 1 {
         out[m] = pmm;
-        m += 1;
-        pmm = diagonal_next(m, pmm);
+        pmm = diagonal_next(m + 1, pmm);
     }
 }
 
@@ -174,13 +130,13 @@ fn prepare_in(degree: usize, work: &mut [f64])
     requires { (degree ≤ 180) × (8 * size degree ≤ length work.old) }
     ensures { work.new ≡ prepared degree work.old }
 {
-    let l = tri_of(degree + 1);
+    let l = numbers::triangle(degree + 1);
     let l2 = 2 * l;
     let l3 = 3 * l;
     let l4 = 4 * l;
     let end = l4 + (degree + 1);
-    factor_rows(Factor::Lower, degree, &mut work[l2..l3]);
-    factor_rows(Factor::Upper, degree, &mut work[l3..l4]);
+    factor_rows(&lower_of, degree, &mut work[l2..l3]);
+    factor_rows(&upper_of, degree, &mut work[l3..l4]);
     diagonal_row(degree, &mut work[l4..end]);
 }
 
@@ -188,10 +144,7 @@ fn prepare_in(degree: usize, work: &mut [f64])
 pub fn prepare(degree: usize, work: &mut [f64])
     ensures { work.new ≡ prepared degree work.old }
 {
-    if degree > 180 {
-        return;
-    }
-    if 8 * tri_of(degree + 1) <= work.len() {
+    if degree <= 180 && 8 * numbers::triangle(degree + 1) <= work.len() {
         prepare_in(degree, work);
     }
 }
@@ -202,11 +155,9 @@ fn unscale_row(degree: usize, u: f64, r: &mut [f64; 184])
     ensures { Has (degree + 1) (unscale u) r.new }
 {
     let mut x = 1.0 / SCALE;
-    let mut m = 0;
-    while m <= degree {
+    for m in 0..degree + 1 {
         r[m] = x;
-        x = x * u;
-        m += 1;
+        x *= u;
     }
 }
 
@@ -215,12 +166,10 @@ fn order_rows(degree: usize, lon: f64, x: &mut [f64; 184], y: &mut [f64; 184])
     requires { (degree ≤ 180) × (length x.old ≡ 184) × (length y.old ≡ 184) }
     ensures { Has (degree + 1) (cosines lon) x.new × Has (degree + 1) (sines lon) y.new }
 {
-    let mut m = 0;
-    while m <= degree {
-        let z = numbers::sine_cosine(float_of(m) * lon);
+    for m in 0..degree + 1 {
+        let z = numbers::sine_cosine(numbers::float_of(m) * lon);
         x[m] = z.cosine;
         y[m] = z.sine;
-        m += 1;
     }
 }
 
@@ -244,12 +193,10 @@ fn legendre_row(
     ensures has { Has (n + 1) (λ (m : ℕ). next_row n k t head a.now b.now (at q1.now) (at q2.old) m ⊗ at
         r.now m) p.new }
 {
-    let mut m = 0;
-    while m < n {
+    for m in 0..n {
         let q = a[k + m] * t * q1[m] - b[k + m] * q2[m];
         q2[m] = q;
         p[m] = q * r[m];
-        m += 1;
     }
     q2[n] = head;
     p[n] = head * r[n];
@@ -265,10 +212,8 @@ fn derived_row(n: usize, k: usize, lower: &[f64], upper: &[f64], p: &[f64; 184],
         return;
     }
     d[0] = upper[k] * p[1];
-    let mut m = 1;
-    while m < n {
+    for m in 1..n {
         d[m] = -0.5 * (lower[k + m] * p[m - 1] - upper[k + m] * p[m + 1]);
-        m += 1;
     }
     d[n] = -0.5 * (lower[k + n] * p[n - 1] - 0.0);
 }
@@ -299,36 +244,38 @@ fn row_sums(
     let mut v = 0.0;
     let mut lat = 0.0;
     let mut lon = 0.0;
+    // m as a float: counting on is cheaper here than a conversion in each turn
     let mut order = 0.0;
-    let mut m = 0;
-    while m <= n {
+    for m in 0..n + 1 {
         let cm = c[k + m];
         let sm = s[k + m];
         let xm = x[m];
         let ym = y[m];
         let pm = p[m];
         let even = cm * xm + sm * ym;
-        v = v + pm * even;
-        lat = lat + d[m] * even;
-        lon = lon + pm * order * (sm * xm - cm * ym);
-        order = order + 1.0;
-        m += 1;
+        v += pm * even;
+        lat += d[m] * even;
+        lon += pm * order * (sm * xm - cm * ym);
+        order += 1.0;
     }
-    Sums {
-        v: v,
-        lat: lat,
-        lon: lon,
-    }
+    Sums { v, lat, lon }
+}
+
+// The four sums, before the last factors.
+// kept: no Partials, which have the factors
+#[derive(Clone, Copy)]
+pub struct Totals {
+    pub v: f64,
+    pub r: f64,
+    pub lat: f64,
+    pub lon: f64,
 }
 
 // The sums so far, and the ratio's power.
 #[derive(Clone, Copy)]
 pub struct Running {
-    pub v: f64,
-    pub r: f64,
-    pub lat: f64,
-    pub lon: f64,
-    pub qn: f64,
+    pub total: Totals,
+    pub power: f64,
 }
 
 // Where the series is summed: the ratio of the field's radius to the distance, sine and cosine of the latitude, the longitude.
@@ -340,17 +287,29 @@ pub struct Point {
     pub lon: f64,
 }
 
+// The tables that rows are made of: the recursion's factors a and b, the derivative's, and the diagonal.
+#[derive(Clone, Copy)]
+pub struct Tables<'a> {
+    pub a: &'a [f64],
+    pub b: &'a [f64],
+    pub lower: &'a [f64],
+    pub upper: &'a [f64],
+    pub heads: &'a [f64],
+}
+
+// The terms of a series: the coefficients c and s, with the rows of the tables, at a point.
+#[derive(Clone, Copy)]
+pub struct Terms<'a> {
+    pub point: Point,
+    pub tables: Tables<'a>,
+    pub c: &'a [f64],
+    pub s: &'a [f64],
+}
+
 // One degree: row n in the place of row n - 2, and its sums added.
 fn one_row(
     n: usize,
-    point: Point,
-    a: &[f64],
-    b: &[f64],
-    lower: &[f64],
-    upper: &[f64],
-    heads: &[f64],
-    c: &[f64],
-    s: &[f64],
+    terms: &Terms<'_>,
     x: &[f64; 184],
     y: &[f64; 184],
     r: &[f64; 184],
@@ -360,43 +319,35 @@ fn one_row(
     d: &mut [f64; 184],
     sum: Running,
 ) -> Running
-    requires { (n ≤ 180) × Room n (tables_of a.now b.now lower.now upper.now heads.now)
-        × FieldRoom n (evaluation_at point (tables_of a.now b.now lower.now upper.now heads.now) c.now s.now)
-        × Has (n + 1) (unscale point.cosine) r.now
-        × Holds (tables_of a.now b.now lower.now upper.now heads.now) point.sine (suc n) q1.now
-        × Holds (tables_of a.now b.now lower.now upper.now heads.now) point.sine n q2.old × (length p.old ≡ 184) × (length d.old ≡ 184)
-        × AllSums (evaluation_at point (tables_of a.now b.now lower.now upper.now heads.now) c.now s.now) point.ratio n
-        sum.v sum.r sum.lat sum.lon sum.qn × Has (n + 1) (cosines point.lon) x.now × Has (n + 1) (sines point.lon) y.now }
-    ensures { Holds (tables_of a.now b.now lower.now upper.now heads.now) point.sine
-        (suc (suc n)) q2.new × (length p.new ≡ 184) × (length d.new ≡ 184)
-        × AllSums (evaluation_at point (tables_of a.now b.now lower.now upper.now heads.now)
-        c.now s.now) point.ratio (n + 1) result.v result.r result.lat result.lon result.qn }
+    requires { (n ≤ 180) × Room n (lent terms.now.tables) × FieldRoom n (evaluation_of terms.now) × Has (n + 1) (unscale terms.now.point.cosine) r.now
+        × Holds (lent terms.now.tables) terms.now.point.sine (suc n) q1.now × Holds (lent terms.now.tables) terms.now.point.sine n q2.old × (length p.old ≡ 184)
+        × (length d.old ≡ 184) × AllSums (evaluation_of terms.now) terms.now.point.ratio n sum.total.v sum.total.r sum.total.lat sum.total.lon sum.power
+        × Has (n + 1) (cosines terms.now.point.lon) x.now × Has (n + 1) (sines terms.now.point.lon) y.now }
+    ensures { Holds (lent terms.now.tables) terms.now.point.sine (suc (suc n)) q2.new × (length p.new ≡ 184) × (length d.new ≡ 184)
+        × AllSums (evaluation_of terms.now) terms.now.point.ratio (n + 1) result.total.v result.total.r result.total.lat result.total.lon result.power }
 {
-    let w = float_of(n + 1);
-    let k = tri_of(n);
-    legendre_row(n, k, point.sine, heads[n], a, b, r, q1, q2, p);
-    derived_row(n, k, lower, upper, p, d);
-    let z = row_sums(n, k, c, s, x, y, p, d);
+    let w = numbers::float_of(n + 1);
+    let k = numbers::triangle(n);
+    let t = &terms.tables;
+    legendre_row(n, k, terms.point.sine, t.heads[n], t.a, t.b, r, q1, q2, p);
+    derived_row(n, k, t.lower, t.upper, p, d);
+    let z = row_sums(n, k, terms.c, terms.s, x, y, p, d);
+    let total = Totals {
+        v: sum.total.v + sum.power * z.v,
+        r: sum.total.r - w * sum.power * z.v,
+        lat: sum.total.lat + sum.power * z.lat,
+        lon: sum.total.lon + sum.power * z.lon,
+    };
     Running {
-        v: sum.v + sum.qn * z.v,
-        r: sum.r - w * sum.qn * z.v,
-        lat: sum.lat + sum.qn * z.lat,
-        lon: sum.lon + sum.qn * z.lon,
-        qn: sum.qn * point.ratio,
+        total,
+        power: sum.power * terms.point.ratio,
     }
 }
 
 // All degrees, two a turn: qa holds the rows of even degree, qb those of odd.
 fn all_rows(
     degree: usize,
-    point: Point,
-    a: &[f64],
-    b: &[f64],
-    lower: &[f64],
-    upper: &[f64],
-    heads: &[f64],
-    c: &[f64],
-    s: &[f64],
+    terms: &Terms<'_>,
     x: &[f64; 184],
     y: &[f64; 184],
     r: &[f64; 184],
@@ -405,78 +356,36 @@ fn all_rows(
     p: &mut [f64; 184],
     d: &mut [f64; 184],
 ) -> Running
-    requires { (degree ≤ 180) × Room degree (tables_of a.now b.now lower.now upper.now heads.now)
-        × FieldRoom degree (evaluation_at point (tables_of a.now b.now lower.now upper.now heads.now) c.now s.now)
-        × Has (degree + 1) (unscale point.cosine) r.now × Holds (tables_of a.now b.now lower.now upper.now heads.now) point.sine 0 qa.old
-        × Holds (tables_of a.now b.now lower.now upper.now heads.now) point.sine 1 qb.old × (length p.old ≡ 184) × (length d.old ≡ 184)
-        × Has (degree + 1) (cosines point.lon) x.now × Has (degree + 1) (sines point.lon) y.now }
-    ensures { AllSums (evaluation_at point (tables_of a.now b.now lower.now upper.now heads.now)
-        c.now s.now) point.ratio (degree + 1) result.v result.r result.lat result.lon result.qn }
+    requires { (degree ≤ 180) × Room degree (lent terms.now.tables) × FieldRoom degree (evaluation_of terms.now)
+        × Has (degree + 1) (unscale terms.now.point.cosine) r.now × Holds (lent terms.now.tables) terms.now.point.sine 0 qa.old
+        × Holds (lent terms.now.tables) terms.now.point.sine 1 qb.old × (length p.old ≡ 184) × (length d.old ≡ 184)
+        × Has (degree + 1) (cosines terms.now.point.lon) x.now × Has (degree + 1) (sines terms.now.point.lon) y.now }
+    ensures { AllSums (evaluation_of terms.now) terms.now.point.ratio (degree + 1) result.total.v result.total.r result.total.lat
+        result.total.lon result.power }
 {
-    let mut sum = Running {
+    let none = Totals {
         v: 0.0,
         r: 0.0,
         lat: 0.0,
         lon: 0.0,
-        qn: 1.0,
     };
-    let mut n = 0;
-    while n <= degree {
-        sum = one_row(
-            n, point, a, b, lower, upper, heads, c, s, x, y, r, qb, qa, p, d, sum,
-        );
+    let mut sum = Running {
+        total: none,
+        power: 1.0,
+    };
+    for n in (0..degree + 1).step_by(2) {
+        sum = one_row(n, terms, x, y, r, qb, qa, p, d, sum);
         if n == degree {
             return sum;
         }
-        sum = one_row(
-            n + 1,
-            point,
-            a,
-            b,
-            lower,
-            upper,
-            heads,
-            c,
-            s,
-            x,
-            y,
-            r,
-            qa,
-            qb,
-            p,
-            d,
-            sum,
-        );
-        n += 2;
+        sum = one_row(n + 1, terms, x, y, r, qa, qb, p, d, sum);
     }
     sum
 }
 
-// The four sums, before the last factors.
-#[derive(Clone, Copy)]
-pub struct Totals {
-    pub v: f64,
-    pub r: f64,
-    pub lat: f64,
-    pub lon: f64,
-}
-
-fn streamed(
-    degree: usize,
-    point: Point,
-    a: &[f64],
-    b: &[f64],
-    lower: &[f64],
-    upper: &[f64],
-    heads: &[f64],
-    c: &[f64],
-    s: &[f64],
-) -> Totals
-    requires { (degree ≤ 180) × Room degree (tables_of a.now b.now lower.now upper.now heads.now)
-        × FieldRoom degree (evaluation_at point (tables_of a.now b.now lower.now upper.now heads.now) c.now s.now) }
-    ensures { result ≡ totals_of (degrees (evaluation_at point
-        (tables_of a.now b.now lower.now upper.now heads.now) c.now s.now))
-        point.ratio (degree + 1) }
+fn streamed(degree: usize, terms: &Terms<'_>) -> Totals
+    requires { (degree ≤ 180) × Room degree (lent terms.now.tables) × FieldRoom degree (evaluation_of terms.now) }
+    ensures { result ≡ totals_of (degrees (evaluation_of terms.now)) terms.now.point.ratio (degree + 1) }
 {
     let mut r = [0.0; 184];
     let mut x = [0.0; 184];
@@ -485,18 +394,10 @@ fn streamed(
     let mut qb = [0.0; 184];
     let mut p = [0.0; 184];
     let mut d = [0.0; 184];
-    unscale_row(degree, point.cosine, &mut r);
-    order_rows(degree, point.lon, &mut x, &mut y);
-    let z = all_rows(
-        degree, point, a, b, lower, upper, heads, c, s, &x, &y, &r, &mut qa, &mut qb, &mut p,
-        &mut d,
-    );
-    Totals {
-        v: z.v,
-        r: z.r,
-        lat: z.lat,
-        lon: z.lon,
-    }
+    unscale_row(degree, terms.point.cosine, &mut r);
+    order_rows(degree, terms.point.lon, &mut x, &mut y);
+    let z = all_rows(degree, terms, &x, &y, &r, &mut qa, &mut qb, &mut p, &mut d);
+    z.total
 }
 
 // The potential and its derivatives by radius, latitude and longitude.
@@ -515,8 +416,27 @@ fn fits(degree: usize, a: usize, b: usize, work: usize) -> bool
     if degree > 180 {
         return false;
     }
-    let l = tri_of(degree + 1);
-    slices::both(a == l, slices::both(b == l, 8 * l <= work))
+    let l = numbers::triangle(degree + 1);
+    a == l && (b == l && 8 * l <= work)
+}
+
+// The tables a and b, and those that stand in a prepared work slice behind C and S.
+fn tables_in<'a>(degree: usize, a: &'a [f64], b: &'a [f64], work: &'a [f64]) -> Tables<'a>
+    requires { Fits degree (length a.now) (length b.now) (length work.now) }
+    ensures { lent result ≡ tables_in degree a.now b.now work.now }
+{
+    let l = numbers::triangle(degree + 1);
+    let l2 = 2 * l;
+    let l3 = 3 * l;
+    let l4 = 4 * l;
+    let end = l4 + (degree + 1);
+    Tables {
+        a,
+        b,
+        lower: &work[l2..l3],
+        upper: &work[l3..l4],
+        heads: &work[l4..end],
+    }
 }
 
 fn partials_in(
@@ -533,11 +453,8 @@ fn partials_in(
     requires { Fits degree (length a.now) (length b.now) (length work.now) }
     ensures { result ≡ partials_with degree gm radius a.now b.now work.now r lat lon }
 {
-    let l = tri_of(degree + 1);
+    let l = numbers::triangle(degree + 1);
     let l2 = 2 * l;
-    let l3 = 3 * l;
-    let l4 = 4 * l;
-    let end = l4 + (degree + 1);
     let w = numbers::sine_cosine(lat);
     let point = Point {
         ratio: radius / r,
@@ -545,17 +462,13 @@ fn partials_in(
         cosine: w.cosine,
         lon: lon,
     };
-    let z = streamed(
-        degree,
+    let terms = Terms {
         point,
-        a,
-        b,
-        &work[l2..l3],
-        &work[l3..l4],
-        &work[l4..end],
-        &work[0..l],
-        &work[l..l2],
-    );
+        tables: tables_in(degree, a, b, work),
+        c: &work[0..l],
+        s: &work[l..l2],
+    };
+    let z = streamed(degree, &terms);
     let gmr = gm / r;
     Partials {
         v: gmr * z.v,
@@ -595,10 +508,8 @@ fn store_row(n: usize, k: usize, x: &[f64; 184], out: &mut [f64])
     requires { (n ≤ 180) × (k + (n + 1) ≤ length out.old) × (length x.now ≡ 184) }
     ensures { take (k + (n + 1)) out.new ≡ take k out.old ++ row (at x.now) (n + 1) }
 {
-    let mut m = 0;
-    while m <= n {
+    for m in 0..n + 1 {
         out[k + m] = x[m];
-        m += 1;
     }
 }
 
@@ -607,10 +518,8 @@ fn load_row(n: usize, k: usize, p: &[f64], x: &mut [f64; 184])
     requires { (n ≤ 180) × (k + n < length p.now) × (length x.old ≡ 184) }
     ensures { Has (n + 1) (from p.now k) x.new }
 {
-    let mut m = 0;
-    while m <= n {
+    for m in 0..n + 1 {
         x[m] = p[k + m];
-        m += 1;
     }
 }
 
@@ -649,11 +558,9 @@ fn derive_rows(
         × (length x.old ≡ 184) × (length d.old ≡ 184) × (length dp.old ≡ size degree) }
     ensures { dp.new ≡ rows (derived_from lower.now upper.now p.now) (degree + 1) }
 {
-    let mut n = 0;
-    while n <= degree {
-        let k = tri_of(n);
+    for n in 0..degree + 1 {
+        let k = numbers::triangle(n);
         derive_one(n, k, lower, upper, p, x, d, dp);
-        n += 1;
     }
 }
 
@@ -661,7 +568,7 @@ fn derive_in(degree: usize, p: &[f64], work: &[f64], dp: &mut [f64])
     requires { Fits degree (length p.now) (length dp.old) (length work.now) }
     ensures { dp.new ≡ derived_with degree p.now work.now dp.old }
 {
-    let l = tri_of(degree + 1);
+    let l = numbers::triangle(degree + 1);
     let l2 = 2 * l;
     let l3 = 3 * l;
     let l4 = 4 * l;
@@ -684,11 +591,7 @@ fn compute_one(
     n: usize,
     t: f64,
     u: f64,
-    a: &[f64],
-    b: &[f64],
-    lower: &[f64],
-    upper: &[f64],
-    heads: &[f64],
+    tables: Tables<'_>,
     r: &[f64; 184],
     q1: &[f64; 184],
     q2: &mut [f64; 184],
@@ -697,20 +600,16 @@ fn compute_one(
     p: &mut [f64],
     dp: &mut [f64],
 )
-    requires { (n ≤ 180) × Room n (tables_of a.now b.now lower.now upper.now heads.now) × Has (n + 1) (unscale u) r.now
-        × Holds (tables_of a.now b.now lower.now upper.now heads.now) t (suc n) q1.now
-        × Holds (tables_of a.now b.now lower.now upper.now heads.now) t n q2.old × (length x.old ≡ 184) × (length d.old ≡ 184)
+    requires { (n ≤ 180) × Room n (lent tables) × Has (n + 1) (unscale u) r.now × Holds (lent tables) t (suc n) q1.now
+        × Holds (lent tables) t n q2.old × (length x.old ≡ 184) × (length d.old ≡ 184)
         × (tri n + (n + 1) ≤ length p.old) × (tri n + (n + 1) ≤ length dp.old) }
-    ensures { Holds (tables_of a.now b.now lower.now upper.now heads.now) t (suc (suc n))
-        q2.new × (length x.new ≡ 184) × (length d.new ≡ 184)
-        × (take (tri n + (n + 1)) p.new ≡ take (tri n) p.old ++ row
-        (legendre_by (tables_of a.now b.now lower.now upper.now heads.now) t u n) (n + 1))
-        × (take (tri n + (n + 1)) dp.new ≡ take (tri n) dp.old ++ row
-        (derived_by (tables_of a.now b.now lower.now upper.now heads.now) t u n) (n + 1)) }
+    ensures { Holds (lent tables.entry) t (suc (suc n)) q2.new × (length x.new ≡ 184) × (length d.new ≡ 184)
+        × (take (tri n + (n + 1)) p.new ≡ take (tri n) p.old ++ row (legendre_by (lent tables.entry) t u n) (n + 1))
+        × (take (tri n + (n + 1)) dp.new ≡ take (tri n) dp.old ++ row (derived_by (lent tables.entry) t u n) (n + 1)) }
 {
-    let k = tri_of(n);
-    legendre_row(n, k, t, heads[n], a, b, r, q1, q2, x);
-    derived_row(n, k, lower, upper, x, d);
+    let k = numbers::triangle(n);
+    legendre_row(n, k, t, tables.heads[n], tables.a, tables.b, r, q1, q2, x);
+    derived_row(n, k, tables.lower, tables.upper, x, d);
     store_row(n, k, x, p);
     store_row(n, k, d, dp);
 }
@@ -720,11 +619,7 @@ fn compute_rows(
     degree: usize,
     t: f64,
     u: f64,
-    a: &[f64],
-    b: &[f64],
-    lower: &[f64],
-    upper: &[f64],
-    heads: &[f64],
+    tables: Tables<'_>,
     r: &[f64; 184],
     qa: &mut [f64; 184],
     qb: &mut [f64; 184],
@@ -733,39 +628,17 @@ fn compute_rows(
     p: &mut [f64],
     dp: &mut [f64],
 )
-    requires { (degree ≤ 180) × Room degree (tables_of a.now b.now lower.now upper.now heads.now) × Has (degree + 1) (unscale u) r.now
-        × Holds (tables_of a.now b.now lower.now upper.now heads.now) t 0 qa.old
-        × Holds (tables_of a.now b.now lower.now upper.now heads.now) t 1 qb.old × (length x.old ≡ 184) × (length d.old ≡ 184)
+    requires { (degree ≤ 180) × Room degree (lent tables) × Has (degree + 1) (unscale u) r.now × Holds (lent tables) t 0 qa.old
+        × Holds (lent tables) t 1 qb.old × (length x.old ≡ 184) × (length d.old ≡ 184)
         × (length p.old ≡ size degree) × (length dp.old ≡ size degree) }
-    ensures { (p.new ≡ rows (legendre_by
-        (tables_of a.now b.now lower.now upper.now heads.now) t u) (degree + 1))
-        × (dp.new ≡ rows (derived_by (tables_of a.now b.now lower.now upper.now heads.now) t u)
-        (degree + 1)) }
+    ensures { (p.new ≡ rows (legendre_by (lent tables.entry) t u) (degree + 1)) × (dp.new ≡ rows (derived_by (lent tables.entry) t u) (degree + 1)) }
 {
-    let mut n = 0;
-    while n <= degree {
-        compute_one(n, t, u, a, b, lower, upper, heads, r, qb, qa, x, d, p, dp);
+    for n in (0..degree + 1).step_by(2) {
+        compute_one(n, t, u, tables, r, qb, qa, x, d, p, dp);
         if n == degree {
             return;
         }
-        compute_one(
-            n + 1,
-            t,
-            u,
-            a,
-            b,
-            lower,
-            upper,
-            heads,
-            r,
-            qa,
-            qb,
-            x,
-            d,
-            p,
-            dp,
-        );
-        n += 2;
+        compute_one(n + 1, t, u, tables, r, qa, qb, x, d, p, dp);
     }
 }
 
@@ -782,11 +655,7 @@ fn compute_in(
     ensures { (p.new ≡ legendre_with degree a.now b.now work.now lat p.old dp.old)
         × (dp.new ≡ derivative_with degree a.now b.now work.now lat p.old dp.old) }
 {
-    let l = tri_of(degree + 1);
-    let l2 = 2 * l;
-    let l3 = 3 * l;
-    let l4 = 4 * l;
-    let end = l4 + (degree + 1);
+    let tables = tables_in(degree, a, b, work);
     let w = numbers::sine_cosine(lat);
     let mut r = [0.0; 184];
     let mut qa = [0.0; 184];
@@ -795,21 +664,7 @@ fn compute_in(
     let mut d = [0.0; 184];
     unscale_row(degree, w.cosine, &mut r);
     compute_rows(
-        degree,
-        w.sine,
-        w.cosine,
-        a,
-        b,
-        &work[l2..l3],
-        &work[l3..l4],
-        &work[l4..end],
-        &r,
-        &mut qa,
-        &mut qb,
-        &mut x,
-        &mut d,
-        p,
-        dp,
+        degree, w.sine, w.cosine, tables, &r, &mut qa, &mut qb, &mut x, &mut d, p, dp,
     );
 }
 
@@ -826,10 +681,7 @@ pub fn compute(
     ensures { (p.new ≡ legendre_with degree a.now b.now work.now lat p.old dp.old)
         × (dp.new ≡ derivative_with degree a.now b.now work.now lat p.old dp.old) }
 {
-    if slices::both(
-        fits(degree, a.len(), b.len(), work.len()),
-        fits(degree, p.len(), dp.len(), work.len()),
-    ) {
+    if fits(degree, a.len(), b.len(), work.len()) && fits(degree, p.len(), dp.len(), work.len()) {
         compute_in(degree, a, b, work, lat, p, dp);
     }
 }

@@ -4,7 +4,7 @@ use mathlib.Core.Bool.{Bool, true, not}
 use mathlib.Core.List.{List, [], ◌∷◌}
 use lib.Dec.{eqb}
 use lib.Ieee.{Float, binary64, add, sub, mul, div, neg, sum, round, lt, le, of_bits, of_int, of_fields, to_bits}
-use Rattle.laws.specs.Checks.{all}
+use Rattle.std.specs.List.{list_all}
 use Rattle.laws.specs.WholeNumbers.{number}
 use Rattle.laws.specs.Times.{end}
 use Rattle.finality.specs.Brackets.{covers}
@@ -15,7 +15,7 @@ times = number 0 ∷ number 10800 ∷ number 21600 ∷ []
 
 -- t = 10800 takes the second field, with weight +0.0; t = 5400 the first, with weight 0.5; 21600 is uncovered, 0 covered
 pub model_instances :
-    all (λ (b : Bool). b) (
+    list_all (λ (b : Bool). b) (
     eqb (bracket times (number 10800)) 1
     ∷ eqb (to_bits binary64 (weight times (number 10800) 1)) 0
     ∷ eqb (bracket times (number 5400)) 0

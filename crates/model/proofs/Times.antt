@@ -1,14 +1,15 @@
 -- Laws of cover, bracket and weight as the code walks them. Assumes nothing.
 use mathlib.Core.Path.{◌≡◌, refl, sym, ap, ◌∙◌}
 use mathlib.Core.List.{List, [], ◌∷◌}
-use mathlib.Core.Bool.{Bool, true, false, cond, ◌&&◌}
-use mathlib.Core.Option.{Option, some}
+use mathlib.Core.Bool.{Bool, true, false, not, cond, ◌&&◌}
+use borrow.Author.Tests.{not-true, not-false}
+use Rattle.std.proofs.Common.{Option, Some}
 use Prim.Native.Nat.{ℕ, suc, ◌+◌, ◌-◌, ◌*◌, ◌<◌, ◌≤◌}
 use native.Mathlib.Nat.{mul-le-mul_right}
 use native.Mathlib.Omega.{arith}
 use lib.ListN.{length, drop, get_or, length-drop, get_or-eq_default}
-use lib.Ieee.{Float, nan, inf, fin, add, sub, div, le, lt, of_bits, of_fields}
-use Rattle.laws.specs.Floats.{◌⊖◌, ◌⊘◌, zero64}
+use lib.Ieee.{Float, binary64, nan, inf, fin, add, sub, div, le, lt, of_bits, of_fields}
+use Rattle.laws.specs.Floats.{◌⊖◌, ◌⊘◌}
 use Rattle.laws.specs.Loops.{head_at}
 use Rattle.laws.specs.Times.{end, precedes}
 use Rattle.finality.specs.Brackets.{covers}
@@ -16,7 +17,7 @@ use Rattle.model.specs.Model.{bracket, weight}
 
 -- ---- covered times
 
-end_is : (a : Float) (ts : List Float) → end (λ (u : Float). u) (a ∷ ts) ≡ some (get_or (a ∷ ts) (length ts) nan)
+end_is : (a : Float) (ts : List Float) → end (λ (u : Float). u) (a ∷ ts) ≡ Some (get_or (a ∷ ts) (length ts) nan)
 unfolding end
 end_is a [] = refl
 end_is a (b ∷ ts) = end_is b ts
@@ -34,12 +35,6 @@ unfolding covers
 covers_none [] t h = refl
 covers_none (a ∷ ts) t h = absurd (omega arith)
 
-pub covers_goes : (ts : List Float) (t : Float) → (length ts ≡ 0 → ⊥) → le (get_or ts 0 nan) t ≡ true → lt t (get_or ts (length ts - 1) nan) ≡ covers ts t
-covers_goes ts t h e = sym (covers_is ts t (omega arith) ∙ ap (λ (b : Bool). b && lt t (get_or ts (length ts - 1) nan)) e)
-
-pub covers_stops : (ts : List Float) (t : Float) → (length ts ≡ 0 → ⊥) → le (get_or ts 0 nan) t ≡ false → false ≡ covers ts t
-covers_stops ts t h e = sym (covers_is ts t (omega arith) ∙ ap (λ (b : Bool). b && lt t (get_or ts (length ts - 1) nan)) e)
-
 -- ---- the bracket
 
 bracket_at : (ts : List Float) (t : Float) (j : ℕ) → 2 < length ts - j → bracket (drop j ts) t ≡ cond (le (get_or ts (j + 1) nan) t) (suc (bracket (drop (j + 1) ts) t)) 0
@@ -53,16 +48,18 @@ bracket_at ts t j h =
     ∙ ap (λ (l : List Float). cond (le u t) (suc (bracket l t)) 0) (sym e)
 
 -- the next field, not the last, is at or before t
-pub bracket_goes : (ts : List Float) (t : Float) (j g : ℕ) → 2 < length ts - j → le (get_or ts (j + 1) nan) t ≡ true → j + bracket (drop j ts) t ≡ g →
+pub bracket_goes : (ts : List Float) (t : Float) (j g : ℕ) → j < length ts - 2 → not (le (get_or ts (j + 1) nan) t) ≡ false → j + bracket (drop j ts) t ≡ g →
     j + 1 + bracket (drop (j + 1) ts) t ≡ g
 bracket_goes ts t j g h e inv =
-    let s : bracket (drop j ts) t ≡ suc (bracket (drop (j + 1) ts) t) = bracket_at ts t j h ∙ ap (λ (b : Bool). cond b (suc (bracket (drop (j + 1) ts) t)) 0) e in
+    let s : bracket (drop j ts) t ≡ suc (bracket (drop (j + 1) ts) t) =
+    bracket_at ts t j (omega arith) ∙ ap (λ (b : Bool). cond b (suc (bracket (drop (j + 1) ts) t)) 0) (not-false (le (get_or ts (j + 1) nan) t) e) in
     omega arith
 
 -- it is not
-pub bracket_stops : (ts : List Float) (t : Float) (j g : ℕ) → 2 < length ts - j → le (get_or ts (j + 1) nan) t ≡ false → j + bracket (drop j ts) t ≡ g → j ≡ g
+pub bracket_stops : (ts : List Float) (t : Float) (j g : ℕ) → j < length ts - 2 → not (le (get_or ts (j + 1) nan) t) ≡ true → j + bracket (drop j ts) t ≡ g → j ≡ g
 bracket_stops ts t j g h e inv =
-    let s : bracket (drop j ts) t ≡ 0 = bracket_at ts t j h ∙ ap (λ (b : Bool). cond b (suc (bracket (drop (j + 1) ts) t)) 0) e in
+    let s : bracket (drop j ts) t ≡ 0 =
+    bracket_at ts t j (omega arith) ∙ ap (λ (b : Bool). cond b (suc (bracket (drop (j + 1) ts) t)) 0) (not-true (le (get_or ts (j + 1) nan) t) e) in
     omega arith
 
 bracket_few : (ts : List Float) (t : Float) → length ts ≤ 2 → bracket ts t ≡ 0
@@ -72,9 +69,9 @@ bracket_few (a ∷ []) t h = refl
 bracket_few (a ∷ b ∷ []) t h = refl
 bracket_few (a ∷ b ∷ c ∷ ts) t h = absurd (omega arith)
 
-pub bracket_done : (ts : List Float) (t : Float) (j g : ℕ) → length ts - j ≤ 2 → j + bracket (drop j ts) t ≡ g → j ≡ g
+pub bracket_done : (ts : List Float) (t : Float) (j g : ℕ) → length ts - 2 ≤ j → j + bracket (drop j ts) t ≡ g → j ≡ g
 bracket_done ts t j g h inv =
-    let s : bracket (drop j ts) t ≡ 0 = bracket_few (drop j ts) t (simp length-drop h) in
+    let s : bracket (drop j ts) t ≡ 0 = bracket_few (drop j ts) t (simp length-drop (omega arith)) in
     omega arith
 
 -- ---- NaN
@@ -91,12 +88,12 @@ nan_sub nan = refl
 nan_sub (inf s) = refl
 nan_sub (fin s m e) = refl
 
-none_is : zero64 ⊘ zero64 ≡ nan
-unfolding div of_bits of_fields
+none_is : of_bits binary64 0x7ff8000000000000 ≡ nan
+unfolding of_bits of_fields
 none_is = refl
 
 -- the next field is missing
-pub weight_last : (ts : List Float) (t : Float) (j : ℕ) → length ts ≤ j + 1 → zero64 ⊘ zero64 ≡ weight ts t j
+pub weight_last : (ts : List Float) (t : Float) (j : ℕ) → length ts ≤ j + 1 → of_bits binary64 0x7ff8000000000000 ≡ weight ts t j
 unfolding weight
 weight_last ts t j h =
     let a : Float = get_or ts j nan in

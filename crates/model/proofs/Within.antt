@@ -18,7 +18,8 @@ use Rattle.laws.specs.WholeNumbers.{between}
 use Rattle.laws.specs.Times.{Time, bound}
 use Rattle.laws.specs.Quotient.{unit}
 use Rattle.laws.specs.Weight.{weight_between}
-use Rattle.laws.specs.Checks.{all, is_time, rising, time_says}
+use Rattle.std.specs.List.{list_all}
+use Rattle.laws.specs.Checks.{is_time, rising, time_says}
 use Rattle.finality.specs.Brackets.{covers}
 use Rattle.model.specs.Model.{bracket, weight}
 use Rattle.model.proofs.Times.{covers_is, bracket_room, weight_last}
@@ -43,10 +44,10 @@ rising_lt (a ∷ l) i zero h g m = absurd (omega arith)
 rising_lt (a ∷ l) zero (suc k) h g m = rising_up a l k h (le_of_suc-le-suc m)
 rising_lt (a ∷ l) (suc i) (suc k) h g m = rising_lt l i k (rising_tail a l h) (le_of_suc-le-suc g) (le_of_suc-le-suc m)
 
-pub all_at : (p : Float → Bool) (l : List Float) (i : ℕ) → T (all p l) → i < length l → T (p (get_or l i nan))
+pub all_at : (p : Float → Bool) (l : List Float) (i : ℕ) → T (list_all p l) → i < length l → T (p (get_or l i nan))
 all_at p [] i h g = absurd (omega arith)
-all_at p (a ∷ l) zero h g = and_l (p a) (all p l) h
-all_at p (a ∷ l) (suc i) h g = all_at p l i (and_r (p a) (all p l) h) (le_of_suc-le-suc g)
+all_at p (a ∷ l) zero h g = and_l (p a) (list_all p l) h
+all_at p (a ∷ l) (suc i) h g = all_at p l i (and_r (p a) (list_all p l) h) (le_of_suc-le-suc g)
 
 -- ---- the bracket
 
@@ -64,24 +65,24 @@ bracket_below (a ∷ b ∷ c ∷ ts) t h = go (le b t) (bracket_below (b ∷ c �
     go true g = g tt
     go false g = h
 
-pub bracket_above : (ts : List Float) (t : Float) (k : ℕ) → k + 1 ≡ length ts → 2 ≤ length ts → T (all real ts) → T (real t) → T (lt t (get_or ts k nan)) → T (lt t (get_or ts (suc (bracket ts t)) nan))
+pub bracket_above : (ts : List Float) (t : Float) (k : ℕ) → k + 1 ≡ length ts → 2 ≤ length ts → T (list_all real ts) → T (real t) → T (lt t (get_or ts k nan)) → T (lt t (get_or ts (suc (bracket ts t)) nan))
 unfolding bracket
 bracket_above [] t k e m r q h = absurd (omega arith)
 bracket_above (a ∷ []) t k e m r q h = absurd (omega arith)
 bracket_above (a ∷ b ∷ []) t k e m r q h = let f : k ≡ 1 = omega arith in subst (λ (i : ℕ). T (lt t (get_or (a ∷ b ∷ []) i nan))) f h
 bracket_above (a ∷ b ∷ c ∷ ts) t zero e m r q h = absurd (omega arith)
-bracket_above (a ∷ b ∷ c ∷ ts) t (suc k) e m r q h = go (le b t) refl (bracket_above (b ∷ c ∷ ts) t k (omega arith) (omega arith) (and_r (real a) (all real (b ∷ c ∷ ts)) r) q h)
+bracket_above (a ∷ b ∷ c ∷ ts) t (suc k) e m r q h = go (le b t) refl (bracket_above (b ∷ c ∷ ts) t k (omega arith) (omega arith) (and_r (real a) (list_all real (b ∷ c ∷ ts)) r) q h)
   where
     go : (x : Bool) → le b t ≡ x → T (lt t (get_or (b ∷ c ∷ ts) (suc (bracket (b ∷ c ∷ ts) t)) nan)) → T (lt t (get_or (a ∷ b ∷ c ∷ ts) (suc (cond x (suc (bracket (b ∷ c ∷ ts) t)) 0)) nan))
     go true f g = g
-    go false f g = nle→lt b t (and_l (real b) (all real (c ∷ ts)) (and_r (real a) (all real (b ∷ c ∷ ts)) r)) q (subst (λ (x : Bool). T (not x)) (sym f) tt)
+    go false f g = nle→lt b t (and_l (real b) (list_all real (c ∷ ts)) (and_r (real a) (list_all real (b ∷ c ∷ ts)) r)) q (subst (λ (x : Bool). T (not x)) (sym f) tt)
 
 -- ---- the weight
 
-time_real : (l : List Float) → T (all is_time l) → T (all real l)
+time_real : (l : List Float) → T (list_all is_time l) → T (list_all real l)
 time_real [] h = tt
 time_real (a ∷ l) h =
-    and_i (real a) (all real l) (le_real_r zero⁺ a (time_says a (and_l (is_time a) (all is_time l) h)).from_zero) (time_real l (and_r (is_time a) (all is_time l) h))
+    and_i (real a) (list_all real l) (le_real_r zero⁺ a (time_says a (and_l (is_time a) (list_all is_time l) h)).from_zero) (time_real l (and_r (is_time a) (list_all is_time l) h))
 
 one_same : one64 ≡ unit
 unfolding of_bits of_fields
@@ -112,7 +113,7 @@ time_between a t b ta tb h k = record {
 }
 
 -- at a covered t; a slice's numbers all fit binary64
-pub weight_within : (ts : List Float) (t : Float) → T (rising ts) → T (all is_time ts) → ((i : ℕ) → i < length ts → T (fits binary64 (get_or ts i nan))) → T (covers ts t) →
+pub weight_within : (ts : List Float) (t : Float) → T (rising ts) → T (list_all is_time ts) → ((i : ℕ) → i < length ts → T (fits binary64 (get_or ts i nan))) → T (covers ts t) →
     T (le zero64 (weight ts t (bracket ts t))) × T (le (weight ts t (bracket ts t)) one64)
 unfolding weight
 weight_within ts t r y f h =
@@ -135,13 +136,13 @@ weight_within ts t r y f h =
 -- ---- the kernel's contract
 
 -- field j or the next is missing, so that j is no bracket of a covered t
-pub weighed_last : (ts : List Float) (t : Float) (j : ℕ) → length ts ≤ j + 1 → Weighed ts t j (zero64 ⊘ zero64)
+pub weighed_last : (ts : List Float) (t : Float) (j : ℕ) → length ts ≤ j + 1 → Weighed ts t j (of_bits binary64 0x7ff8000000000000)
 weighed_last ts t j h = record {
   is = weight_last ts t j h;
   within = λ r y k e. absurd (let room = bracket_room ts t (covered_two ts t k) in omega arith);
 }
 
-pub weighed_out : (ts : List Float) (t : Float) (j : ℕ) → length ts ≤ j → Weighed ts t j (zero64 ⊘ zero64)
+pub weighed_out : (ts : List Float) (t : Float) (j : ℕ) → length ts ≤ j → Weighed ts t j (of_bits binary64 0x7ff8000000000000)
 weighed_out ts t j h = weighed_last ts t j (omega arith)
 
 pub weighed : (ts : List Float) (t : Float) (j : ℕ) → ((i : ℕ) → i < length ts → T (fits binary64 (get_or ts i nan))) → Weighed ts t j (weight ts t j)

@@ -9,7 +9,11 @@ ghost use Rattle.numbers.specs.Numbers.{carried, power, horner, alternating, dow
 ghost use Rattle.numbers.specs.Numbers.{arctangent, arcsine, sine_near, cosine_near, near, rounded, quarter, rest, sine_at, cosine_at, sine, cosine};
 ghost use Rattle.numbers.specs.Numbers.{sine_cosine_at, sine_cosine, halved, half_pi};
 ghost use Rattle.laws.specs.Floats.{◌⊘◌, zero64};
+ghost use Rattle.laws.specs.WholeNumbers.{number};
+ghost use Rattle.laws.specs.Tables.{tri};
 ghost use Rattle.numbers.specs.Seconds.{whole_second};
+
+use std::f64::consts::{FRAC_PI_2, FRAC_PI_4, PI};
 
 // 2! to 16!
 const FACTORIALS: [f64; 15] = [
@@ -36,16 +40,10 @@ const ODDS: [f64; 21] = [
     35.0, 37.0, 39.0, 41.0, 43.0,
 ];
 
-// Document 01's H, and its parts A and B.
-const HALF_PI: f64 = 1.5707963267948966;
-
+// Document 01's H is `FRAC_PI_2`; its parts A and B.
 const HALF_PI_HIGH: f64 = 1.5707963267341256;
 
 const HALF_PI_LOW: f64 = 6.077100506506192e-11;
-
-const PI: f64 = 3.141592653589793;
-
-const FOURTH_PI: f64 = 0.7853981633974483;
 
 const BEND: f64 = 0.4142135623730951;
 
@@ -54,6 +52,7 @@ fn horner(z: f64, table: &[f64], first: usize, step: usize, sign: f64) -> f64
     requires { (0 < step) × (first < length table.now) }
     ensures { result ≡ horner z (alternating sign (downward table.now step first (suc (first / step)))) }
 {
+    // kept: the place falls by `step`, and this is the innermost loop of sine and cosine
     let mut i = first;
     let mut s = sign;
     let mut p = s / table[i];
@@ -73,12 +72,12 @@ fn halved(h: i64) -> i64
     if h < 0 { (h - 1) / 2 } else { (h + 1) / 2 }
 }
 
-// x / HALF_PI to the nearest whole number, a half away from zero; twice the quotient is exact.
+// x / FRAC_PI_2 to the nearest whole number, a half away from zero; twice the quotient is exact.
 fn turns(x: f64) -> i64
     requires { T (near x) }
     ensures { result ≡ rounded (x ⊘ half_pi) }
 {
-    let q = x / HALF_PI;
+    let q = x / FRAC_PI_2;
     let h = std::num::truncating_f64_to_i64(q + q);
     halved(h)
 }
@@ -212,7 +211,7 @@ pub fn sine_cosine(x: f64) -> SineCosine
     }
 }
 
-fn magnitude(x: f64) -> f64
+pub fn magnitude(x: f64) -> f64
     ensures { result ≡ magnitude x }
 {
     if x < 0.0 { -x } else { x }
@@ -231,7 +230,7 @@ fn angle(q: f64) -> f64
     ensures { result ≡ angle q }
 {
     if q > BEND {
-        FOURTH_PI + angle_near((q - 1.0) / (q + 1.0))
+        FRAC_PI_4 + angle_near((q - 1.0) / (q + 1.0))
     } else {
         0.0 + angle_near(q)
     }
@@ -242,7 +241,7 @@ fn eighth(y: f64, x: f64) -> f64
     ensures { result ≡ eighth y x }
 {
     if y > x {
-        HALF_PI - angle(x / y)
+        FRAC_PI_2 - angle(x / y)
     } else {
         angle(y / x)
     }
@@ -286,17 +285,17 @@ fn risen(m: f64, x: f64) -> f64
             let q = x / m;
             if m > 0.9238795325112867 {
                 if q <= BEND {
-                    return HALF_PI - (0.0 + angle_near(q));
+                    return FRAC_PI_2 - (0.0 + angle_near(q));
                 }
             } else if q > BEND {
-                return HALF_PI - (FOURTH_PI + angle_near((q - 1.0) / (q + 1.0)));
+                return FRAC_PI_2 - (FRAC_PI_4 + angle_near((q - 1.0) / (q + 1.0)));
             }
         }
     } else if m <= x {
         let q = m / x;
         if m > 0.3826834323650898 {
             if q > BEND {
-                return FOURTH_PI + angle_near((q - 1.0) / (q + 1.0));
+                return FRAC_PI_4 + angle_near((q - 1.0) / (q + 1.0));
             }
         } else if q <= BEND {
             return 0.0 + angle_near(q);
@@ -348,6 +347,22 @@ pub fn is_finite(x: f64) -> bool
     d == d
 }
 
+// A small whole number as a float.
+pub fn float_of(n: usize) -> f64
+    requires { n ≤ 9007199254740992 }
+    ensures { result ≡ number n }
+{
+    n as f64
+}
+
+// Where row n of a triangular table begins, a place for each order up to the degree: so also how many places the rows before it have.
+pub fn triangle(n: usize) -> usize
+    requires { n ≤ 181 }
+    ensures { (result ≡ tri n) × (result ≤ 16471) }
+{
+    n * (n + 1) / 2
+}
+
 // A whole GPS second, which keys a list.
 #[derive(Clone, Copy)]
 pub struct GpsSecond(pub i64);
@@ -357,6 +372,7 @@ pub struct GpsSecond(pub i64);
 pub struct GpsTime(pub f64);
 
 // The one step from a time to its second; 0 where no i64 holds it.
+// kept: no From, since the fraction is lost, and so is a time that no i64 holds
 pub fn whole_second(t: GpsTime) -> GpsSecond
     ensures { result.0 ≡ whole_second t.0 }
 {

@@ -3,11 +3,8 @@
 ghost use Rattle.std.specs.Prelude.{◌≤◌};
 
 use crate::table::Tally;
-use filter;
-use numbers;
-use slices;
-
-const PI: f64 = 3.141592653589793;
+use slices::Refusal;
+use std::f64::consts::PI;
 
 // Where each side's two sections begin.
 const HIGH_PASS: usize = 0;
@@ -48,36 +45,25 @@ fn side_power(s: [f64; 20], k: usize, w: f64) -> f64
 }
 
 // A section's sums cancel to (2 pi f dt)^2, at least 3.9e-5 here, so that some roundings of 2.2e-16 leave 1e-10.
-fn power_row(t: Tally, what: &[u8], published: f64, outcome: slices::Outcome, ours: f64) -> Tally {
-    let given = crate::table::given(outcome, ours);
-    crate::table::row(t, what, 12, published, given, 1e-10)
+fn power_row(t: Tally, what: &[u8], published: f64, ours: Result<f64, Refusal>) -> Tally {
+    crate::table::row(t, what, 12, published, ours, 1e-10)
 }
 
 // Each side of a design from low to high (Hz), for samples dt apart (s): at its corner, and an octave away.
 fn design(t: Tally, low: f64, high: f64, dt: f64) -> Tally {
     let band = filter::butterworth_band(low, high, dt);
-    let o = band.outcome;
-    let s = band.sections;
     let rise = 2.0 * PI * low * dt;
     let fall = 2.0 * PI * high * dt;
     let below = butterworth(half_tangent(rise) / half_tangent(rise / 2.0));
     let above = butterworth(half_tangent(2.0 * fall) / half_tangent(fall));
-    let a = power_row(t, b"low corner", 0.5, o, side_power(s, HIGH_PASS, rise));
-    let b = power_row(
-        a,
-        b"half the low corner",
-        below,
-        o,
-        side_power(s, HIGH_PASS, rise / 2.0),
-    );
-    let c = power_row(b, b"high corner", 0.5, o, side_power(s, LOW_PASS, fall));
-    power_row(
-        c,
-        b"twice the high corner",
-        above,
-        o,
-        side_power(s, LOW_PASS, 2.0 * fall),
-    )
+    let at_rise = band.map(|s| side_power(s, HIGH_PASS, rise));
+    let off_rise = band.map(|s| side_power(s, HIGH_PASS, rise / 2.0));
+    let at_fall = band.map(|s| side_power(s, LOW_PASS, fall));
+    let off_fall = band.map(|s| side_power(s, LOW_PASS, 2.0 * fall));
+    let a = power_row(t, b"low corner", 0.5, at_rise);
+    let b = power_row(a, b"half the low corner", below, off_rise);
+    let c = power_row(b, b"high corner", 0.5, at_fall);
+    power_row(c, b"twice the high corner", above, off_fall)
 }
 
 pub fn group(t: Tally) -> Tally {

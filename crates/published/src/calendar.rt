@@ -1,14 +1,15 @@
 // Dates of the Gregorian calendar as seconds past 2000-01-01 12:00.
 ghost use Rattle.std.specs.Prelude.{◌≤◌};
 
-use hexadecimal;
-
 // The value of a decimal digit, 0 for any other byte.
 fn digit(b: u8) -> u64
     ensures { result ≤ 9 }
 {
-    let d = hexadecimal::digit(b);
-    if d < 10 { d } else { 0 }
+    if b.is_ascii_digit() {
+        u64::from(b - b'0')
+    } else {
+        0
+    }
 }
 
 // The number of two digits.

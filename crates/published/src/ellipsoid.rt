@@ -3,12 +3,9 @@
 ghost use Rattle.std.specs.Prelude.{◌≡◌};
 ghost use Rattle.published.specs.Shown.{magnitude_of_sum};
 
-use crate::table::{Ours, Tally};
-use fields;
-use forces;
-use root;
-use slices;
-use vectors;
+use crate::table::Tally;
+use slices::Refusal;
+use vectors::Vector;
 
 // GM in m^3/s^2, the semi-axes in m, and J2, J4, J6, J8. Its rotation, 7.292115e-5 rad/s, is the engine's own.
 const GM: f64 = 3.986_005e14;
@@ -50,34 +47,26 @@ fn grs80() -> [f64; 92] {
     field
 }
 
-fn gravity(x: vectors::Vector) -> forces::Answer {
+fn gravity(x: Vector) -> Result<Vector, Refusal> {
     let field = grs80();
     let mut a = [0.0; 45];
     let mut b = [0.0; 45];
     let mut scratch = [0.0; 360];
-    match fields::legendre_new(8, &mut a, &mut b, &mut scratch) {
-        slices::Outcome::Accepted => forces::gravity(8, &field, &a, &b, x, &mut scratch),
-        slices::Outcome::Refused(n) => forces::Answer::Refused(n),
-    }
+    fields::legendre_new(8, &mut a, &mut b, &mut scratch)?;
+    forces::gravity(8, &field, &a, &b, x, &mut scratch)
 }
 
 // The magnitude of the sum of two accelerations.
-fn sum(a: forces::Answer, b: forces::Answer) -> Ours
+fn sum(a: Result<Vector, Refusal>, b: Result<Vector, Refusal>) -> Result<f64, Refusal>
     ensures { result ≡ magnitude_of_sum a b }
 {
-    match a {
-        forces::Answer::Value(v) => match b {
-            forces::Answer::Value(w) => Ours::Value(vectors::norm(vectors::add(v, w))),
-            forces::Answer::Refused(n) => Ours::Refused(n),
-        },
-        forces::Answer::Refused(n) => Ours::Refused(n),
-    }
+    Ok(vectors::norm(vectors::add(a?, b?)))
 }
 
 // Of a body at rest on the rotating Earth.
-fn normal_gravity(x: f64, y: f64, z: f64) -> Ours {
-    let place = vectors::Vector { x, y, z };
-    let rest = vectors::Vector {
+fn normal_gravity(x: f64, y: f64, z: f64) -> Result<f64, Refusal> {
+    let place = Vector { x, y, z };
+    let rest = Vector {
         x: 0.0,
         y: 0.0,
         z: 0.0,

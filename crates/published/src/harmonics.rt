@@ -3,10 +3,7 @@
 ghost use Rattle.std.specs.Prelude.{◌≤◌};
 
 use crate::table::Tally;
-use fields;
-use numbers;
-use root;
-use slices;
+use slices::Refusal;
 
 const DEGREE: f64 = 3.141592653589793 / 180.0;
 
@@ -29,32 +26,28 @@ fn closed(s: f64, c: f64) -> [f64; 10] {
 }
 
 // What the engine gives to degree 3.
-#[derive(Clone, Copy)]
-struct Functions {
-    outcome: slices::Outcome,
-    p: [f64; 10],
-}
-
-fn to_degree_3(lat: f64) -> Functions {
+fn to_degree_3(lat: f64) -> Result<[f64; 10], Refusal> {
     let mut a = [0.0; 10];
     let mut b = [0.0; 10];
     let mut p = [0.0; 10];
     let mut dp = [0.0; 10];
     let mut scratch = [0.0; 80];
-    let tables = fields::legendre_new(3, &mut a, &mut b, &mut scratch);
-    let values = fields::compute_with_derivative(3, &a, &b, lat, &mut p, &mut dp, &mut scratch);
-    let outcome = crate::table::both(tables, values);
-    Functions { outcome, p }
+    fields::legendre_new(3, &mut a, &mut b, &mut scratch)?;
+    fields::compute_with_derivative(3, &a, &b, lat, &mut p, &mut dp, &mut scratch)?;
+    Ok(p)
 }
 
 // The function at k. Rounding to 2.2e-16 a few times leaves 1e-14.
-fn form(t: Tally, what: &[u8], k: usize, published: [f64; 10], ours: Functions) -> Tally
+fn form(
+    t: Tally,
+    what: &[u8],
+    k: usize,
+    published: [f64; 10],
+    ours: Result<[f64; 10], Refusal>,
+) -> Tally
     requires { k ≤ 9 }
 {
-    let outcome = ours.outcome;
-    let p = ours.p;
-    let given = crate::table::given(outcome, p[k]);
-    crate::table::row(t, what, 12, published[k], given, 1e-14)
+    crate::table::row(t, what, 12, published[k], ours.map(|p| p[k]), 1e-14)
 }
 
 fn forms_at(t: Tally, lat: f64) -> Tally {
@@ -84,13 +77,7 @@ pub fn closed_forms(t: Tally) -> Tally {
 // ---- sums of squares
 
 fn squares(values: &[f64]) -> f64 {
-    let mut sum = 0.0;
-    let mut i = 0;
-    while i < values.len() {
-        sum += values[i] * values[i];
-        i += 1;
-    }
-    sum
+    values.iter().fold(0.0, |sum, x| sum + x * x)
 }
 
 // The sum over all orders of degree n: of P(n, m)^2, or of the squares of the derivatives.
@@ -108,27 +95,22 @@ fn farther(a: f64, b: f64) -> f64 {
     if crate::text::magnitude(a - 1.0) < crate::text::magnitude(b - 1.0) {
         return b;
     }
-    if b != b { b } else { a }
+    if b.is_nan() { b } else { a }
 }
 
 // Of the degrees 1 to 180 the ratio of a table's sum to the published one that lies farthest from 1; NaN where the table is too short.
 fn farthest(table: &[f64], derived: bool) -> f64 {
     let mut worst = 1.0;
     let mut degree = 1.0;
-    let mut n: usize = 1;
-    let mut start: usize = 1;
-    while n <= 180 {
+    let mut start = 1;
+    for n in 1..181 {
         let end = start + n + 1;
-        if table.len() < end {
-            return 0.0 / 0.0;
-        }
-        worst = farther(
-            worst,
-            squares(&table[start..end]) / published_sum(degree, derived),
-        );
+        let Some(row) = table.get(start..end) else {
+            return f64::NAN;
+        };
+        worst = farther(worst, squares(row) / published_sum(degree, derived));
         degree += 1.0;
         start = end;
-        n += 1;
     }
     worst
 }
@@ -137,7 +119,7 @@ fn farthest(table: &[f64], derived: bool) -> f64 {
 fn sums_at(
     t: Tally,
     what: &[u8],
-    tables: slices::Outcome,
+    tables: Result<(), Refusal>,
     a: &[f64],
     b: &[f64],
     lat: f64,
@@ -154,15 +136,15 @@ fn sums_at(
         &mut dp,
         &mut scratch,
     );
-    let outcome = crate::table::both(tables, computed);
-    let values = crate::table::given(outcome, farthest(&p, false));
-    let derivatives = crate::table::given(outcome, farthest(&dp, true));
+    let answer = tables.and(computed);
+    let values = answer.map(|()| farthest(&p, false));
+    let derivatives = answer.map(|()| farthest(&dp, true));
     let first = crate::table::row(t, what, 14, 1.0, values, 1e-12);
     crate::table::row(first, b"  derivatives", 14, 1.0, derivatives, 1e-12)
 }
 
 // With the tables of degree 180, o says whether they were filled.
-fn sums_with(t: Tally, o: slices::Outcome, a: &[f64], b: &[f64]) -> Tally {
+fn sums_with(t: Tally, o: Result<(), Refusal>, a: &[f64], b: &[f64]) -> Tally {
     let c = sums_at(t, b"latitude -75", o, a, b, -75.0);
     let d = sums_at(c, b"latitude -20", o, a, b, -20.0);
     let e = sums_at(d, b"latitude 5", o, a, b, 5.0);

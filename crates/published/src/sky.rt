@@ -2,9 +2,11 @@
 ghost use Rattle.std.specs.Prelude.{◌≡◌};
 ghost use Rattle.published.specs.Shown.{axis_distance, gamma_of, sun_distance_of, tide_c20, c20_of, plus_of, times_of};
 
-use crate::table::{Ours, Tally};
-use forces;
-use vectors;
+use crate::table::Tally;
+use slices::Refusal;
+use solid_tide::SolidTide;
+use sun_moon::SunMoon;
+use vectors::Vector;
 
 // ---- eclipses of the Sun
 
@@ -18,7 +20,7 @@ const TT_LESS_GPS: f64 = 51.184;
 const SOME_ARCMINUTES: f64 = 0.08;
 
 // How far the axis of the Moon's shadow, the line through both bodies, passes from the Earth's centre.
-fn axis_distance(sun: vectors::Vector, moon: vectors::Vector) -> f64
+fn axis_distance(sun: Vector, moon: Vector) -> f64
     ensures { result ≡ axis_distance sun moon }
 {
     let axis = vectors::sub(moon, sun);
@@ -26,13 +28,11 @@ fn axis_distance(sun: vectors::Vector, moon: vectors::Vector) -> f64
 }
 
 // The magnitude of gamma.
-fn gamma(places: forces::Places) -> Ours
+fn gamma(places: Result<SunMoon, Refusal>) -> Result<f64, Refusal>
     ensures { result ≡ gamma_of places }
 {
-    match places {
-        forces::Places::Found(p) => Ours::Value(axis_distance(p.sun, p.moon)),
-        forces::Places::Refused(n) => Ours::Refused(n),
-    }
+    let p = places?;
+    Ok(axis_distance(p.sun, p.moon))
 }
 
 // At the greatest eclipse, in terrestrial time.
@@ -62,13 +62,10 @@ pub fn eclipses(t: Tally) -> Tally {
 const GPS_LESS_UTC: f64 = 18.0;
 
 // In million kilometres.
-fn sun_distance(places: forces::Places) -> Ours
+fn sun_distance(places: Result<SunMoon, Refusal>) -> Result<f64, Refusal>
     ensures { result ≡ sun_distance_of places }
 {
-    match places {
-        forces::Places::Found(p) => Ours::Value(vectors::norm(p.sun) / 1e9),
-        forces::Places::Refused(n) => Ours::Refused(n),
-    }
+    Ok(vectors::norm(places?.sun) / 1e9)
 }
 
 // The series is a Kepler orbit with three decimals, without the pull of the Moon and the planets: one part in ten thousand.
@@ -100,56 +97,40 @@ const STEPS: usize = 54388;
 const STEP: f64 = 21_600.0;
 
 // C(2, 0), which stands fourth, of a tide.
-fn tide_c20(answer: forces::TideAnswer) -> Ours
-    ensures { result ≡ tide_c20 answer }
+fn tide_c20(tide: Result<SolidTide, Refusal>) -> Result<f64, Refusal>
+    ensures { result ≡ tide_c20 tide }
 {
-    let outcome = answer.outcome;
-    let tide = answer.tide;
-    let c = tide.c;
-    crate::table::given(outcome, c[3])
+    Ok(tide?.c[3])
 }
 
 // C(2, 0) of the tide that the Sun and the Moon raise from their places.
-fn c20(places: forces::Places) -> Ours
+fn c20(places: Result<SunMoon, Refusal>) -> Result<f64, Refusal>
     ensures { result ≡ c20_of places }
 {
-    match places {
-        forces::Places::Found(p) => tide_c20(forces::solid_tide(p.sun, p.moon)),
-        forces::Places::Refused(n) => Ours::Refused(n),
-    }
+    let p = places?;
+    tide_c20(forces::solid_tide(p.sun, p.moon))
 }
 
 // A sum, refused where one of the two is.
-fn plus(a: Ours, b: Ours) -> Ours
+fn plus(a: Result<f64, Refusal>, b: Result<f64, Refusal>) -> Result<f64, Refusal>
     ensures { result ≡ plus_of a b }
 {
-    match a {
-        Ours::Value(x) => match b {
-            Ours::Value(y) => Ours::Value(x + y),
-            Ours::Refused(n) => Ours::Refused(n),
-        },
-        Ours::Refused(n) => Ours::Refused(n),
-    }
+    Ok(a? + b?)
 }
 
-fn times(a: Ours, k: f64) -> Ours
+fn times(a: Result<f64, Refusal>, k: f64) -> Result<f64, Refusal>
     ensures { result ≡ times_of a k }
 {
-    match a {
-        Ours::Value(x) => Ours::Value(x * k),
-        Ours::Refused(n) => Ours::Refused(n),
-    }
+    Ok(a? * k)
 }
 
 // The mean of C(2, 0) from 2000-01-01 12:00 on, times 10^9.
-fn mean_c20() -> Ours {
-    let mut sum = Ours::Value(0.0);
+fn mean_c20() -> Result<f64, Refusal> {
+    let mut sum = Ok(0.0);
     let mut t = 0.0;
-    let mut i: usize = 0;
-    while i < STEPS {
+    for _ in 0..STEPS {
         sum = plus(sum, c20(forces::sun_moon(t)));
         t += STEP;
-        i += 1;
     }
     times(sum, 1e9 / std::num::nearest_u64_to_f64(STEPS as u64))
 }

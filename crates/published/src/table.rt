@@ -1,17 +1,9 @@
 // The table: headings, rows, and how many rows there are.
-ghost use Rattle.std.specs.Prelude.{◌≡◌, length, if◌then◌else◌};
-ghost use Rattle.published.specs.Judged.{given_by, both_of, is_within, counted};
+ghost use Rattle.std.specs.Prelude.{◌≡◌, length};
+ghost use Rattle.published.specs.Judged.{is_within, counted};
 
-use hexadecimal;
 use io;
-use slices;
-
-// What the engine gives: a number, or a refusal.
-#[derive(Clone, Copy)]
-pub enum Ours {
-    Value(f64),
-    Refused(u8),
-}
+use slices::Refusal;
 
 // How many values were shown, and how many of them lie within the source's accuracy.
 #[derive(Clone, Copy)]
@@ -20,47 +12,23 @@ pub struct Tally {
     pub within: u32,
 }
 
-// A number of an answer that has an outcome of its own.
-pub fn given(outcome: slices::Outcome, x: f64) -> Ours
-    ensures { result ≡ given_by outcome x }
-{
-    match outcome {
-        slices::Outcome::Accepted => Ours::Value(x),
-        slices::Outcome::Refused(n) => Ours::Refused(n),
-    }
-}
-
-// Of a call and one that reads what it left: the first refusal.
-pub fn both(first: slices::Outcome, second: slices::Outcome) -> slices::Outcome
-    ensures { result ≡ both_of first second }
-{
-    match first {
-        slices::Outcome::Accepted => second,
-        slices::Outcome::Refused(n) => slices::Outcome::Refused(n),
-    }
-}
-
-fn is_within(published: f64, ours: Ours, accuracy: f64) -> bool
+// Whether what the engine gives lies within the accuracy; a refusal never does.
+fn is_within(published: f64, ours: Result<f64, Refusal>, accuracy: f64) -> bool
     ensures { result ≡ is_within published ours accuracy }
 {
     match ours {
-        Ours::Value(x) => crate::text::magnitude(x - published) <= accuracy,
-        Ours::Refused(_) => false,
+        Ok(x) => crate::text::magnitude(x - published) <= accuracy,
+        Err(_) => false,
     }
-}
-
-fn one_if(b: bool) -> u32
-    ensures { result ≡ (if b then 1 else 0) }
-{
-    if b { 1 } else { 0 }
 }
 
 fn count(t: Tally, within: bool) -> Tally
     ensures { result ≡ counted t within }
 {
-    let shown = std::num::wrapping_add_u32(t.shown, 1);
-    let within = std::num::wrapping_add_u32(t.within, one_if(within));
-    Tally { shown, within }
+    Tally {
+        shown: t.shown.wrapping_add(1),
+        within: t.within.wrapping_add(u32::from(within)),
+    }
 }
 
 // Writes the heading of a group: what is shown, and the columns.
@@ -72,17 +40,17 @@ pub fn say_heading(what: &[u8]) {
     );
 }
 
-fn put_ours(published: f64, ours: Ours, decimals: u32, line: &mut [u8])
+fn put_ours(published: f64, ours: Result<f64, Refusal>, decimals: u32, line: &mut [u8])
     ensures { length line.new ≡ length line.old }
 {
     match ours {
-        Ours::Value(x) => {
+        Ok(x) => {
             crate::text::put_fixed(x, decimals, line, 68);
             crate::text::put_scientific(x - published, line, 80);
         }
-        Ours::Refused(n) => {
+        Err(refusal) => {
             crate::text::put_text(b"refused", line, 58);
-            hexadecimal::put_decimal(n as u64, line, 66);
+            hexadecimal::put_decimal(u64::from(u8::from(refusal)), line, 66);
         }
     }
 }
@@ -97,7 +65,14 @@ fn put_verdict(within: bool, line: &mut [u8])
     }
 }
 
-fn say_row(what: &[u8], decimals: u32, published: f64, ours: Ours, accuracy: f64, within: bool) {
+fn say_row(
+    what: &[u8],
+    decimals: u32,
+    published: f64,
+    ours: Result<f64, Refusal>,
+    accuracy: f64,
+    within: bool,
+) {
     let mut line = [32u8; 99];
     crate::text::put_text(what, &mut line, 2);
     crate::text::put_fixed(published, decimals, &mut line, 50);
@@ -108,7 +83,14 @@ fn say_row(what: &[u8], decimals: u32, published: f64, ours: Ours, accuracy: f64
 }
 
 // Writes a row, the values with so many decimals, and counts it.
-pub fn row(t: Tally, what: &[u8], decimals: u32, published: f64, ours: Ours, accuracy: f64) -> Tally
+pub fn row(
+    t: Tally,
+    what: &[u8],
+    decimals: u32,
+    published: f64,
+    ours: Result<f64, Refusal>,
+    accuracy: f64,
+) -> Tally
     ensures { result ≡ counted t (is_within published ours accuracy) }
 {
     let within = is_within(published, ours, accuracy);

@@ -3,7 +3,6 @@ ghost use Rattle.std.specs.Prelude.{◌≡◌, ◌≤◌, length};
 ghost use Rattle.numbers.specs.Numbers.{magnitude};
 
 use io;
-use numbers;
 
 pub fn magnitude(x: f64) -> f64
     ensures { result ≡ magnitude x }
@@ -25,15 +24,8 @@ pub fn put_text(text: &[u8], line: &mut [u8], at: usize)
     if line.len() < at {
         return;
     }
-    let room = line.len() - at;
-    let mut k = 0;
-    while k < text.len() {
-        if room <= k {
-            return;
-        }
-        line[at + k] = text[k];
-        k += 1;
-    }
+    let shown = text.len().min(line.len() - at);
+    line[at..at + shown].copy_from_slice(&text[..shown]);
 }
 
 // The digits of n, the last just before `end`, with a point before the last `decimals`; where they begin, 0 where the line is too short.
@@ -45,21 +37,19 @@ fn put_digits(n: u64, decimals: u32, line: &mut [u8], end: usize) -> usize
     }
     let places = decimals as usize;
     let mut rest = n;
-    let mut at = end;
-    while 0 < at {
-        let behind = end - at;
+    for at in (0..end).rev() {
+        let behind = end - 1 - at;
         if rest == 0 && places + 1 < behind {
-            return at;
+            return at + 1;
         }
-        at -= 1;
         if behind == places {
             line[at] = b'.';
         } else {
-            line[at] = 48 + (rest % 10) as u8;
+            line[at] = b'0' + (rest % 10) as u8;
             rest /= 10;
         }
     }
-    at
+    0
 }
 
 // To the nearest whole number; the largest u64 where none holds it, and for a NaN.
@@ -91,15 +81,13 @@ fn shift(size: f64) -> u32
     ensures { result ≤ 30 }
 {
     let mut y = size;
-    let mut k: u32 = 0;
-    while k < 30 {
+    for k in 0..30 {
         if y >= 0.995 {
             return k;
         }
         y *= 10.0;
-        k += 1;
     }
-    k
+    30
 }
 
 // In scientific notation with two digits, the last of the exponent just before `end`; from 1 on the exponent is 0.
@@ -116,8 +104,8 @@ pub fn put_scientific(x: f64, line: &mut [u8], end: usize)
     let k = shift(magnitude(x));
     put_fixed(x * numbers::power(10.0, k), 1, line, end - 4);
     put_text(b"e-", line, end - 4);
-    put(48 + (k / 10) as u8, line, end - 2);
-    put(48 + (k % 10) as u8, line, end - 1);
+    put(b'0' + (k / 10) as u8, line, end - 2);
+    put(b'0' + (k % 10) as u8, line, end - 1);
 }
 
 // Writes a line.

@@ -2,20 +2,20 @@
 use mathlib.Core.Path.{◌≡◌, refl, sym, ap, ◌∙◌}
 use mathlib.Core.Bool.{Bool, true, false}
 use mathlib.Core.List.{List, [], ◌∷◌, ◌++◌, append-nil}
-use Prim.Native.Nat.{ℕ, suc, ◌+◌, ◌-◌, ◌*◌, ◌<◌, ◌≤◌}
-use native.Mathlib.Numerals.{add-one}
+use Prim.Native.Nat.{ℕ, suc, ◌+◌, ◌-◌, ◌*◌, ◌≤◌}
 use native.Mathlib.Omega.{arith}
-use lib.Ieee.{Float, nan}
+use lib.Ieee.{Float}
 use lib.Ieee.Scale.{finite}
-use lib.ListN.{length, length-map, replicate-append-replicate, take, drop, get_or, set, replicate, length-drop, length-append, length-replicate, drop_of_length-le}
-use lib.Seq.{take_at, drop_at, take-suc, drop-set-lt, get_or-drop, get_or-take, length-take-le}
+use lib.ListN.{length, length-map, replicate-append-replicate, take, drop, replicate, length-drop, length-append, length-replicate, drop_of_length-le}
+use lib.Seq.{take_at, drop_at, length-take-le}
 use borrow.Rule.Slice.PartMut.{mid_of, put_mid}
-use Rattle.laws.specs.Checks.{all}
+use Rattle.std.specs.List.{list_all}
 use Rattle.laws.specs.Floats.{zero64}
-use Rattle.laws.specs.Loops.{cleared, take_set}
+use Rattle.laws.specs.Loops.{cleared}
 use Rattle.laws.specs.Bools.{by}
-use Rattle.slices.specs.declared.Outcome.{Outcome}
-use Rattle.slices.specs.declared.Outcome.TheVariants.{Accepted, Refused}
+use Rattle.std.specs.Prelude.{Err}
+use Rattle.slices.specs.Calls.{Verdict, accepted}
+use Rattle.slices.specs.declared.refusal.Refusal.TheVariants.{NotFinite}
 use Rattle.detrend.specs.Revolutions.{removed_of}
 use Rattle.detrend.specs.Work.{RemovedWithin}
 use Rattle.detrend.proofs.PartsInPlace.{length_mid}
@@ -25,48 +25,27 @@ use Rattle.epoch_record.specs.declared.Epoch.{Epoch}
 use Rattle.record_detrending.specs.Calls.{LeftRecords, left_records, handed_by, detrended_residuals, handed_records}
 use Rattle.record_detrending.specs.Records.{read_into, Settled, settled_by, values_of, settled_of}
 
--- ---- the values come down to the head
-
-pub lower_front : (n i : ℕ) (w w₀ : List Float) → n + n ≤ length w₀ → length w ≡ length w₀ → i < n → take i w ≡ take i (mid_of n n w₀) → drop n w ≡ drop n w₀ →
-    take (i + 1) (set w i (get_or w (n + i) nan)) ≡ take (i + 1) (mid_of n n w₀)
-lower_front n i w w₀ h l q front back =
-    let x : Float = get_or (mid_of n n w₀) i nan in
-    let v : get_or w (n + i) nan ≡ x =
-    sym (get_or-drop n w i nan) ∙ ap (λ (y : List Float). get_or y i nan) back ∙ sym (get_or-take n (drop n w₀) i nan q) in
-    take_set w i (get_or w (n + i) nan) (omega arith)
-    ∙ (λ j. front j ++ (v j ∷ []))
-    ∙ sym (take-suc (mid_of n n w₀) i nan (omega (arith, length_mid n n w₀ h)))
-    ∙ ap (λ (k : ℕ). take k (mid_of n n w₀)) (sym (add-one i))
-
-pub lower_back : (n i : ℕ) (w w₀ : List Float) (v : Float) → i < n → drop n w ≡ drop n w₀ → drop n (set w i v) ≡ drop n w₀
-lower_back n i w w₀ v q back = drop-set-lt n w i v q ∙ back
-
-pub lower_done : (n i : ℕ) (w w₀ : List Float) → n + n ≤ length w₀ → i ≤ n → n ≤ i → take i w ≡ take i (mid_of n n w₀) → take n w ≡ mid_of n n w₀
-lower_done n i w w₀ h a b front =
-    let e : i ≡ n = omega arith in
-    (λ j. take (sym e j) w) ∙ front ∙ ap (λ (k : ℕ). take k (mid_of n n w₀)) e ∙ lib.Seq.take_all n (mid_of n n w₀) (omega (arith, length_mid n n w₀ h))
-
 -- ---- what is settled
 
-settled_true : (ns : List Float) (n : ℕ) (w : List Float) → all finite (values_of ns n w) ≡ true → settled_of ns n w ≡ settled_by true (values_of ns n w) w
+settled_true : (ns : List Float) (n : ℕ) (w : List Float) → list_all finite (values_of ns n w) ≡ true → settled_of ns n w ≡ settled_by true (values_of ns n w) w
 unfolding settled_of
 settled_true ns n w e = ap (λ (b : Bool). settled_by b (values_of ns n w) w) e
 
-settled_false : (ns : List Float) (n : ℕ) (w : List Float) → all finite (values_of ns n w) ≡ false → settled_of ns n w ≡ settled_by false (values_of ns n w) w
+settled_false : (ns : List Float) (n : ℕ) (w : List Float) → list_all finite (values_of ns n w) ≡ false → settled_of ns n w ≡ settled_by false (values_of ns n w) w
 unfolding settled_of
 settled_false ns n w e = ap (λ (b : Bool). settled_by b (values_of ns n w) w) e
 
-module _ (ns : List Float) (n : ℕ) (w w1 : List Float) (room : 8 * n ≤ length w) (r : RemovedWithin n ns w w1) (b : Bool) (eb : b ≡ all finite (mid_of n (n + n - n) w1)) where
+module _ (ns : List Float) (n : ℕ) (w w1 : List Float) (room : 8 * n ≤ length w) (r : RemovedWithin n ns w w1) (b : Bool) (eb : b ≡ list_all finite (mid_of n (n + n - n) w1)) where
   new_is : mid_of n n w1 ≡ values_of ns n w
   new_is = (r.fits room).values
 
-  test_is : all finite (values_of ns n w) ≡ b
-  test_is = sym (eb ∙ (let z : n + n - n ≡ n = omega arith in ap (λ (k : ℕ). all finite (mid_of n k w1)) z) ∙ ap (all finite) new_is)
+  test_is : list_all finite (values_of ns n w) ≡ b
+  test_is = sym (eb ∙ (let z : n + n - n ≡ n = omega arith in ap (λ (k : ℕ). list_all finite (mid_of n k w1)) z) ∙ ap (list_all finite) new_is)
 
-  pub settled_accepts : b ≡ true → Accepted ≡ (settled_of ns n w).answer
+  pub settled_accepts : b ≡ true → accepted ≡ (settled_of ns n w).answer
   settled_accepts h = sym (ap (λ (s : Settled). s.answer) (settled_true ns n w (test_is ∙ h)))
 
-  pub settled_refuses : b ≡ false → Refused 10 ≡ (settled_of ns n w).answer
+  pub settled_refuses : b ≡ false → Err NotFinite ≡ (settled_of ns n w).answer
   settled_refuses h = sym (ap (λ (s : Settled). s.answer) (settled_false ns n w (test_is ∙ h)))
 
   pub settled_clear : (z : List Float) → b ≡ false → z ≡ cleared w1 → length w1 ≡ length w → z ≡ (settled_of ns n w).work
@@ -91,7 +70,7 @@ settled_length ns n w h =
     let v : List Float = values_of ns n w in
     let lt' : length (take n w) ≡ n = length-take-le n w (omega arith) in
     let lv : length v ≡ n = removed_length ns (take n w) (mid_of n n w) (lt' ∙ sym (length_mid n n w h)) ∙ length_mid n n w h in
-    by (all finite v)
+    by (list_all finite v)
     (λ e. ap (λ (s : Settled). length s.work) (settled_true ns n w e) ∙ length-append v (replicate (length w - length v) zero64)
     ∙ ap (λ (k : ℕ). length v + k) (length-replicate (length w - length v) zero64) ∙ omega arith)
     (λ e. ap (λ (s : Settled). length s.work) (settled_false ns n w e) ∙ length-replicate (length w) zero64)
@@ -140,11 +119,11 @@ module _ (es : List Epoch) (ns s : List Float) (h : 8 * length es ≤ length s) 
   abbrev After : Settled
   After = settled_of ns Count (read_into es s)
 
-  settled_is : (b : Bool) → all finite (detrended_residuals es ns) ≡ b → After ≡ settled_by b (detrended_residuals es ns) (read_into es s)
+  settled_is : (b : Bool) → list_all finite (detrended_residuals es ns) ≡ b → After ≡ settled_by b (detrended_residuals es ns) (read_into es s)
   unfolding settled_of
-  settled_is b e = (λ i. settled_by (all finite (values_are i)) (values_are i) (read_into es s)) ∙ ap (λ (c : Bool). settled_by c (detrended_residuals es ns) (read_into es s)) e
+  settled_is b e = (λ i. settled_by (list_all finite (values_are i)) (values_are i) (read_into es s)) ∙ ap (λ (c : Bool). settled_by c (detrended_residuals es ns) (read_into es s)) e
 
-  handed_is : (b : Bool) → all finite (detrended_residuals es ns) ≡ b → handed_records es ns s ≡ handed_by b (detrended_residuals es ns) es s
+  handed_is : (b : Bool) → list_all finite (detrended_residuals es ns) ≡ b → handed_records es ns s ≡ handed_by b (detrended_residuals es ns) es s
   unfolding handed_records
   handed_is b e = ap (λ (c : Bool). handed_by c (detrended_residuals es ns) es s) e
 
@@ -157,13 +136,13 @@ module _ (es : List Epoch) (ns s : List Float) (h : 8 * length es ≤ length s) 
       let new : List Float = detrended_residuals es ns in
       let w : List Float = read_into es s in
       let zs : replicate (length After.work) zero64 ≡ cleared s = ap (λ (k : ℕ). replicate k zero64) (settled_length ns Count w (omega (arith, read_length)) ∙ read_length) in
-      by (all finite new)
+      by (list_all finite new)
       (λ e. (λ i. left_records (settled_is true e i).answer (put_back es (settled_is true e i).work) (zs i))
-      ∙ ap (λ (l : List Epoch). left_records Accepted l (cleared s)) (put_front es new (replicate (length w - length new) zero64) new_length)
+      ∙ ap (λ (l : List Epoch). left_records accepted l (cleared s)) (put_front es new (replicate (length w - length new) zero64) new_length)
       ∙ sym (handed_is true e))
       (λ e. (λ i. left_records (settled_is false e i).answer (put_back es (settled_is false e i).work) (zs i))
       ∙ (let k : length w ≡ length new + (length w - length new) = omega (arith, read_length, new_length) in
-      ap (λ (l : List Epoch). left_records (Refused 10) l (cleared s))
+      ap (λ (l : List Epoch). left_records (Err NotFinite) l (cleared s))
       (ap (λ (j : ℕ). put_back es (replicate j zero64)) k ∙ ap (put_back es) (zeros_split (length new) (length w - length new))
       ∙ put_front es (cleared new) (replicate (length w - length new) zero64) (length-replicate (length new) zero64 ∙ new_length)))
       ∙ sym (handed_is false e))
@@ -171,7 +150,7 @@ module _ (es : List Epoch) (ns s : List Float) (h : 8 * length es ≤ length s) 
   -- as many records and numbers as before
   pub handed_lengths : (length (handed_records es ns s).epochs ≡ Count) × (length (handed_records es ns s).scratch ≡ length s)
   handed_lengths =
-      by (all finite (detrended_residuals es ns))
+      by (list_all finite (detrended_residuals es ns))
       (λ e. (
         ap (λ (l : LeftRecords). length l.epochs) (handed_is true e) ∙ length_put es (detrended_residuals es ns),
         ap (λ (l : LeftRecords). length l.scratch) (handed_is true e)
@@ -184,6 +163,6 @@ module _ (es : List Epoch) (ns s : List Float) (h : 8 * length es ≤ length s) 
       ))
 
   -- the four steps, one after another
-  pub remove_leaves : (w w1 z : List Float) (es' : List Epoch) (o : Outcome) → w ≡ read_into es s → o ≡ (settled_of ns Count w).answer → w1 ≡ (settled_of ns Count w).work
+  pub remove_leaves : (w w1 z : List Float) (es' : List Epoch) (o : Verdict) → w ≡ read_into es s → o ≡ (settled_of ns Count w).answer → w1 ≡ (settled_of ns Count w).work
       → es' ≡ put_back es w1 → z ≡ cleared w1 → left_records o es' z ≡ handed_records es ns s
   remove_leaves w w1 z es' o ew eo e1 e2 ez = rw (ez, e2, e1, eo, ew) records_left

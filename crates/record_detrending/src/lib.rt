@@ -4,106 +4,49 @@
 ghost use Rattle.std.specs.Prelude.{◌≡◌, ◌+◌, ◌*◌, ◌≤◌, ◌<◌, length, take};
 ghost use borrow.Rule.Slice.PartMut.{mid_of};
 ghost use Rattle.epoch_record.specs.EpochRecord.{epoch_fits, put_back};
-ghost use Rattle.record_detrending.specs.declared.Seen.TheVariants.{Nothing};
-ghost use Rattle.record_detrending.specs.Records.{ordered_of, scanned_of, scan_of, all_fit, in_order, refusal_after, read_into, settled_of};
-ghost use Rattle.record_detrending.specs.Calls.{left_records, handed_records, remove_call};
+ghost use Rattle.std.specs.List.{list_all};
+ghost use Rattle.laws.specs.Checks.{rising as rising_of};
+ghost use Rattle.epoch_record.specs.EpochRecord.{times_of};
+ghost use Rattle.record_detrending.specs.Records.{read_into, settled_of};
+ghost use Rattle.record_detrending.specs.Calls.{remove_refusal, left_records, handed_records, remove_call};
 
-use detrend;
 use epoch_record::Epoch;
-use numbers;
-use slices;
+use slices::Refusal;
 
+#[tactic(auto, unfolding(epoch_record::specs::EpochRecord::epoch_fits))]
 fn epoch_fits(e: Epoch) -> bool
     ensures { result ≡ epoch_fits e }
 {
-    let places = slices::both(slices::all_finite(&e.mid), slices::all_finite(&e.vel));
-    let numbers = slices::both(slices::all_finite(&e.terms), places);
-    let finite = slices::both(numbers::is_finite(e.residual), numbers);
-    slices::both(slices::is_time(e.t), finite)
+    let places = slices::all_finite(&e.mid) && slices::all_finite(&e.vel);
+    let numbers = slices::all_finite(&e.terms) && places;
+    slices::is_time(e.t) && (numbers::is_finite(e.residual) && numbers)
 }
 
-// What a scan of the records has seen: none yet, fit records in order up to a time, fit ones out of order, or an unfit one.
-#[derive(Clone, Copy)]
-enum Seen {
-    Nothing,
-    Upto(f64),
-    Unordered,
-    Unfit,
-}
-
-// The scan after one fit record more, of the time t.
-fn ordered(seen: Seen, t: f64) -> Seen
-    ensures { result ≡ ordered_of seen t }
+fn all_fit(epochs: &[Epoch]) -> bool
+    ensures { result ≡ list_all epoch_fits epochs.now }
 {
-    match seen {
-        Seen::Nothing => Seen::Upto(t),
-        Seen::Upto(last) => if last < t {
-            Seen::Upto(t)
-        } else {
-            Seen::Unordered
-        },
-        Seen::Unordered => Seen::Unordered,
-        Seen::Unfit => Seen::Unfit,
-    }
+    epochs.iter().all(|e| epoch_fits(*e))
 }
 
-// The scan after one record more.
-fn scanned(seen: Seen, e: Epoch) -> Seen
-    ensures { result ≡ scanned_of seen e }
+// Each time below the next.
+fn rising(epochs: &[Epoch]) -> bool
+    ensures { result ≡ rising_of (times_of epochs.now) }
 {
-    if epoch_fits(e) {
-        return ordered(seen, e.t);
-    }
-    Seen::Unfit
+    epochs.is_sorted_by(|a, b| a.t < b.t)
 }
 
-fn scan(epochs: &[Epoch]) -> Seen
-    ensures { result ≡ scan_of Nothing epochs.now }
+#[tactic(auto, unfolding(crate::specs::Calls::remove_refusal))]
+fn refusal(epochs: &[Epoch], nodes: &[f64], room: usize) -> Result<(), Refusal>
+    ensures { result ≡ remove_refusal epochs.now nodes.now room }
 {
-    let mut seen = Seen::Nothing;
-    let mut i: usize = 0;
-    while i < epochs.len() {
-        seen = scanned(seen, epochs[i]);
-        i += 1;
-    }
-    seen
-}
-
-fn all_fit(seen: Seen) -> bool
-    ensures { result ≡ all_fit seen }
-{
-    match seen {
-        Seen::Nothing => true,
-        Seen::Upto(_) => true,
-        Seen::Unordered => true,
-        Seen::Unfit => false,
-    }
-}
-
-fn in_order(seen: Seen) -> bool
-    ensures { result ≡ in_order seen }
-{
-    match seen {
-        Seen::Nothing => true,
-        Seen::Upto(_) => true,
-        Seen::Unordered => false,
-        Seen::Unfit => true,
-    }
-}
-
-fn refusal_after(seen: Seen, n: usize, nodes: &[f64], room: usize) -> u8
-    ensures { result ≡ refusal_after seen n nodes.now room }
-{
-    let rising = slices::unless(slices::rising(nodes), 5, 0);
-    let order = slices::unless(in_order(seen), 5, rising);
-    let times = slices::unless(slices::all_times(nodes), 4, order);
-    let numbers = slices::unless(all_fit(seen), 4, times);
-    let fitting = slices::unless(n <= room / 8, 3, numbers);
-    slices::unless(
-        n <= 100000,
-        2,
-        slices::unless(nodes.len() <= 64, 2, fitting),
-    )
+    slices::tested(epochs.len() <= 100000, Refusal::Count)?;
+    slices::tested(nodes.len() <= 64, Refusal::Count)?;
+    slices::tested(epochs.len() <= room / 8, Refusal::Length)?;
+    slices::tested(all_fit(epochs), Refusal::Value)?;
+    slices::tested(slices::all_times(nodes), Refusal::Value)?;
+    slices::tested(rising(epochs), Refusal::Order)?;
+    slices::tested(slices::rising(nodes), Refusal::Order)?;
+    Ok(())
 }
 
 // Times from place 0 on, residuals behind them.
@@ -112,11 +55,9 @@ fn read(epochs: &[Epoch], work: &mut [f64])
     ensures { work.new ≡ read_into epochs.now work.old }
 {
     let n = epochs.len();
-    let mut i: usize = 0;
-    while i < n {
+    for i in 0..n {
         work[i] = epochs[i].t;
         work[n + i] = epochs[i].residual;
-        i += 1;
     }
 }
 
@@ -125,15 +66,12 @@ fn lower(work: &mut [f64], n: usize)
     requires { n + n ≤ length work.old }
     ensures { take n work.new ≡ mid_of n n work.old }
 {
-    let mut i = 0;
-    while i < n {
-        work[i] = work[n + i];
-        i += 1;
-    }
+    let (front, back) = work.split_at_mut(n);
+    front.copy_from_slice(&back[0..n]);
 }
 
 // The detrended values come to the head of the work area, +0.0 behind them; +0.0 throughout where one is not finite.
-fn settle(work: &mut [f64], n: usize, nodes: &[f64]) -> slices::Outcome
+fn settle(work: &mut [f64], n: usize, nodes: &[f64]) -> Result<(), Refusal>
     requires { 8 * n ≤ length work.old }
     ensures { (result ≡ (settled_of nodes.now n work.old).answer) ×
         (work.new ≡ (settled_of nodes.now n work.old).work) }
@@ -144,47 +82,43 @@ fn settle(work: &mut [f64], n: usize, nodes: &[f64]) -> slices::Outcome
         lower(work, n);
         let end = work.len();
         slices::clear(&mut work[n..end]);
-        return slices::Outcome::Accepted;
+        return Ok(());
     }
     slices::clear(work);
-    slices::Outcome::Refused(10)
+    Err(Refusal::NotFinite)
 }
 
+#[tactic(auto, using(crate::proofs::PuttingBack::put_upto_done))]
 fn put_back(epochs: &mut [Epoch], values: &[f64])
     requires { length epochs.old ≤ length values.now }
     ensures { epochs.new ≡ put_back epochs.old values.now }
 {
-    let mut i: usize = 0;
-    while i < epochs.len() {
+    for i in 0..epochs.len() {
         epochs[i].residual = values[i];
-        i += 1;
     }
 }
 
-fn remove_in(epochs: &mut [Epoch], nodes: &[f64], scratch: &mut [f64]) -> slices::Outcome
+fn remove_in(epochs: &mut [Epoch], nodes: &[f64], scratch: &mut [f64]) -> Result<(), Refusal>
     requires { 8 * length epochs.old ≤ length scratch.old }
     ensures { left_records result epochs.new scratch.new ≡ handed_records epochs.old nodes.now
         scratch.old }
 {
     read(epochs, scratch);
-    let o = settle(scratch, epochs.len(), nodes);
+    let answer = settle(scratch, epochs.len(), nodes);
     put_back(epochs, scratch);
     slices::clear(scratch);
-    o
+    answer
 }
 
 // Each revolution's fit removed from the residuals of the records.
+#[tactic(auto, unfolding(crate::specs::Calls::remove_call))]
 pub fn remove_per_revolution(
     epochs: &mut [Epoch],
     nodes: &[f64],
     scratch: &mut [f64],
-) -> slices::Outcome
+) -> Result<(), Refusal>
     ensures { left_records result epochs.new scratch.new ≡ remove_call epochs.old nodes.now scratch.old }
 {
-    let seen = scan(epochs);
-    let refused = refusal_after(seen, epochs.len(), nodes, scratch.len());
-    if refused != 0 {
-        return slices::Outcome::Refused(refused);
-    }
+    refusal(epochs, nodes, scratch.len())?;
     remove_in(epochs, nodes, scratch)
 }

@@ -5,245 +5,301 @@
 // ends, or a line is malformed, there is no more to read.
 #![tactic(auto)]
 
-ghost use Rattle.std.specs.Prelude.{◌≡◌, ◌<◌, ◌≤◌, eqb, length, drop};
+ghost use Rattle.std.specs.Prelude.{◌≡◌, ◌≤◌, ℕ, nat_eq, length, drop};
 ghost use Rattle.std.specs.Float.{binary64};
 ghost use Rattle.std.specs.Float.Ieee.{to_bits};
 ghost use Rattle.std.specs.Int.{w64};
 ghost use Rattle.std.proofs.Common.{to_z, of_z};
-ghost use Rattle.laws.specs.Checks.{all};
+ghost use Rattle.std.specs.List.{list_all};
 
-#[derive(Clone, Copy)]
-pub enum Item {
-    Value(u64),
-    End,
-}
+use slices::Refusal;
 
 // The word of the next line.
-pub fn next() -> Item {
+pub fn next() -> Option<u64> {
     let mut line = [0u8; 17];
-    let n = io::read_full(0, &mut line);
-    if n < 17 {
-        return Item::End;
+    if io::read_full(0, &mut line) < 17 || line[16] != b'\n' {
+        return None;
     }
-    word_of(&line)
+    hexadecimal::word(&line, 0)
 }
 
-// The word of a line, which ends in a line feed.
-fn word_of(line: &[u8]) -> Item {
-    if line.len() != 17 {
-        return Item::End;
+// Answers the calls of a list by their numbers, until it ends.
+pub fn answer_each<F: Fn(u64)>(answer: F)
+    requires { F.IsAlwaysCallable answer }
+{
+    for _ in 0..100000 {
+        let Some(call) = next() else {
+            return;
+        };
+        answer(call);
     }
-    if line[16] != 10 {
-        return Item::End;
+}
+
+// What one word says.
+pub trait Word: Copy {
+    ghost word_of: { Self → ℕ };
+
+    // The value of the next word, and of 0 where there is none.
+    fn read() -> Self;
+
+    fn word(self) -> u64
+        ensures { result ≡ word_of self };
+}
+
+impl Word for u64 {
+    ghost word_of = { λ n. n };
+
+    fn read() -> u64 {
+        next().unwrap_or(0)
     }
-    match hexadecimal::word(line, 0) {
-        hexadecimal::Parsed::Value(v) => Item::Value(v),
-        hexadecimal::Parsed::Malformed => Item::End,
+
+    fn word(self) -> u64 {
+        self
+    }
+}
+
+impl Word for usize {
+    ghost word_of = { λ n. n };
+
+    fn read() -> usize {
+        number() as usize
+    }
+
+    fn word(self) -> u64 {
+        self as u64
+    }
+}
+
+// 255 for all words above.
+impl Word for u8 {
+    ghost word_of = { λ n. n };
+
+    fn read() -> u8 {
+        number().min(255) as u8
+    }
+
+    fn word(self) -> u64 {
+        u64::from(self)
+    }
+}
+
+impl Word for i64 {
+    ghost word_of = { λ k. of_z w64 k };
+
+    fn read() -> i64 {
+        signed(number())
+    }
+
+    fn word(self) -> u64 {
+        unsigned(self)
+    }
+}
+
+// Each NaN has the word 7FF8000000000000.
+impl Word for f64 {
+    ghost word_of = { λ x. to_bits binary64 x };
+
+    fn read() -> f64 {
+        hexadecimal::float(number())
+    }
+
+    fn word(self) -> u64 {
+        hexadecimal::pattern(self)
     }
 }
 
 // The next word, 0 where there is none.
 pub fn number() -> u64 {
-    match next() {
-        Item::Value(v) => v,
-        Item::End => 0,
-    }
+    u64::read()
 }
 
 // The next double, +0.0 where there is none.
 pub fn float() -> f64 {
-    hexadecimal::float(number())
-}
-
-// The next words as doubles in the first count places; what stands after them is kept.
-pub fn fill(out: &mut [f64], count: usize)
-    ensures { drop count out.new ≡ drop count out.old }
-{
-    let mut i = 0;
-    while i < count {
-        if i >= out.len() {
-            return;
-        }
-        out[i] = float();
-        i += 1;
-    }
-}
-
-// A word read as two's complement.
-pub fn signed(bits: u64) -> i64
-    ensures { result ≡ to_z w64 bits }
-{
-    if bits < 9223372036854775808 {
-        bits as i64
-    } else {
-        -1 - (18446744073709551615 - bits) as i64
-    }
-}
-
-// A key as a word, in two's complement.
-pub fn unsigned(key: i64) -> u64
-    ensures { result ≡ of_z w64 key }
-{
-    if key < 0 {
-        18446744073709551615 - (-1 - key) as u64
-    } else {
-        key as u64
-    }
-}
-
-// The next words as keys, as fill.
-pub fn fill_keys(out: &mut [i64], count: usize)
-    ensures { drop count out.new ≡ drop count out.old }
-{
-    let mut i = 0;
-    while i < count {
-        if i >= out.len() {
-            return;
-        }
-        out[i] = signed(number());
-        i += 1;
-    }
-}
-
-// The next words as bytes, 255 for all above, as fill.
-pub fn fill_bytes(out: &mut [u8], count: usize)
-    ensures { drop count out.new ≡ drop count out.old }
-{
-    let mut i = 0;
-    while i < count {
-        if i >= out.len() {
-            return;
-        }
-        out[i] = byte();
-        i += 1;
-    }
+    f64::read()
 }
 
 // The next word as a byte, 255 for all above.
 pub fn byte() -> u8 {
-    let v = number();
-    if v < 256 { v as u8 } else { 255 }
+    u8::read()
 }
 
 // The next word, at most the limit.
 pub fn count(limit: usize) -> usize
     ensures { result ≤ limit }
 {
-    let v = number() as usize;
-    if v <= limit { v } else { limit }
+    usize::read().min(limit)
+}
+
+// A word read as two's complement.
+pub fn signed(bits: u64) -> i64
+    ensures { result ≡ to_z w64 bits }
+{
+    bits.cast_signed()
+}
+
+// A key as a word, in two's complement.
+pub fn unsigned(key: i64) -> u64
+    ensures { result ≡ of_z w64 key }
+{
+    key.cast_unsigned()
+}
+
+// The next words in the first count places; what stands after them is kept.
+pub fn fill<T: Word>(out: &mut [T], count: usize)
+    ensures { drop count out.new ≡ drop count out.old }
+{
+    for i in 0..count.min(out.len()) {
+        out[i] = T::read();
+    }
 }
 
 // A list: its length, how many of its numbers are given, and these; the others are as they stand in the room.
-pub fn list<'a>(room: &'a mut [f64]) -> &'a [f64]
+pub fn list<'a, T: Word>(room: &'a mut [T]) -> &'a [T]
     ensures { length result.now ≤ length room.old }
 {
     let n = count(room.len());
     let given = count(room.len());
     fill(room, given);
-    let whole = &room[..];
-    &whole[0..n]
-}
-
-pub fn key_list<'a>(room: &'a mut [i64]) -> &'a [i64]
-    ensures { length result.now ≤ length room.old }
-{
-    let n = count(room.len());
-    let given = count(room.len());
-    fill_keys(room, given);
-    let whole = &room[..];
-    &whole[0..n]
-}
-
-pub fn byte_list<'a>(room: &'a mut [u8]) -> &'a [u8]
-    ensures { length result.now ≤ length room.old }
-{
-    let n = count(room.len());
-    let given = count(room.len());
-    fill_bytes(room, given);
-    let whole = &room[..];
-    &whole[0..n]
+    &room[..n]
 }
 
 // A list whose numbers are all given: its length, and they.
-pub fn full_list<'a>(room: &'a mut [f64]) -> &'a [f64]
+pub fn full_list<'a, T: Word>(room: &'a mut [T]) -> &'a [T]
     ensures { length result.now ≤ length room.old }
 {
     let n = count(room.len());
     fill(room, n);
-    let whole = &room[..];
-    &whole[0..n]
+    &room[..n]
 }
 
-pub fn full_keys<'a>(room: &'a mut [i64]) -> &'a [i64]
-    ensures { length result.now ≤ length room.old }
-{
+// The first places of a room, as many as the next word says: an output or a scratch of that length.
+pub fn front<'a, T>(room: &'a mut [T]) -> &'a mut [T] {
     let n = count(room.len());
-    fill_keys(room, n);
-    let whole = &room[..];
-    &whole[0..n]
+    &mut room[..n]
 }
 
-pub fn full_bytes<'a>(room: &'a mut [u8]) -> &'a [u8]
-    ensures { length result.now ≤ length room.old }
-{
-    let n = count(room.len());
-    fill_bytes(room, n);
-    let whole = &room[..];
-    &whole[0..n]
+// What is written as lines.
+pub trait Said {
+    fn say(&self);
+}
+
+impl Said for u64 {
+    fn say(&self) {
+        let mut line = [b'\n'; 17];
+        hexadecimal::put_word(*self, &mut line, 0);
+        io::write_all(1, &line);
+    }
+}
+
+impl Said for usize {
+    fn say(&self) {
+        say(self.word());
+    }
+}
+
+impl Said for i64 {
+    fn say(&self) {
+        say(self.word());
+    }
+}
+
+impl Said for f64 {
+    fn say(&self) {
+        say(self.word());
+    }
+}
+
+impl Said for bool {
+    fn say(&self) {
+        say(u64::from(*self));
+    }
+}
+
+// Nothing beside the 0 of acceptance.
+impl Said for () {
+    fn say(&self) {}
+}
+
+// The refusal's number.
+impl Said for Refusal {
+    fn say(&self) {
+        say(u64::from(u8::from(*self)));
+    }
+}
+
+// 0 and the value, or the refusal's number.
+impl<T: Said> Said for Result<T, Refusal> {
+    fn say(&self) {
+        match self {
+            Ok(value) => {
+                say(0);
+                value.say();
+            }
+            Err(refusal) => refusal.say(),
+        }
+    }
+}
+
+// 1 and the value, or 0.
+impl<T: Said> Said for Option<T> {
+    fn say(&self) {
+        match self {
+            Some(value) => {
+                say(1);
+                value.say();
+            }
+            None => say(0),
+        }
+    }
+}
+
+impl<T: Said, const N: usize> Said for [T; N] {
+    fn say(&self) {
+        say_all(self);
+    }
 }
 
 // Writes a word as a line.
 pub fn say(value: u64) {
-    let mut line = [10u8; 17];
-    hexadecimal::put_word(value, &mut line, 0);
-    io::write_all(1, &line);
+    value.say();
 }
 
 pub fn say_float(x: f64) {
-    say(hexadecimal::pattern(x));
+    x.say();
 }
 
-// Writes 0 for acceptance, or the refusal's number.
-pub fn say_outcome(outcome: slices::Outcome) {
-    match outcome {
-        slices::Outcome::Accepted => say(0),
-        slices::Outcome::Refused(n) => say(n as u64),
+pub fn say_all<T: Said>(values: &[T]) {
+    for value in values {
+        value.say();
     }
 }
 
-pub fn say_all(values: &[f64]) {
-    let mut i = 0;
-    while i < values.len() {
-        say_float(values[i]);
-        i += 1;
-    }
-}
-
-// Whether x has these bits; each NaN has 7FF8000000000000.
-fn has_bits(x: f64, bits: u64) -> bool
-    ensures { result ≡ eqb (to_bits binary64 x) bits }
-{
-    hexadecimal::pattern(x) == bits
-}
-
-fn all_are(values: &[f64], bits: u64) -> bool
-    ensures { result ≡ all (λ x. eqb (to_bits binary64 x) bits) values.now }
-{
-    let mut i = 0;
-    while i < values.len() {
-        if !has_bits(values[i], bits) {
-            return false;
+// Writes 0 and the count, or the refusal's number and 0.
+pub fn say_counted(answer: Result<usize, Refusal>) {
+    match answer {
+        Ok(count) => {
+            say(0);
+            count.say();
         }
-        i += 1;
+        Err(refusal) => {
+            refusal.say();
+            say(0);
+        }
     }
-    true
 }
 
-// Writes 0 where each number is +0.0, 1 where each is the one of these bits, which stood there, and 2 otherwise.
-pub fn say_left(values: &[f64], bits: u64) {
+// Whether each value has this word.
+fn all_are<T: Word>(values: &[T], word: u64) -> bool
+    ensures { result ≡ list_all (λ x. nat_eq (T.word_of x) word) values.now }
+{
+    values.iter().all(|x| x.word() == word)
+}
+
+// Writes 0 where each value has the word 0, 1 where each is the one that stood there, and 2 otherwise.
+pub fn say_left<T: Word>(values: &[T], stood: T) {
     if all_are(values, 0) {
         say(0);
-    } else if all_are(values, bits) {
+    } else if all_are(values, stood.word()) {
         say(1);
     } else {
         say(2);
@@ -251,16 +307,14 @@ pub fn say_left(values: &[f64], bits: u64) {
 }
 
 // Writes every so many numbers, by the count of those between.
-pub fn say_some(values: &[f64], between: u64) {
+pub fn say_some<T: Said>(values: &[T], between: u64) {
     let mut left = 0;
-    let mut i = 0;
-    while i < values.len() {
+    for value in values {
         if left == 0 {
-            say_float(values[i]);
+            value.say();
             left = between;
         } else {
             left -= 1;
         }
-        i += 1;
     }
 }

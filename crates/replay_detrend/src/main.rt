@@ -2,58 +2,19 @@
 // its numbers are given, and these; the others are 0. Outputs and scratch hold 7 before a call.
 #![tactic(auto)]
 
-use replay::Item;
-
-fn fill_counts(out: &mut [usize], given: usize) {
-    let mut i = 0;
-    while i < given {
-        if i >= out.len() {
-            return;
-        }
-        out[i] = replay::number() as usize;
-        i += 1;
-    }
-}
-
-fn counts<'a>(room: &'a mut [usize]) -> &'a [usize] {
-    let n = replay::count(room.len());
-    let given = replay::count(room.len());
-    fill_counts(room, given);
-    let whole = &room[..];
-    &whole[0..n]
-}
-
-fn say_counts(counts: &[usize]) {
-    let mut i = 0;
-    while i < counts.len() {
-        replay::say(counts[i] as u64);
-        i += 1;
-    }
-}
-
-fn say_counted(counted: slices::Counted) {
-    match counted {
-        slices::Counted::Counted(k) => {
-            replay::say(0);
-            replay::say(k as u64);
-        }
-        slices::Counted::Refused(n) => {
-            replay::say(n as u64);
-            replay::say(0);
-        }
-    }
-}
+use replay::Said;
+use slices::Refusal;
 
 fn say_revolutions(
-    answer: slices::Counted,
+    answer: Result<usize, Refusal>,
     firsts: &[usize],
     ends: &[usize],
     starts: &[f64],
     periods: &[f64],
 ) {
-    say_counted(answer);
-    say_counts(firsts);
-    say_counts(ends);
+    replay::say_counted(answer);
+    replay::say_all(firsts);
+    replay::say_all(ends);
     replay::say_all(starts);
     replay::say_all(periods);
 }
@@ -67,22 +28,12 @@ fn revolutions() {
     let mut w = [7.0; 66];
     let times = replay::list(&mut t);
     let nodes = replay::list(&mut u);
-    let f = replay::count(66);
-    let e = replay::count(66);
-    let s = replay::count(66);
-    let p = replay::count(66);
-    let firsts = &mut x[0..f];
-    let ends = &mut y[0..e];
-    let starts = &mut v[0..s];
-    let periods = &mut w[0..p];
+    let firsts = replay::front(&mut x);
+    let ends = replay::front(&mut y);
+    let starts = replay::front(&mut v);
+    let periods = replay::front(&mut w);
     let answer = detrend::revolutions(times, nodes, firsts, ends, starts, periods);
-    say_revolutions(answer, &firsts[..], &ends[..], &starts[..], &periods[..]);
-}
-
-fn say_detrended(answer: slices::Outcome, values: &[f64], scratch: &[f64]) {
-    replay::say_outcome(answer);
-    replay::say_all(values);
-    replay::say_left(scratch, 4619567317775286272);
+    say_revolutions(answer, firsts, ends, starts, periods);
 }
 
 fn detrending() {
@@ -96,22 +47,27 @@ fn detrending() {
     let times = replay::list(&mut t);
     let v = replay::count(400);
     replay::fill(&mut x, replay::count(400));
-    let firsts = counts(&mut f);
-    let ends = counts(&mut e);
+    let firsts = replay::list(&mut f);
+    let ends = replay::list(&mut e);
     let starts = replay::list(&mut s);
     let periods = replay::list(&mut p);
-    let room = replay::count(3300);
-    let values = &mut x[0..v];
-    let scratch = &mut w[0..room];
-    let answer = detrend::detrend(times, values, firsts, ends, starts, periods, scratch);
-    say_detrended(answer, &values[..], &scratch[..]);
+    let scratch = replay::front(&mut w);
+    let values = &mut x[..v];
+    let parts = detrend::Parts {
+        firsts,
+        ends,
+        starts,
+        periods,
+    };
+    detrend::detrend(times, values, parts, scratch).say();
+    replay::say_all(values);
+    replay::say_left(scratch, 7.0);
 }
 
 fn remove(work: &mut [f64], n: usize, nodes: &[f64]) {
     detrend::kernel::remove_within(work, n, nodes);
     if n <= work.len() / 2 {
-        let last = n + n;
-        replay::say_all(&work[0..last]);
+        replay::say_all(&work[..n + n]);
     }
 }
 
@@ -122,45 +78,29 @@ fn remove_within() {
     let n = replay::count(400);
     replay::fill(&mut work, replay::count(800));
     let nodes = replay::list(&mut u);
-    let room = replay::count(3300);
-    remove(&mut work[0..room], n, nodes);
+    remove(replay::front(&mut work), n, nodes);
 }
 
 fn ascending_nodes() {
     let mut k = [0i64; 60];
     let mut x = [0.0; 360];
     let mut y = [7.0; 60];
-    let keys = replay::key_list(&mut k);
+    let keys = replay::list(&mut k);
     let states = replay::list(&mut x);
-    let o = replay::count(60);
-    let out = &mut y[0..o];
-    let answer = ascending_nodes::ascending_nodes(keys, states, out);
-    say_counted(answer);
-    replay::say_all(&out[..]);
+    let out = replay::front(&mut y);
+    replay::say_counted(ascending_nodes::ascending_nodes(keys, states, out));
+    replay::say_all(out);
 }
 
-// One call; false at the end of the list.
-fn answer() -> bool {
-    match replay::next() {
-        Item::End => false,
-        Item::Value(call) => {
-            if call == 0 {
-                revolutions();
-            } else if call == 1 {
-                detrending();
-            } else if call == 2 {
-                remove_within();
-            } else {
-                ascending_nodes();
-            }
-            true
-        }
+fn answer(call: u64) {
+    match call {
+        0 => revolutions(),
+        1 => detrending(),
+        2 => remove_within(),
+        _ => ascending_nodes(),
     }
 }
 
 fn main() {
-    let mut turns: u64 = 100000;
-    while turns > 0 && answer() {
-        turns -= 1;
-    }
+    replay::answer_each(answer);
 }

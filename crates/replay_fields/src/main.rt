@@ -2,25 +2,13 @@
 // length. Outputs stand at 3.0 and scratch at 7.0 before a call; of long tables every so many numbers are told.
 #![tactic(auto)]
 
-use replay::Item;
-
-// 0 where the scratch is +0.0, 1 where it is unchanged, 2 otherwise.
-fn say_scratch(scratch: &[f64]) {
-    replay::say_left(scratch, 4619567317775286272);
-}
+use replay::{Said, Word};
+use slices::Refusal;
 
 fn index() {
-    let n = replay::number() as usize;
-    let m = replay::number() as usize;
-    match fields::idx(n, m) {
-        fields::Index::At(k) => {
-            replay::say(0);
-            replay::say(k as u64);
-        }
-        fields::Index::Refused(k) => {
-            replay::say(k as u64);
-        }
-    }
+    let n = usize::read();
+    let m = usize::read();
+    fields::idx(n, m).say();
 }
 
 fn acceleration() {
@@ -30,30 +18,17 @@ fn acceleration() {
     let dlon = replay::float();
     let r = replay::float();
     let lat = replay::float();
-    let p = legendre::Partials {
-        v: v,
-        dr: dr,
-        dlat: dlat,
-        dlon: dlon,
-    };
-    match fields::acceleration_neu(p, r, lat) {
-        fields::AccelerationAnswer::Value(a) => {
-            replay::say(0);
-            replay::say_float(a.north);
-            replay::say_float(a.east);
-            replay::say_float(a.up);
-        }
-        fields::AccelerationAnswer::Refused(k) => {
-            replay::say(k as u64);
-        }
-    }
+    let p = legendre::Partials { v, dr, dlat, dlon };
+    fields::acceleration_neu(p, r, lat)
+        .map(|a| [a.north, a.east, a.up])
+        .say();
 }
 
-fn say_tables(outcome: slices::Outcome, a: &[f64], b: &[f64], scratch: &[f64], between: u64) {
-    replay::say_outcome(outcome);
+fn say_tables(answer: Result<(), Refusal>, a: &[f64], b: &[f64], scratch: &[f64], between: u64) {
+    answer.say();
     replay::say_some(a, between);
     replay::say_some(b, between);
-    say_scratch(scratch);
+    replay::say_left(scratch, 7.0);
 }
 
 // The lengths of a, b and the scratch, and how many numbers are passed over.
@@ -61,16 +36,13 @@ fn legendre_new() {
     let mut x = [3.0; 16500];
     let mut y = [3.0; 16500];
     let mut w = [7.0; 132000];
-    let degree = replay::number() as usize;
-    let la = replay::count(16500);
-    let lb = replay::count(16500);
-    let lw = replay::count(132000);
+    let degree = usize::read();
+    let a = replay::front(&mut x);
+    let b = replay::front(&mut y);
+    let scratch = replay::front(&mut w);
     let between = replay::number();
-    let a = &mut x[0..la];
-    let b = &mut y[0..lb];
-    let scratch = &mut w[0..lw];
-    let outcome = fields::legendre_new(degree, a, b, scratch);
-    say_tables(outcome, &a[..], &b[..], &scratch[..], between);
+    let answer = fields::legendre_new(degree, a, b, scratch);
+    say_tables(answer, a, b, scratch, between);
 }
 
 fn rescaled() {
@@ -78,48 +50,38 @@ fn rescaled() {
     let mut x = [3.0; 2000];
     let mut y = [3.0; 2000];
     let mut w = [7.0; 16000];
-    let degree = replay::number() as usize;
+    let degree = usize::read();
     let field = replay::full_list(&mut f);
-    let lc = replay::count(2000);
-    let ls = replay::count(2000);
-    let lw = replay::count(16000);
+    let cosines = replay::front(&mut x);
+    let sines = replay::front(&mut y);
+    let scratch = replay::front(&mut w);
     let gm = replay::float();
     let radius = replay::float();
-    let cosines = &mut x[0..lc];
-    let sines = &mut y[0..ls];
-    let scratch = &mut w[0..lw];
-    let outcome = fields::rescaled(degree, field, gm, radius, cosines, sines, scratch);
-    say_tables(outcome, &cosines[..], &sines[..], &scratch[..], 0);
+    let answer = fields::rescaled(degree, field, gm, radius, cosines, sines, scratch);
+    say_tables(answer, cosines, sines, scratch, 0);
 }
 
 fn derive() {
     let mut x = [0.0; 2000];
     let mut y = [3.0; 2000];
     let mut w = [7.0; 16000];
-    let degree = replay::number() as usize;
+    let degree = usize::read();
     let p = replay::full_list(&mut x);
-    let ld = replay::count(2000);
-    let lw = replay::count(16000);
-    let dp = &mut y[0..ld];
-    let scratch = &mut w[0..lw];
-    let outcome = fields::derive(degree, p, dp, scratch);
-    replay::say_outcome(outcome);
-    replay::say_all(&dp[..]);
-    say_scratch(&scratch[..]);
-}
-
-fn replace_first(values: &mut [f64]) {
-    let first = replay::float();
-    if 0 < values.len() {
-        values[0] = first;
-    }
+    let dp = replay::front(&mut y);
+    let scratch = replay::front(&mut w);
+    fields::derive(degree, p, dp, scratch).say();
+    replay::say_all(dp);
+    replay::say_left(scratch, 7.0);
 }
 
 // The tables come from `legendre_new`, and stand as they stood where it refuses; a's first number is replaced.
 fn fill_tables(degree: usize, a: &mut [f64], b: &mut [f64]) {
     let mut scratch = [7.0; 132000];
-    fields::legendre_new(degree, a, b, &mut scratch);
-    replace_first(a);
+    let _answer = fields::legendre_new(degree, a, b, &mut scratch);
+    let first = replay::float();
+    if !a.is_empty() {
+        a[0] = first;
+    }
 }
 
 // The lengths of p, dp and the scratch, the latitude, and how many numbers are passed over.
@@ -127,123 +89,64 @@ fn compute_by(degree: usize, a: &[f64], b: &[f64]) {
     let mut x = [3.0; 16500];
     let mut y = [3.0; 16500];
     let mut w = [7.0; 132000];
-    let lp = replay::count(16500);
-    let ld = replay::count(16500);
-    let lw = replay::count(132000);
+    let p = replay::front(&mut x);
+    let dp = replay::front(&mut y);
+    let scratch = replay::front(&mut w);
     let lat = replay::float();
     let between = replay::number();
-    let p = &mut x[0..lp];
-    let dp = &mut y[0..ld];
-    let scratch = &mut w[0..lw];
-    let outcome = fields::compute_with_derivative(degree, a, b, lat, p, dp, scratch);
-    say_tables(outcome, &p[..], &dp[..], &scratch[..], between);
+    let answer = fields::compute_with_derivative(degree, a, b, lat, p, dp, scratch);
+    say_tables(answer, p, dp, scratch, between);
 }
 
 fn compute() {
     let mut x = [0.0; 16500];
     let mut y = [0.0; 16500];
-    let degree = replay::number() as usize;
-    let la = replay::count(16500);
-    let lb = replay::count(16500);
-    let a = &mut x[0..la];
-    let b = &mut y[0..lb];
+    let degree = usize::read();
+    let a = replay::front(&mut x);
+    let b = replay::front(&mut y);
     fill_tables(degree, a, b);
-    compute_by(degree, &a[..], &b[..]);
-}
-
-fn say_partials(answer: fields::PartialsAnswer) {
-    match answer {
-        fields::PartialsAnswer::Value(z) => {
-            replay::say(0);
-            replay::say_float(z.v);
-            replay::say_float(z.dr);
-            replay::say_float(z.dlat);
-            replay::say_float(z.dlon);
-        }
-        fields::PartialsAnswer::Refused(k) => {
-            replay::say(k as u64);
-        }
-    }
-}
-
-fn run_partials(degree: usize, field: &[f64], a: &[f64], b: &[f64], scratch: &mut [f64]) {
-    let r = replay::float();
-    let lat = replay::float();
-    let lon = replay::float();
-    let answer = fields::partials(degree, field, a, b, r, lat, lon, scratch);
-    say_partials(answer);
-    say_scratch(&scratch[..]);
-}
-
-fn all_places(
-    degree: usize,
-    field: &[f64],
-    a: &[f64],
-    b: &[f64],
-    scratch: &mut [f64],
-    count: usize,
-) {
-    let mut i = 0;
-    while i < count {
-        run_partials(degree, field, a, b, scratch);
-        i += 1;
-    }
+    compute_by(degree, a, b);
 }
 
 // So many places; the scratch of one is left to the next.
 fn partials_by(degree: usize, field: &[f64], a: &[f64], b: &[f64]) {
-    let mut scratch = [7.0; 132000];
-    let lw = replay::count(132000);
-    let count = replay::count(1000);
-    all_places(degree, field, a, b, &mut scratch[0..lw], count);
+    let mut w = [7.0; 132000];
+    let scratch = replay::front(&mut w);
+    for _ in 0..replay::count(1000) {
+        let r = replay::float();
+        let lat = replay::float();
+        let lon = replay::float();
+        fields::partials(degree, field, a, b, r, lat, lon, scratch)
+            .map(|z| [z.v, z.dr, z.dlat, z.dlon])
+            .say();
+        replay::say_left(scratch, 7.0);
+    }
 }
 
 fn partials() {
     let mut f = [0.0; 33000];
     let mut x = [0.0; 16500];
     let mut y = [0.0; 16500];
-    let degree = replay::number() as usize;
+    let degree = usize::read();
     let field = replay::full_list(&mut f);
-    let la = replay::count(16500);
-    let lb = replay::count(16500);
-    let a = &mut x[0..la];
-    let b = &mut y[0..lb];
+    let a = replay::front(&mut x);
+    let b = replay::front(&mut y);
     fill_tables(degree, a, b);
-    partials_by(degree, field, &a[..], &b[..]);
+    partials_by(degree, field, a, b);
 }
 
-fn choose(call: u64) {
-    if call == 0 {
-        index();
-    } else if call == 1 {
-        acceleration();
-    } else if call == 2 {
-        legendre_new();
-    } else if call == 3 {
-        rescaled();
-    } else if call == 4 {
-        derive();
-    } else if call == 5 {
-        compute();
-    } else {
-        partials();
-    }
-}
-
-// One call; false at the end of the list.
-fn answer() -> bool {
-    match replay::next() {
-        Item::End => false,
-        Item::Value(call) => {
-            choose(call);
-            true
-        }
+fn answer(call: u64) {
+    match call {
+        0 => index(),
+        1 => acceleration(),
+        2 => legendre_new(),
+        3 => rescaled(),
+        4 => derive(),
+        5 => compute(),
+        _ => partials(),
     }
 }
 
 fn main() {
-    let mut turns: u64 = 100000;
-    while turns > 0 && answer() {
-        turns -= 1;
-    }
+    replay::answer_each(answer);
 }

@@ -3,32 +3,27 @@
 // handed out or else the state of the output, and the state of the scratch.
 #![tactic(auto)]
 
-use replay::Item;
+use replay::{Said, Word};
+use slices::Refusal;
 
 // What the call handed out, or the state of the output after a refusal; and the state of the scratch.
-fn say_answer(outcome: slices::Outcome, out: &[f64], scratch: &[f64]) {
-    match outcome {
-        slices::Outcome::Accepted => {
-            replay::say(0);
-            replay::say_all(out);
-        }
-        slices::Outcome::Refused(n) => {
-            replay::say(n as u64);
-            replay::say_left(out, 4619567317775286272);
-        }
+fn say_answer(answer: Result<(), Refusal>, out: &[f64], scratch: &[f64]) {
+    answer.say();
+    match answer {
+        Ok(()) => replay::say_all(out),
+        Err(_) => replay::say_left(out, 7.0),
     }
-    replay::say_left(scratch, 4619567317775286272);
+    replay::say_left(scratch, 7.0);
 }
 
+// After a refusal the sections are told as +0.0.
 fn band() {
     let low = replay::float();
     let high = replay::float();
     let dt = replay::float();
     let answer = filter::butterworth_band(low, high, dt);
-    let outcome = answer.outcome;
-    replay::say_outcome(outcome);
-    let sections = answer.sections;
-    replay::say_all(&sections);
+    answer.map(|_| ()).say();
+    answer.unwrap_or([0.0; 20]).say();
 }
 
 // The samples that were given are told in any case.
@@ -40,14 +35,11 @@ fn run() {
     let n = replay::count(100001);
     let given = replay::count(n);
     replay::fill(&mut x, given);
-    let room = replay::count(16384);
-    let samples = &mut x[0..n];
-    let scratch = &mut w[0..room];
-    let outcome = filter::run(sections, samples, scratch);
-    replay::say_outcome(outcome);
-    let filtered = &samples[..];
-    replay::say_all(&filtered[0..given]);
-    replay::say_left(&scratch[..], 4619567317775286272);
+    let scratch = replay::front(&mut w);
+    let samples = &mut x[..n];
+    filter::run(sections, samples, scratch).say();
+    replay::say_all(&samples[..given]);
+    replay::say_left(scratch, 7.0);
 }
 
 fn filtfilt() {
@@ -57,13 +49,11 @@ fn filtfilt() {
     let mut w = [7.0; 16384];
     let sections = replay::list(&mut s);
     let x = replay::list(&mut v);
-    let pad = replay::number() as usize;
-    let places = replay::count(2000);
-    let room = replay::count(16384);
-    let out = &mut y[0..places];
-    let scratch = &mut w[0..room];
-    let outcome = filter::filtfilt(sections, x, pad, out, scratch);
-    say_answer(outcome, &out[..], &scratch[..]);
+    let pad = usize::read();
+    let out = replay::front(&mut y);
+    let scratch = replay::front(&mut w);
+    let answer = filter::filtfilt(sections, x, pad, out, scratch);
+    say_answer(answer, out, scratch);
 }
 
 fn band_pass() {
@@ -73,40 +63,21 @@ fn band_pass() {
     let mut w = [7.0; 16384];
     let times = replay::list(&mut t);
     let x = replay::list(&mut v);
-    let places = replay::count(2000);
-    let room = replay::count(16384);
-    let out = &mut y[0..places];
-    let scratch = &mut w[0..room];
-    let outcome = filter::band_pass(times, x, out, scratch);
-    say_answer(outcome, &out[..], &scratch[..]);
+    let out = replay::front(&mut y);
+    let scratch = replay::front(&mut w);
+    let answer = filter::band_pass(times, x, out, scratch);
+    say_answer(answer, out, scratch);
 }
 
-fn call(number: u64) {
-    if number == 0 {
-        band();
-    } else if number == 1 {
-        run();
-    } else if number == 2 {
-        filtfilt();
-    } else {
-        band_pass();
-    }
-}
-
-// One call; false at the end of the list.
-fn answer() -> bool {
-    match replay::next() {
-        Item::End => false,
-        Item::Value(number) => {
-            call(number);
-            true
-        }
+fn answer(call: u64) {
+    match call {
+        0 => band(),
+        1 => run(),
+        2 => filtfilt(),
+        _ => band_pass(),
     }
 }
 
 fn main() {
-    let mut turns: u64 = 100000;
-    while turns > 0 && answer() {
-        turns -= 1;
-    }
+    replay::answer_each(answer);
 }

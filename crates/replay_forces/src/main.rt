@@ -2,45 +2,29 @@
 // refusal's number, and then the numbers handed out.
 #![tactic(auto)]
 
-use replay::Item;
+use replay::{Said, Word};
+use slices::Refusal;
+use vectors::Vector;
 
-fn vector() -> vectors::Vector {
+fn vector() -> Vector {
     let x = replay::float();
     let y = replay::float();
     let z = replay::float();
-    vectors::Vector { x, y, z }
+    Vector { x, y, z }
 }
 
-fn say_vector(v: vectors::Vector) {
-    replay::say_float(v.x);
-    replay::say_float(v.y);
-    replay::say_float(v.z);
+fn numbers_of(v: Vector) -> [f64; 3] {
+    [v.x, v.y, v.z]
 }
 
-fn say_answer(answer: forces::Answer) {
-    match answer {
-        forces::Answer::Value(v) => {
-            replay::say(0);
-            say_vector(v);
-        }
-        forces::Answer::Refused(n) => {
-            replay::say(n as u64);
-        }
-    }
+fn say_answer(answer: Result<Vector, Refusal>) {
+    answer.map(numbers_of).say();
 }
 
 fn sun_moon() {
-    let answer = forces::sun_moon(replay::float());
-    match answer {
-        forces::Places::Found(p) => {
-            replay::say(0);
-            say_vector(p.sun);
-            say_vector(p.moon);
-        }
-        forces::Places::Refused(n) => {
-            replay::say(n as u64);
-        }
-    }
+    forces::sun_moon(replay::float())
+        .map(|places| [numbers_of(places.sun), numbers_of(places.moon)])
+        .say();
 }
 
 fn third_body() {
@@ -50,18 +34,21 @@ fn third_body() {
     say_answer(forces::third_body(x, body, gm));
 }
 
-// The coefficients are told in any case.
+// After a refusal the coefficients are told as +0.0.
 fn solid_tide() {
     let sun = vector();
     let moon = vector();
-    let answer = forces::solid_tide(sun, moon);
-    let outcome = answer.outcome;
-    replay::say_outcome(outcome);
-    let raised = answer.tide;
-    let c = raised.c;
-    let s = raised.s;
-    replay::say_all(&c);
-    replay::say_all(&s);
+    match forces::solid_tide(sun, moon) {
+        Ok(tide) => {
+            replay::say(0);
+            tide.c.say();
+            tide.s.say();
+        }
+        Err(refusal) => {
+            refusal.say();
+            [0.0; 20].say();
+        }
+    }
 }
 
 fn tides() {
@@ -91,52 +78,29 @@ fn gravity() {
     let mut p = [0.0; 250];
     let mut q = [0.0; 250];
     let mut w = [7.0; 2000];
-    let degree = replay::number() as usize;
+    let degree = usize::read();
     let field = replay::full_list(&mut f);
     let a = replay::full_list(&mut p);
     let b = replay::full_list(&mut q);
     let x = vector();
-    let n = replay::count(2000);
-    let scratch = &mut w[0..n];
-    let answer = forces::gravity(degree, field, a, b, x, scratch);
-    say_answer(answer);
-    replay::say_left(&scratch[..], 4619567317775286272);
+    let scratch = replay::front(&mut w);
+    say_answer(forces::gravity(degree, field, a, b, x, scratch));
+    replay::say_left(scratch, 7.0);
 }
 
-fn run(call: u64) {
-    if call == 0 {
-        sun_moon();
-    } else if call == 1 {
-        third_body();
-    } else if call == 2 {
-        solid_tide();
-    } else if call == 3 {
-        tides();
-    } else if call == 4 {
-        fictitious();
-    } else if call == 5 {
-        empirical();
-    } else if call == 6 {
-        say_answer(forces::j2_gravity(vector()));
-    } else {
-        gravity();
-    }
-}
-
-// One call; false at the end of the list.
-fn answer() -> bool {
-    match replay::next() {
-        Item::End => false,
-        Item::Value(call) => {
-            run(call);
-            true
-        }
+fn answer(call: u64) {
+    match call {
+        0 => sun_moon(),
+        1 => third_body(),
+        2 => solid_tide(),
+        3 => tides(),
+        4 => fictitious(),
+        5 => empirical(),
+        6 => say_answer(forces::j2_gravity(vector())),
+        _ => gravity(),
     }
 }
 
 fn main() {
-    let mut turns: u64 = 100000;
-    while turns > 0 && answer() {
-        turns -= 1;
-    }
+    replay::answer_each(answer);
 }

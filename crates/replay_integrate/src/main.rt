@@ -2,14 +2,16 @@
 // its length. The output stands at 3.0 and the scratch at 7.0 before a call.
 #![tactic(auto)]
 
-use replay::Item;
+use inputs::Model;
+use integrate::kernel::{Arc, Force};
+use replay::{Said, Word};
 
-fn arc_of() -> integrate::kernel::Arc {
+fn arc_of() -> Arc {
     let t0 = replay::float();
-    let steps = replay::number() as usize;
+    let steps = usize::read();
     let node = replay::float();
     let period = replay::float();
-    integrate::kernel::Arc {
+    Arc {
         t0,
         steps,
         node,
@@ -18,11 +20,11 @@ fn arc_of() -> integrate::kernel::Arc {
 }
 
 // 0 is the full model.
-fn force_of() -> integrate::kernel::Force {
+fn force_of() -> Force {
     if replay::number() == 0 {
-        integrate::kernel::Force::Full
+        Force::Full
     } else {
-        integrate::kernel::Force::J2
+        Force::J2
     }
 }
 
@@ -33,56 +35,42 @@ fn parameters() -> [f64; 15] {
     p
 }
 
-fn say_states(outcome: slices::Outcome, out: &[f64], scratch: &[f64]) {
-    replay::say_outcome(outcome);
-    replay::say_all(out);
-    replay::say_left(scratch, 4619567317775286272);
-}
-
 // The lengths of the output and of the scratch come next, and then the force, the arc and the parameters.
-fn with_model<'a>(degree: usize, model: inputs::Model<'a>) {
+fn with_model(model: Model<'_>) {
     let mut x = [3.0; 640];
     let mut w = [7.0; 160000];
-    let n = replay::count(640);
-    let m = replay::count(160000);
+    let out = replay::front(&mut x);
+    let scratch = replay::front(&mut w);
     let force = force_of();
     let arc = arc_of();
     let start = parameters();
-    let out = &mut x[0..n];
-    let scratch = &mut w[0..m];
-    let outcome = integrate::integrate(force, degree, model, arc, start, out, scratch);
-    say_states(outcome, &out[..], &scratch[..]);
+    integrate::integrate(force, model, arc, start, out, scratch).say();
+    replay::say_all(out);
+    replay::say_left(scratch, 7.0);
 }
 
-fn call() {
+fn answer(_call: u64) {
     let mut f = [0.0; 200];
     let mut p = [0.0; 100];
     let mut q = [0.0; 100];
     let mut t = [0.0; 40];
     let mut g = [0.0; 640];
-    let degree = replay::number() as usize;
-    let field = replay::full_list(&mut f);
-    let a = replay::full_list(&mut p);
-    let b = replay::full_list(&mut q);
-    let times = replay::full_list(&mut t);
+    let degree = usize::read();
+    let static_field = replay::full_list(&mut f);
+    let table_a = replay::full_list(&mut p);
+    let table_b = replay::full_list(&mut q);
+    let field_times = replay::full_list(&mut t);
     let added = replay::full_list(&mut g);
-    with_model(degree, [field, a, b, times, added]);
-}
-
-// One call; false at the end of the list.
-fn answer() -> bool {
-    match replay::next() {
-        Item::End => false,
-        Item::Value(_) => {
-            call();
-            true
-        }
-    }
+    with_model(Model {
+        degree,
+        static_field,
+        table_a,
+        table_b,
+        field_times,
+        added,
+    });
 }
 
 fn main() {
-    let mut turns: u64 = 100000;
-    while turns > 0 && answer() {
-        turns -= 1;
-    }
+    replay::answer_each(answer);
 }

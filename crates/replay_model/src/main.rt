@@ -2,57 +2,36 @@
 // its length. Outputs stand at 3.0 and scratch at 7.0 before a call.
 #![tactic(auto)]
 
-use replay::Item;
+use inputs::Model;
+use replay::{Said, Word};
 
 fn covers() {
     let mut room = [0.0; 40];
     let times = replay::full_list(&mut room);
     let t = replay::float();
-    let answer = model::covers(times, t);
-    match answer {
-        model::Cover::Covered => {
-            replay::say(0);
-            replay::say(1);
-        }
-        model::Cover::Uncovered => {
-            replay::say(0);
-            replay::say(0);
-        }
-        model::Cover::Refused(k) => {
-            replay::say(k as u64);
-        }
-    }
-}
-
-fn say_model(outcome: slices::Outcome, cosines: &[f64], sines: &[f64], scratch: &[f64]) {
-    replay::say_outcome(outcome);
-    replay::say_all(cosines);
-    replay::say_all(sines);
-    replay::say_left(scratch, 4619567317775286272);
+    model::covers(times, t).say();
 }
 
 // The lengths of the outputs and of the scratch come next.
-fn public_at(degree: usize, field: &[f64], times: &[f64], added: &[f64], t: f64) {
+fn public_at(model: Model<'_>, t: f64) {
     let mut x = [3.0; 240];
     let mut y = [3.0; 240];
     let mut w = [7.0; 160000];
-    let c = replay::count(240);
-    let s = replay::count(240);
-    let m = replay::count(160000);
-    let cosines = &mut x[0..c];
-    let sines = &mut y[0..s];
-    let scratch = &mut w[0..m];
-    let outcome = model::at(degree, field, times, added, t, cosines, sines, scratch);
-    say_model(outcome, &cosines[..], &sines[..], &scratch[..]);
+    let cosines = replay::front(&mut x);
+    let sines = replay::front(&mut y);
+    let scratch = replay::front(&mut w);
+    model::at(model, t, cosines, sines, scratch).say();
+    replay::say_all(cosines);
+    replay::say_all(sines);
+    replay::say_left(scratch, 7.0);
 }
 
 // The length of the output comes next.
-fn kernel_at<'a>(degree: usize, field: &'a [f64], times: &'a [f64], added: &'a [f64], t: f64) {
+fn kernel_at(model: Model<'_>, t: f64) {
     let mut x = [3.0; 480];
-    let n = replay::count(480);
-    let out = &mut x[0..n];
-    model::kernel::at(degree, [field, field, field, times, added], t, out);
-    replay::say_all(&out[..]);
+    let out = replay::front(&mut x);
+    model::kernel::at(model, t, out);
+    replay::say_all(out);
 }
 
 // Call 1 is the public one, call 2 the kernel.
@@ -60,15 +39,23 @@ fn at(call: u64) {
     let mut f = [0.0; 500];
     let mut x = [0.0; 40];
     let mut g = [0.0; 3000];
-    let degree = replay::number() as usize;
-    let field = replay::full_list(&mut f);
-    let times = replay::full_list(&mut x);
+    let degree = usize::read();
+    let static_field = replay::full_list(&mut f);
+    let field_times = replay::full_list(&mut x);
     let added = replay::full_list(&mut g);
     let t = replay::float();
+    let model = Model {
+        degree,
+        static_field,
+        table_a: static_field,
+        table_b: static_field,
+        field_times,
+        added,
+    };
     if call == 1 {
-        public_at(degree, field, times, added, t);
+        public_at(model, t);
     } else {
-        kernel_at(degree, field, times, added, t);
+        kernel_at(model, t);
     }
 }
 
@@ -78,30 +65,18 @@ fn weight() {
     let times = replay::full_list(&mut room);
     let t = replay::float();
     let j = model::kernel::bracket(times, t);
-    replay::say(j as u64);
-    replay::say_float(model::kernel::weight(times, t, j));
+    j.say();
+    model::kernel::weight(times, t, j).say();
 }
 
-// One call; false at the end of the list.
-fn answer() -> bool {
-    match replay::next() {
-        Item::End => false,
-        Item::Value(call) => {
-            if call == 0 {
-                covers();
-            } else if call == 3 {
-                weight();
-            } else {
-                at(call);
-            }
-            true
-        }
+fn answer(call: u64) {
+    match call {
+        0 => covers(),
+        3 => weight(),
+        _ => at(call),
     }
 }
 
 fn main() {
-    let mut turns: u64 = 100000;
-    while turns > 0 && answer() {
-        turns -= 1;
-    }
+    replay::answer_each(answer);
 }

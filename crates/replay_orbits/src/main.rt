@@ -3,109 +3,9 @@
 // are told, and the sum of all patterns.
 #![tactic(auto)]
 
-ghost use Rattle.std.specs.Prelude.{◌≡◌, nat_eq};
-ghost use Rattle.std.specs.Int.{w64};
-ghost use Rattle.std.proofs.Common.{of_z};
-ghost use Rattle.laws.specs.Checks.{all};
-
-use replay::Item;
-
-// The sum of the patterns, modulo 2^64.
-fn sum_of(values: &[f64]) -> u64 {
-    let mut sum: u64 = 0;
-    let mut i = 0;
-    while i < values.len() {
-        sum = std::num::wrapping_add_u64(sum, hexadecimal::pattern(values[i]));
-        i += 1;
-    }
-    sum
-}
-
-fn say_output(values: &[f64], between: u64) {
-    replay::say_left(values, 4613937818241073152);
-    replay::say(sum_of(values));
-    replay::say_some(values, between);
-}
-
-fn solve(
-    rows: &[f64],
-    y: &[f64],
-    columns: usize,
-    beta: &mut [f64],
-    residuals: &mut [f64],
-    between: u64,
-) {
-    let outcome = least_squares::ols(rows, y, columns, beta, residuals);
-    replay::say_outcome(outcome);
-    say_output(&beta[..], 0);
-    say_output(&residuals[..], between);
-}
-
-fn ols() {
-    let mut x = [0.0; 101000];
-    let mut z = [0.0; 101000];
-    let mut beta = [3.0; 20];
-    let mut residuals = [3.0; 101000];
-    let rows = replay::list(&mut x);
-    let y = replay::list(&mut z);
-    let columns = replay::number() as usize;
-    let p = replay::count(20);
-    let m = replay::count(101000);
-    let between = replay::number();
-    solve(
-        rows,
-        y,
-        columns,
-        &mut beta[0..p],
-        &mut residuals[0..m],
-        between,
-    );
-}
-
-fn say_fitted(answer: fit::kernel::Fitted) {
-    match answer {
-        fit::kernel::Fitted::Fitted(rms) => {
-            replay::say(0);
-            replay::say_float(rms);
-        }
-        fit::kernel::Fitted::Refused(n) => {
-            replay::say(n as u64);
-        }
-    }
-}
-
-fn arc_of() -> integrate::kernel::Arc {
-    let t0 = replay::float();
-    let steps = replay::number() as usize;
-    let node = replay::float();
-    let period = replay::float();
-    integrate::kernel::Arc {
-        t0: t0,
-        steps: steps,
-        node: node,
-        period: period,
-    }
-}
-
-fn say_fit(answer: fit::kernel::Fitted, out: &[f64], scratch: &[f64], between: u64) {
-    say_fitted(answer);
-    say_output(out, between);
-    replay::say_left(scratch, 4619567317775286272);
-}
-
-// The arc and the lengths of the output and of the scratch come next.
-fn fit_orbit<'a>(degree: usize, model: inputs::Model<'a>, keys: &[i64], states: &[f64]) {
-    let mut x = [3.0; 31900];
-    let mut w = [7.0; 170000];
-    let arc = arc_of();
-    let o = replay::count(31900);
-    let s = replay::count(170000);
-    let between = replay::number();
-    let out = &mut x[0..o];
-    let scratch = &mut w[0..s];
-    let answer = fit::fit_orbit(degree, model, keys, states, arc, out, scratch);
-    say_fit(answer, &out[..], &scratch[..], between);
-}
+use inputs::{Keyed, Model};
+use integrate::kernel::Arc;
+use replay::{Said, Word};
 
 // The sum of all words, and the sum of its values after each word, modulo 2^64.
 #[derive(Clone, Copy)]
@@ -114,163 +14,106 @@ struct Sums {
     sums: u64,
 }
 
-fn summed(s: Sums, word: u64) -> Sums {
-    let sum = std::num::wrapping_add_u64(s.sum, word);
-    Sums {
-        sum: sum,
-        sums: std::num::wrapping_add_u64(s.sums, sum),
-    }
-}
-
-fn sums_of(values: &[f64]) -> Sums {
-    let mut s = Sums { sum: 0, sums: 0 };
-    let mut i = 0;
-    while i < values.len() {
-        s = summed(s, hexadecimal::pattern(values[i]));
-        i += 1;
-    }
-    s
-}
-
-fn key_sums(keys: &[i64]) -> Sums {
-    let mut s = Sums { sum: 0, sums: 0 };
-    let mut i = 0;
-    while i < keys.len() {
-        let key = keys[i];
-        s = summed(s, replay::unsigned(key));
-        i += 1;
-    }
-    s
-}
-
-fn say_sums(s: Sums) {
-    replay::say(s.sum);
-    replay::say(s.sums);
-}
-
-fn keys_are(keys: &[i64], key: i64) -> bool
-    ensures { result ≡ all (λ k. nat_eq (of_z w64 k) (of_z w64 key)) keys.now }
-{
-    let mut i = 0;
-    while i < keys.len() {
-        if keys[i] != key {
-            return false;
+fn sums_of<T: Word>(values: &[T]) -> Sums {
+    values.iter().fold(Sums { sum: 0, sums: 0 }, |before, x| {
+        let sum = before.sum.wrapping_add(x.word());
+        Sums {
+            sum,
+            sums: before.sums.wrapping_add(sum),
         }
-        i += 1;
-    }
-    true
+    })
 }
 
-// As replay::say_left.
-fn say_keys_kept(keys: &[i64]) {
-    if keys_are(keys, 0) {
-        replay::say(0);
-    } else if keys_are(keys, 3) {
-        replay::say(1);
-    } else {
-        replay::say(2);
-    }
-}
-
-// As replay::say_some.
-fn say_some_keys(keys: &[i64], between: u64) {
-    let mut left = 0;
-    let mut i = 0;
-    while i < keys.len() {
-        if left == 0 {
-            let key = keys[i];
-            replay::say(replay::unsigned(key));
-            left = between;
-        } else {
-            left -= 1;
-        }
-        i += 1;
-    }
-}
-
-fn say_list(values: &[f64], between: u64) {
-    replay::say_left(values, 4613937818241073152);
-    say_sums(sums_of(values));
+fn say_output(values: &[f64], between: u64) {
+    replay::say_left(values, 3.0);
+    sums_of(values).sum.say();
     replay::say_some(values, between);
 }
 
-fn say_keys(keys: &[i64], between: u64) {
-    say_keys_kept(keys);
-    say_sums(key_sums(keys));
-    say_some_keys(keys, between);
+fn say_list<T: Word + Said>(values: &[T], stood: T, between: u64) {
+    replay::say_left(values, stood);
+    let sums = sums_of(values);
+    sums.sum.say();
+    sums.sums.say();
+    replay::say_some(values, between);
 }
 
-fn say_counts(answer: fitted_orbits::FittedOrbits) {
-    match answer {
-        fitted_orbits::FittedOrbits::Counted(states, windows) => {
-            replay::say(0);
-            replay::say(states as u64);
-            replay::say(windows as u64);
-        }
-        fitted_orbits::FittedOrbits::Refused(n) => {
-            replay::say(n as u64);
-        }
+fn ols() {
+    let mut x = [0.0; 101000];
+    let mut z = [0.0; 101000];
+    let mut b = [3.0; 20];
+    let mut r = [3.0; 101000];
+    let rows = replay::list(&mut x);
+    let y = replay::list(&mut z);
+    let columns = usize::read();
+    let beta = replay::front(&mut b);
+    let residuals = replay::front(&mut r);
+    let between = replay::number();
+    least_squares::ols(rows, y, columns, beta, residuals).say();
+    say_output(beta, 0);
+    say_output(residuals, between);
+}
+
+fn arc_of() -> Arc {
+    let t0 = replay::float();
+    let steps = usize::read();
+    let node = replay::float();
+    let period = replay::float();
+    Arc {
+        t0,
+        steps,
+        node,
+        period,
     }
 }
 
-fn say_windows(
-    answer: fitted_orbits::FittedOrbits,
-    keys: &[i64],
-    states: &[f64],
-    rms: &[f64],
-    scratch: &[f64],
-    some_keys: u64,
-    some_states: u64,
-) {
-    say_counts(answer);
-    say_keys(keys, some_keys);
-    say_list(states, some_states);
-    say_list(rms, 0);
-    replay::say_left(scratch, 4619567317775286272);
+// The arc and the lengths of the output and of the scratch come next.
+fn fit_orbit(model: Model<'_>, states: Keyed<'_>) {
+    let mut x = [3.0; 31900];
+    let mut w = [7.0; 170000];
+    let arc = arc_of();
+    let out = replay::front(&mut x);
+    let scratch = replay::front(&mut w);
+    let between = replay::number();
+    fit::fit_orbit(model, states, arc, out, scratch).say();
+    say_output(out, between);
+    replay::say_left(scratch, 7.0);
 }
 
 // The nodes and the lengths of the outputs and of the scratch come next.
-fn fitted_orbits<'a>(degree: usize, model: inputs::Model<'a>, keys: &[i64], states: &[f64]) {
+fn fitted_orbits(model: Model<'_>, states: Keyed<'_>) {
     let mut n = [0.0; 70];
     let mut k = [3i64; 14000];
     let mut x = [3.0; 84000];
     let mut r = [3.0; 10];
     let mut w = [7.0; 350000];
     let nodes = replay::list(&mut n);
-    let o = replay::count(14000);
-    let p = replay::count(84000);
-    let q = replay::count(10);
-    let s = replay::count(350000);
+    let outkeys = replay::front(&mut k);
+    let outstates = replay::front(&mut x);
+    let rms = replay::front(&mut r);
+    let scratch = replay::front(&mut w);
     let some_keys = replay::number();
     let some_states = replay::number();
-    let outkeys = &mut k[0..o];
-    let outstates = &mut x[0..p];
-    let rms = &mut r[0..q];
-    let scratch = &mut w[0..s];
-    let answer = fitted_orbits::fitted_orbits(
-        degree, model, keys, states, nodes, outkeys, outstates, rms, scratch,
-    );
-    say_windows(
-        answer,
-        &outkeys[..],
-        &outstates[..],
-        &rms[..],
-        &scratch[..],
-        some_keys,
-        some_states,
-    );
+    fitted_orbits::fitted_orbits(model, states, nodes, outkeys, outstates, rms, scratch)
+        .map(|done| [done.states, done.windows])
+        .say();
+    say_list(outkeys, 3, some_keys);
+    say_list(outstates, 3.0, some_states);
+    say_list(rms, 3.0, 0);
+    replay::say_left(scratch, 7.0);
 }
 
 // The states come next.
-fn over<'a>(call: u64, degree: usize, model: inputs::Model<'a>) {
+fn over(call: u64, model: Model<'_>) {
     let mut k = [0i64; 200010];
     let mut x = [0.0; 40000];
-    let keys = replay::key_list(&mut k);
-    let states = replay::list(&mut x);
-    if call == 1 {
-        fit_orbit(degree, model, keys, states);
-    } else {
-        fitted_orbits(degree, model, keys, states);
+    let states = Keyed {
+        keys: replay::list(&mut k),
+        values: replay::list(&mut x),
+    };
+    match call {
+        1 => fit_orbit(model, states),
+        _ => fitted_orbits(model, states),
     }
 }
 
@@ -280,33 +123,24 @@ fn fitted(call: u64) {
     let mut y = [0.0; 250];
     let mut t = [0.0; 40];
     let mut g = [0.0; 3000];
-    let degree = replay::number() as usize;
-    let field = replay::list(&mut f);
-    let a = replay::list(&mut x);
-    let b = replay::list(&mut y);
-    let times = replay::list(&mut t);
-    let added = replay::list(&mut g);
-    over(call, degree, [field, a, b, times, added]);
+    let model = Model {
+        degree: usize::read(),
+        static_field: replay::list(&mut f),
+        table_a: replay::list(&mut x),
+        table_b: replay::list(&mut y),
+        field_times: replay::list(&mut t),
+        added: replay::list(&mut g),
+    };
+    over(call, model);
 }
 
-// One call; false at the end of the list.
-fn answer() -> bool {
-    match replay::next() {
-        Item::End => false,
-        Item::Value(call) => {
-            if call == 0 {
-                ols();
-            } else {
-                fitted(call);
-            }
-            true
-        }
+fn answer(call: u64) {
+    match call {
+        0 => ols(),
+        _ => fitted(call),
     }
 }
 
 fn main() {
-    let mut turns: u64 = 100000;
-    while turns > 0 && answer() {
-        turns -= 1;
-    }
+    replay::answer_each(answer);
 }

@@ -7,12 +7,13 @@ ghost use Rattle.std.specs.Prelude.{◌≡◌, ◌≤◌, take};
 ghost use Rattle.record_detrending.specs.Calls.{left_records, remove_call};
 
 use epoch_record::Epoch;
-use replay::Item;
+use replay::Said;
+use slices::Refusal;
 
 // What the call answered, and the records after it.
 #[derive(Clone, Copy)]
 struct Left {
-    answer: slices::Outcome,
+    answer: Result<(), Refusal>,
     epochs: [Epoch; 128],
 }
 
@@ -35,17 +36,16 @@ fn read_epoch() -> Epoch {
 }
 
 fn say_epoch(e: Epoch) {
-    let terms = e.terms;
-    let mid = e.mid;
-    let vel = e.vel;
-    replay::say_float(e.t);
-    replay::say_float(e.residual);
-    replay::say_all(&terms);
-    replay::say_all(&mid);
-    replay::say_all(&vel);
+    e.t.say();
+    e.residual.say();
+    e.terms.say();
+    e.mid.say();
+    e.vel.say();
 }
 
-fn read_epochs(n: usize) -> [Epoch; 128] {
+fn read_epochs(n: usize) -> [Epoch; 128]
+    requires { n ≤ 128 }
+{
     let none = Epoch {
         t: 0.0,
         residual: 0.0,
@@ -54,26 +54,10 @@ fn read_epochs(n: usize) -> [Epoch; 128] {
         vel: [0.0; 3],
     };
     let mut epochs = [none; 128];
-    let mut i = 0;
-    while i < n {
-        if i >= 128 {
-            return epochs;
-        }
+    for i in 0..n {
         epochs[i] = read_epoch();
-        i += 1;
     }
     epochs
-}
-
-fn say_epochs(epochs: [Epoch; 128], n: usize) {
-    let mut i = 0;
-    while i < n {
-        if i >= 128 {
-            return;
-        }
-        say_epoch(epochs[i]);
-        i += 1;
-    }
 }
 
 // The first n records with each revolution's fit removed, and the others.
@@ -86,41 +70,21 @@ fn removed(mut epochs: [Epoch; 128], n: usize, nodes: &[f64], scratch: &mut [f64
     Left { answer, epochs }
 }
 
-fn remove(epochs: [Epoch; 128], n: usize, nodes: &[f64], scratch: &mut [f64])
-    requires { n ≤ 128 }
-{
-    let left = removed(epochs, n, nodes, scratch);
-    let outcome = left.answer;
-    let epochs = left.epochs;
-    replay::say_outcome(outcome);
-    say_epochs(epochs, n);
-    replay::say_left(scratch, 4619567317775286272);
-}
-
-fn call() {
+fn answer(_call: u64) {
     let mut u = [0.0; 66];
-    let mut scratch = [7.0; 1100];
+    let mut w = [7.0; 1100];
     let n = replay::count(128);
     let epochs = read_epochs(n);
     let nodes = replay::full_list(&mut u);
-    let room = replay::count(1100);
-    remove(epochs, n, nodes, &mut scratch[0..room]);
-}
-
-// One call; false at the end of the list.
-fn answer() -> bool {
-    match replay::next() {
-        Item::End => false,
-        Item::Value(_) => {
-            call();
-            true
-        }
+    let scratch = replay::front(&mut w);
+    let left = removed(epochs, n, nodes, scratch);
+    left.answer.say();
+    for epoch in &left.epochs[..n] {
+        say_epoch(*epoch);
     }
+    replay::say_left(scratch, 7.0);
 }
 
 fn main() {
-    let mut turns: u64 = 100000;
-    while turns > 0 && answer() {
-        turns -= 1;
-    }
+    replay::answer_each(answer);
 }

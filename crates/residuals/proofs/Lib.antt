@@ -2,14 +2,12 @@
 --
 --   Making        one observation tried over the lists
 --   Answers       what `epoch` answers and leaves, in the cases of its code
---   Blanks        clearing a list of arrays from the front
 --   Turns         one turn of the loop over the observations
 --   ListAnswers   what `residuals` answers and leaves, in the cases of its code
 --   Published     with the tables of `Legendre::new` both calls are those over the published series
 --   Numbers       the number of each answer, and when it has a value
 mod Making
 mod Answers
-mod Blanks
 mod Turns
 mod ListAnswers
 pub mod Published

@@ -2,19 +2,23 @@
 use mathlib.Core.Path.{◌≡◌, refl, sym, ap, ◌∙◌}
 use mathlib.Core.Bool.{Bool, true, false, ◌&&◌}
 use mathlib.Core.List.{List}
-use Prim.Native.Nat.{ℕ, zero, suc}
+use Prim.Native.Nat.{ℕ}
 use lib.Dec.{leb, eqb}
 use lib.Ieee.{Float}
 use lib.Ieee.Scale.{finite}
-use lib.ListN.{length, replicate}
+use lib.ListN.{length}
 use borrow.Author.Tests.{eqb-true}
-use Rattle.laws.specs.Floats.{zero64}
-use Rattle.laws.specs.Checks.{all, is_time, rising, degree_fine}
+use Rattle.std.specs.List.{list_all}
+use Rattle.laws.specs.Checks.{is_time, rising, degree_fine}
 use Rattle.laws.specs.Bools.{both_true}
 use Rattle.inputs.specs.Inputs.{scratch_fits, Observed, Inputs, inputs_counted, inputs_fit, inputs_fine, inputs_rise}
 use Rattle.inputs.proofs.Passed.{AllPass, all_pass}
-use Rattle.slices.specs.declared.Counted.TheVariants.{Counted as Filled, Refused as NotFilled}
-use Rattle.residuals.specs.declared.filling.Filled.{Filled as Count}
+use Rattle.slices.specs.Calls.{Verdict, accepted}
+use Rattle.slices.specs.declared.refusal.Refusal.{Refusal}
+use Rattle.slices.specs.declared.refusal.Refusal.TheVariants.{NotFinite}
+use Rattle.std.specs.Prelude.{Ok, Err}
+use Rattle.laws.specs.Loops.{cleared, same_cleared}
+use Rattle.residuals.specs.declared.filling.Filled.{Filled}
 use Rattle.residuals.specs.Work.{Ready}
 use Rattle.residuals.specs.Calls.{EpochColumns, samples_fit, outputs_fit, residuals_refusal, columns_left, handed_out, settled_columns, kept_in, residuals_call, epoch_finite}
 use Rattle.residuals.specs.Filling.{blank, Long, Done}
@@ -48,23 +52,22 @@ samples_pass obs l h =
       };
     }
 
-module _ (inp : Inputs) (obs : Observed) (l : EpochColumns) (samples : Bool) (n scratch : ℕ) (b : samples ≡ outputs_fit obs l) (e : n ≡ residuals_refusal inp obs samples scratch) (z : n ≡ 0) where
+module _ (inp : Inputs) (obs : Observed) (l : EpochColumns) (samples : Bool) (scratch : ℕ) (b : samples ≡ outputs_fit obs l) (z : residuals_refusal inp obs samples scratch ≡ accepted) where
   passed : AllPass (degree_fine inp.model.fixed.degree) (inputs_counted inp && leb (length obs.obs_times) 100000)
       ((inputs_fit inp && scratch_fits inp.model.fixed.degree (length inp.model.fields.field_times) (length obs.obs_times) scratch) && samples)
-      (inputs_fine inp && (all is_time obs.obs_times && all finite obs.values)) (inputs_rise inp && rising obs.obs_times) 0
+      (inputs_fine inp && (list_all is_time obs.obs_times && list_all finite obs.values)) (inputs_rise inp && rising obs.obs_times) accepted
   unfolding residuals_refusal
   passed = all_pass (degree_fine inp.model.fixed.degree) (inputs_counted inp && leb (length obs.obs_times) 100000)
       ((inputs_fit inp && scratch_fits inp.model.fixed.degree (length inp.model.fields.field_times) (length obs.obs_times) scratch) && samples)
-      (inputs_fine inp && (all is_time obs.obs_times && all finite obs.values)) (inputs_rise inp && rising obs.obs_times) 0 (sym e ∙ z)
+      (inputs_fine inp && (list_all is_time obs.obs_times && list_all finite obs.values)) (inputs_rise inp && rising obs.obs_times) accepted z
 
   fits : Samples obs l
   fits = samples_pass obs l (sym b ∙ (both_true (inputs_fit inp && scratch_fits inp.model.fixed.degree (length inp.model.fields.field_times) (length obs.obs_times) scratch) samples
       passed.lengths).1)
 
-  pub residuals_ready : Ready inp.model.fixed.degree inp.states.c.keys inp.states.d.keys inp.accs.c.keys inp.accs.d.keys scratch
-      × (length obs.values ≡ length obs.obs_times) × (length obs.good ≡ length obs.obs_times) × Long (length obs.obs_times) l
+  pub residuals_ready : Ready inp scratch × (length obs.values ≡ length obs.obs_times) × (length obs.good ≡ length obs.obs_times) × Long (length obs.obs_times) l
   residuals_ready = (
-    ready inp (length obs.obs_times) scratch (inputs_fine inp && (all is_time obs.obs_times && all finite obs.values))
+    ready inp (length obs.obs_times) scratch (inputs_fine inp && (list_all is_time obs.obs_times && list_all finite obs.values))
         (record {
           degree = passed.degree;
           counts = (both_true (inputs_counted inp) (leb (length obs.obs_times) 100000) passed.counts).0;
@@ -78,28 +81,24 @@ module _ (inp : Inputs) (obs : Observed) (l : EpochColumns) (samples : Bool) (n 
     fits.long,
   )
 
-module _ (inp : Inputs) (obs : Observed) (l : EpochColumns) (s : List Float) (samples : Bool) (n : ℕ) (b : samples ≡ outputs_fit obs l) (e : n ≡ residuals_refusal inp obs samples (length s)) where
-  settles : settled_columns n (length obs.obs_times) (kept_in inp obs) l s ≡ residuals_call inp obs l s
-  settles = ap (λ (k : ℕ). settled_columns k (length obs.obs_times) (kept_in inp obs) l s) (e ∙ ap (λ (x : Bool). residuals_refusal inp obs x (length s)) b)
+module _ (inp : Inputs) (obs : Observed) (l : EpochColumns) (s : List Float) (samples : Bool) (b : samples ≡ outputs_fit obs l) where
+  settles : (v : Verdict) → residuals_refusal inp obs samples (length s) ≡ v → settled_columns v (length obs.obs_times) (kept_in inp obs) l s ≡ residuals_call inp obs l s
+  settles v e = ap (λ (v : Verdict). settled_columns v (length obs.obs_times) (kept_in inp obs) l s) (sym e ∙ ap (λ (x : Bool). residuals_refusal inp obs x (length s)) b)
 
-  pub residuals_refused : (n ≡ 0 → ⊥) → columns_left (NotFilled n) l s ≡ residuals_call inp obs l s
-  residuals_refused z = nonzero n z ∙ settles
-    where
-      nonzero : (n : ℕ) → (n ≡ 0 → ⊥) → columns_left (NotFilled n) l s ≡ settled_columns n (length obs.obs_times) (kept_in inp obs) l s
-      nonzero zero h = absurd (h refl)
-      nonzero (suc n) h = refl
+  pub residuals_refused : (e : Refusal) → residuals_refusal inp obs samples (length s) ≡ Err e → columns_left (Err e) l s ≡ residuals_call inp obs l s
+  residuals_refused e z = settles (Err e) z
 
-  handed : (x : Bool) → n ≡ 0 → x ≡ all epoch_finite (kept_in inp obs) → handed_out x (length obs.obs_times) (kept_in inp obs) s ≡ residuals_call inp obs l s
-  handed x z f = ap (λ (y : Bool). handed_out y (length obs.obs_times) (kept_in inp obs) s) f
-      ∙ ap (λ (k : ℕ). settled_columns k (length obs.obs_times) (kept_in inp obs) l s) (sym z) ∙ settles
+  module _ (z : residuals_refusal inp obs samples (length s) ≡ accepted) where
+    handed : (x : Bool) → x ≡ list_all epoch_finite (kept_in inp obs) → handed_out x (length obs.obs_times) (kept_in inp obs) s ≡ residuals_call inp obs l s
+    handed x f = ap (λ (y : Bool). handed_out y (length obs.obs_times) (kept_in inp obs) s) f ∙ settles accepted z
 
-  pub residuals_handed : (r : Count) (l' : EpochColumns) (s' : List Float) (k : ℕ) → n ≡ 0 → Done inp obs r l' → k ≡ length s → s' ≡ replicate k zero64 → r.fine ≡ true →
-      columns_left (Filled r.count) l' s' ≡ residuals_call inp obs l s
-  residuals_handed r l' s' k z d h g f =
-      (λ i. columns_left (Filled (d.count i)) (d.outputs i) ((g ∙ ap (λ (k : ℕ). replicate k zero64) h) i)) ∙ handed true z (sym f ∙ d.fine)
+    pub residuals_handed : (r : Filled) (l' : EpochColumns) (s' w : List Float) → Done inp obs r l' → s' ≡ cleared w → length w ≡ length s → r.fine ≡ true →
+        columns_left (Ok r.count) l' s' ≡ residuals_call inp obs l s
+    residuals_handed r l' s' w d g h f =
+        (λ i. columns_left (Ok (d.count i)) (d.outputs i) ((g ∙ same_cleared w s h) i)) ∙ handed true (sym f ∙ d.fine)
 
-  pub residuals_unfit : (r : Count) (l' l'' : EpochColumns) (s' : List Float) (k : ℕ) → n ≡ 0 → Done inp obs r l' → k ≡ length s → s' ≡ replicate k zero64 → r.fine ≡ false → l'' ≡ blank l' →
-      columns_left (NotFilled 10) l'' s' ≡ residuals_call inp obs l s
-  residuals_unfit r l' l'' s' k z d h g f w =
-      (λ i. columns_left (NotFilled 10) ((w ∙ blank_is (length obs.obs_times) l' (done_long inp obs r l' d)) i) ((g ∙ ap (λ (k : ℕ). replicate k zero64) h) i))
-      ∙ handed false z (sym f ∙ d.fine)
+    pub residuals_unfit : (r : Filled) (l' l'' : EpochColumns) (s' w : List Float) → Done inp obs r l' → s' ≡ cleared w → length w ≡ length s → r.fine ≡ false → l'' ≡ blank l' →
+        columns_left (Err NotFinite) l'' s' ≡ residuals_call inp obs l s
+    residuals_unfit r l' l'' s' w d g h f c =
+        (λ i. columns_left (Err NotFinite) ((c ∙ blank_is (length obs.obs_times) l' (done_long inp obs r l' d)) i) ((g ∙ same_cleared w s h) i))
+        ∙ handed false (sym f ∙ d.fine)

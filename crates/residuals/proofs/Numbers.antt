@@ -1,52 +1,52 @@
--- Document 01's number of what `epoch` answers: that of the tests before the work, then 10; it says whether the epoch is kept exactly where that is 0.
+-- Document 01's number of what `epoch` answers: that of the tests before the work, then 10; it says whether the epoch is kept, with its record, exactly where that is 0.
 -- Assumes nothing.
-use mathlib.Core.Path.{◌≡◌, refl, sym}
+use mathlib.Core.Path.{◌≡◌, refl}
 use mathlib.Core.Bool.{Bool, true, false, cond, ◌&&◌}
 use mathlib.Core.List.{List, [], ◌∷◌}
-use mathlib.Core.Option.{Option, none, some}
-use Prim.Native.Nat.{ℕ, zero, suc}
-use native.Mathlib.Omega.{arith}
+use Rattle.std.specs.Prelude.{Option, None, Some, Ok, Err}
 use lib.Dec.{eqb}
-use lib.ListN.{length}
+use Prim.Native.Nat.{ℕ}
 use lib.Ieee.{Float}
-use borrow.Author.Tests.{ne_eqb}
-use Rattle.slices.specs.Calls.{first_failed}
+use lib.ListN.{length}
+use Rattle.slices.specs.Calls.{Verdict, first_failed}
+use Rattle.slices.specs.Answers.{number_of, answer_number, answer_value}
+use Rattle.slices.specs.declared.refusal.Refusal.{Refusal}
+use Rattle.slices.specs.declared.refusal.Refusal.TheVariants.{NotFinite}
+use Rattle.slices.proofs.Calls.{refused_ne0}
 use Rattle.inputs.specs.Inputs.{Inputs}
 use Rattle.finality.specs.Sheet.{Observation}
 use Rattle.epoch_record.specs.declared.Epoch.{Epoch}
-use Rattle.residuals.specs.declared.EpochAnswer.{EpochAnswer}
-use Rattle.residuals.specs.declared.Verdict.TheVariants.{Kept}
 use Rattle.residuals.specs.Inputs.{epoch_of}
-use Rattle.residuals.specs.Calls.{verdict_number, verdict_value, epoch_refusal, epoch_finite, refused, epoch_left, epoch_call}
+use Rattle.residuals.specs.Calls.{EpochAnswer, epoch_refusal, epoch_finite, answered, epoch_left, epoch_call}
 
 -- nothing is handed out of an epoch that is not kept
 abbrev pub finite_where_kept : Option Epoch → Bool
-finite_where_kept none = true
-finite_where_kept (some e) = epoch_finite e
+finite_where_kept None = true
+finite_where_kept (Some e) = epoch_finite e
 
-abbrev pub is_kept : Option Epoch → Bool
-is_kept none = false
-is_kept (some e) = true
+-- told by the number n of the tests before the work
+abbrev Told : ℕ → Bool → Option Epoch → EpochAnswer → Type 0
+Told n fine e a =
+    (answer_number a ≡ cond (eqb n 0) (answer_number (first_failed ((fine, NotFinite) ∷ []))) n)
+    × (answer_value a ≡ cond (eqb n 0 && fine) (Some e) None)
 
-abbrev handed : Bool → Epoch → EpochAnswer
-handed whole e = cond whole (record { verdict = Kept; epoch = e }) (refused 10)
+kept_told : (whole : Bool) (e : Epoch) → Told 0 whole (Some e) (cond whole (Ok (Some e)) (Err NotFinite))
+kept_told true e = (refl, refl)
+kept_told false e = (refl, refl)
 
-handed_by_law : (whole : Bool) (e : Epoch) → (verdict_number (handed whole e).verdict ≡ first_failed ((whole, 10) ∷ []))
-    × (verdict_value (handed whole e).verdict ≡ cond whole (some true) none)
-handed_by_law true e = (refl, refl)
-handed_by_law false e = (refl, refl)
+made_told : (e : Option Epoch) → Told 0 (finite_where_kept e) e (answered e)
+made_told None = (refl, refl)
+made_told (Some e) = kept_told (epoch_finite e) e
 
-left_by : (n : ℕ) (e : Option Epoch) (scratch : List Float) →
-    (verdict_number (epoch_left n e scratch).answer.verdict ≡ first_failed ((eqb n 0, n) ∷ (finite_where_kept e, 10) ∷ []))
-    × (verdict_value (epoch_left n e scratch).answer.verdict ≡ cond (eqb n 0 && finite_where_kept e) (some (is_kept e)) none)
-left_by (suc n) e scratch =
-    let refuses : eqb (suc n) 0 ≡ false = ne_eqb (suc n) 0 (λ q. absurd (omega (arith, q))) in
-    (λ i. first_failed ((sym refuses i, suc n) ∷ (finite_where_kept e, 10) ∷ []), λ i. cond (sym refuses i && finite_where_kept e) (some (is_kept e)) none)
-left_by zero none scratch = (refl, refl)
-left_by zero (some e) scratch = handed_by_law (epoch_finite e) e
+refused_told : (r : Refusal) (fine : Bool) (e : Option Epoch) → Told (number_of r) fine e (Err r)
+refused_told r fine e = (rw (refused_ne0 r) refl, rw (refused_ne0 r) refl)
+
+left_by : (v : Verdict) (e : Option Epoch) (scratch : List Float) → Told (answer_number v) (finite_where_kept e) e (epoch_left v e scratch).answer
+left_by (Err r) e scratch = refused_told r (finite_where_kept e) e
+left_by (Ok _) e scratch = made_told e
 
 pub epoch_told : (inp : Inputs) (o : Observation) (scratch : List Float) →
-    let n = epoch_refusal inp o.at o.observed (length scratch) in
-    (verdict_number (epoch_call inp o scratch).answer.verdict ≡ first_failed ((eqb n 0, n) ∷ (finite_where_kept (epoch_of inp o), 10) ∷ []))
-    × (verdict_value (epoch_call inp o scratch).answer.verdict ≡ cond (eqb n 0 && finite_where_kept (epoch_of inp o)) (some (is_kept (epoch_of inp o))) none)
+    let n = answer_number (epoch_refusal inp o.at o.observed (length scratch)) in
+    (answer_number (epoch_call inp o scratch).answer ≡ cond (eqb n 0) (answer_number (first_failed ((finite_where_kept (epoch_of inp o), NotFinite) ∷ []))) n)
+    × (answer_value (epoch_call inp o scratch).answer ≡ cond (eqb n 0 && finite_where_kept (epoch_of inp o)) (Some (epoch_of inp o)) None)
 epoch_told inp o scratch = left_by (epoch_refusal inp o.at o.observed (length scratch)) (epoch_of inp o) scratch

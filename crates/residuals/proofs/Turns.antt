@@ -1,22 +1,19 @@
 -- One turn of the loop over the observations. Assumes nothing.
 use mathlib.Core.Path.{◌≡◌, refl, sym, ap, ◌∙◌, subst}
 use mathlib.Core.Bool.{Bool, true, false, ◌&&◌, and-true}
-use mathlib.Core.Option.{Option, none, some}
+use Rattle.std.specs.Prelude.{Option, None, Some}
 use mathlib.Core.List.{List, [], ◌∷◌, ◌++◌, append-nil}
-use Prim.Native.Nat.{ℕ, ◌+◌, ◌-◌, ◌≤◌, ◌<◌}
+use Prim.Native.Nat.{ℕ, ◌+◌, ◌≤◌, ◌<◌}
 use native.Mathlib.Omega.{arith}
 use lib.Ieee.{Float, nan}
 use lib.ListN.{length, get_or, replicate, length-append}
 use Rattle.inputs.specs.Inputs.{Observed, Inputs}
 use Rattle.laws.specs.Floats.{zero64}
-use Rattle.laws.specs.Checks.{all}
-use Rattle.laws.specs.Bools.{clash}
+use Rattle.std.specs.List.{list_all}
 use Rattle.laws.specs.Loops.{filled_none}
 use Rattle.finality.specs.Sheet.{Observation, keep, kept_of}
 use Rattle.epoch_record.specs.declared.Epoch.{Epoch}
-use Rattle.epoch.specs.declared.Made.{Made}
 use Rattle.epoch.specs.Kept.{observation}
-use Rattle.epoch.specs.Work.{made_of}
 use Rattle.epoch.proofs.Kept.{observation_at, kept_more as more_kept, kept_few as few_kept, kept_all as all_kept, set_more, filled_records}
 use Rattle.residuals.specs.declared.filling.Filled.{Filled}
 use Rattle.residuals.specs.Inputs.{epoch_of}
@@ -58,9 +55,9 @@ filled_long m es h = record {
   vels = filled_records (replicate 3 zero64) (λ (e : Epoch). e.vel) m es h;
 }
 
-all_snoc : {A : Type 0} (p : A → Bool) (xs : List A) (x : A) → all p (xs ++ (x ∷ [])) ≡ (all p xs && p x)
+all_snoc : {A : Type 0} (p : A → Bool) (xs : List A) (x : A) → list_all p (xs ++ (x ∷ [])) ≡ (list_all p xs && p x)
 all_snoc p [] x = and-true (p x)
-all_snoc p (y ∷ xs) x = ap (λ (b : Bool). p y && b) (all_snoc p xs x) ∙ and_assoc (p y) (all p xs) (p x)
+all_snoc p (y ∷ xs) x = ap (λ (b : Bool). p y && b) (all_snoc p xs x) ∙ and_assoc (p y) (list_all p xs) (p x)
   where
     and_assoc : (a b d : Bool) → (a && (b && d)) ≡ ((a && b) && d)
     and_assoc true b d = refl
@@ -70,32 +67,31 @@ all_snoc p (y ∷ xs) x = ap (λ (b : Bool). p y && b) (all_snoc p xs x) ∙ and
 
 record After (m : ℕ) (es : List Epoch) (r : Filled) (l : EpochColumns) : Type 0 where
   pub count : r.count ≡ length es
-  pub fine : r.fine ≡ all epoch_finite es
+  pub fine : r.fine ≡ list_all epoch_finite es
   pub outputs : l ≡ filled_columns m es
 
-module _ (m : ℕ) (es es' : List Epoch) (f r : Filled) (l l' : EpochColumns) (made : Made) (h : length es < m)
-    (ec : f.count ≡ length es) (ef : f.fine ≡ all epoch_finite es) (el : l ≡ filled_columns m es) (ad : Added made f r l l') where
-  advance : (o : Option Epoch) → es' ≡ es ++ keep o [] → made ≡ made_of o → After m es' r l'
-  advance none e k =
-      let no : made.kept ≡ false = ap (λ (x : Made). x.kept) k in
+module _ (m : ℕ) (es es' : List Epoch) (f r : Filled) (l l' : EpochColumns) (made : Option Epoch) (h : length es < m)
+    (ec : f.count ≡ length es) (ef : f.fine ≡ list_all epoch_finite es) (el : l ≡ filled_columns m es) (ad : Added made f r l l') where
+  advance : (o : Option Epoch) → es' ≡ es ++ keep o [] → made ≡ o → After m es' r l'
+  advance None e k =
       let same : es' ≡ es = e ∙ append-nil es in
+      let is = ad.still k in
       record {
-        count = ap (λ (x : Filled). x.count) (ad.same no) ∙ ec ∙ ap length (sym same);
-        fine = ap (λ (x : Filled). x.fine) (ad.same no) ∙ ef ∙ ap (all epoch_finite) (sym same);
-        outputs = ad.still no ∙ el ∙ ap (filled_columns m) (sym same);
+        count = ap (λ (x : Filled). x.count) is.0 ∙ ec ∙ ap length (sym same);
+        fine = ap (λ (x : Filled). x.fine) is.0 ∙ ef ∙ ap (list_all epoch_finite) (sym same);
+        outputs = is.1 ∙ el ∙ ap (filled_columns m) (sym same);
       }
-  advance (some x) e k =
-      let yes : made.kept ≡ true = ap (λ (x : Made). x.kept) k in
-      let is : made.epoch ≡ x = ap (λ (x : Made). x.epoch) k in
+  advance (Some x) e k =
+      let is = ad.put x k in
       record {
-        count = ap (λ (x : Filled). x.count) (ad.counted yes) ∙ omega (arith, ec, ap length e, length-append es (x ∷ []));
-        fine = ap (λ (x : Filled). x.fine) (ad.counted yes) ∙ (λ i. ef i && epoch_finite (is i)) ∙ sym (all_snoc epoch_finite es x) ∙ ap (all epoch_finite) (sym e);
-        outputs = ad.put yes ∙ (λ i. stored (ec i) (is i) (el i)) ∙ stored_more m es x h ∙ ap (filled_columns m) (sym e);
+        count = ap (λ (x : Filled). x.count) is.0 ∙ omega (arith, ec, ap length e, length-append es (x ∷ []));
+        fine = ap (λ (x : Filled). x.fine) is.0 ∙ ap (λ (b : Bool). b && epoch_finite x) ef ∙ sym (all_snoc epoch_finite es x) ∙ ap (list_all epoch_finite) (sym e);
+        outputs = is.1 ∙ (λ i. stored (ec i) x (el i)) ∙ stored_more m es x h ∙ ap (filled_columns m) (sym e);
       }
 
 module _ (inp : Inputs) (obs : Observed) (base i : ℕ) (f : Filled) (l : EpochColumns) (w : List Float)
     (hi : i < length obs.obs_times) (s : SoFar inp obs base i f l w) where
-  pub turned : (r : Filled) (l' : EpochColumns) (w' : List Float) (made : Made) → Tried inp (observation_at obs i) base w w' made → Added made f r l l' → SoFar inp obs base (i + 1) r l' w'
+  pub turned : (r : Filled) (l' : EpochColumns) (w' : List Float) (made : Option Epoch) → Tried inp (observation_at obs i) base w w' made → Added made f r l l' → SoFar inp obs base (i + 1) r l' w'
   turned r l' w' made t ad =
       let few : length (kept_to inp obs i) ≤ i = kept_few inp obs i (omega arith) in
       let a : After (length obs.obs_times) (kept_to inp obs (i + 1)) r l' =
@@ -104,7 +100,7 @@ module _ (inp : Inputs) (obs : Observed) (base i : ℕ) (f : Filled) (l : EpochC
       record { count = a.count; fine = a.fine; outputs = a.outputs; room = omega (arith, t.long, s.room); usable = t.usable }
 
   pub turned_at : (t v : Float) (byte : ℕ) → t ≡ get_or obs.obs_times i nan → v ≡ get_or obs.values i nan → byte ≡ get_or obs.good i 0 →
-      (r : Filled) (l' : EpochColumns) (w' : List Float) (made : Made) → Tried inp (observation t v byte) base w w' made → Added made f r l l' → SoFar inp obs base (i + 1) r l' w'
+      (r : Filled) (l' : EpochColumns) (w' : List Float) (made : Option Epoch) → Tried inp (observation t v byte) base w w' made → Added made f r l l' → SoFar inp obs base (i + 1) r l' w'
   turned_at t v byte et ev eb r l' w' made tried =
       turned r l' w' made (subst (λ (o : Observation). Tried inp o base w w' made) (λ j. observation (et j) (ev j) (eb j)) tried)
 
@@ -122,25 +118,6 @@ module _ (inp : Inputs) (obs : Observed) (base i : ℕ) (f : Filled) (l : EpochC
         omega (arith, g.vels, ap (λ (x : EpochColumns). length x.vels) s.outputs),
       )
 
--- ---- what was made is stored
-
-pub added_kept : (m : Made) (f : Filled) (l : EpochColumns) (fine good : Bool) → m.kept ≡ true → good ≡ epoch_finite m.epoch → fine ≡ (f.fine && good) →
-    Added m f (record { count = f.count + 1; fine = fine }) l (stored f.count m.epoch l)
-added_kept m f l fine good k e g = record {
-  counted = λ h. λ i. record { count = f.count + 1; fine = (g ∙ ap (λ (b : Bool). f.fine && b) e) i };
-  put = λ h. refl;
-  same = λ h. clash m.kept k h;
-  still = λ h. clash m.kept k h;
-}
-
-pub added_not : (m : Made) (f : Filled) (l : EpochColumns) → m.kept ≡ false → Added m f f l l
-added_not m f l k = record {
-  counted = λ h. clash m.kept h k;
-  put = λ h. clash m.kept h k;
-  same = λ h. refl;
-  still = λ h. refl;
-}
-
 -- ---- the beginning and the end
 
 pub begins : (inp : Inputs) (obs : Observed) (base : ℕ) (l : EpochColumns) (w : List Float) → Begun inp obs base l w → SoFar inp obs base 0 (record { count = 0; fine = true }) l w
@@ -154,7 +131,7 @@ ends inp obs base i f l w h k s =
     let e : kept_to inp obs i ≡ kept_in inp obs = ap (kept_to inp obs) n ∙ kept_all inp obs in
     record {
       count = s.count ∙ ap length e;
-      fine = s.fine ∙ ap (all epoch_finite) e;
+      fine = s.fine ∙ ap (list_all epoch_finite) e;
       outputs = s.outputs ∙ ap (filled_columns (length obs.obs_times)) e;
     }
 

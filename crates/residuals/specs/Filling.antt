@@ -1,12 +1,11 @@
 -- What the loop over the observations has done so far. Assumes nothing.
-use Rattle.std.specs.Prelude.{ℕ, ◌+◌, ◌≤◌, ◌≡◌, true, false, ◌&&◌, List, [], Float, length, take, set, replicate}
+use Rattle.std.specs.Prelude.{ℕ, ◌+◌, ◌≤◌, ◌≡◌, ◌&&◌, List, [], Float, length, take, set, replicate, Option, Some, None}
 use Rattle.inputs.specs.Inputs.{Observed, Inputs}
 use Rattle.finality.specs.Sheet.{kept_of}
-use Rattle.laws.specs.Checks.{all}
+use Rattle.std.specs.List.{list_all}
 use Rattle.laws.specs.Floats.{zero64}
 use Rattle.laws.specs.Loops.{cleared}
 use Rattle.epoch_record.specs.declared.Epoch.{Epoch}
-use Rattle.epoch.specs.declared.Made.{Made}
 use Rattle.epoch.specs.Kept.{observations_in}
 use Rattle.epoch.specs.Work.{Usable}
 use Rattle.residuals.specs.declared.filling.Filled.{Filled}
@@ -39,15 +38,13 @@ abbrev pub blank : EpochColumns → EpochColumns
 blank l = epoch_columns (cleared l.times) (cleared l.residuals) (zeros (length l.terms) 5) (zeros (length l.mids) 3) (zeros (length l.vels) 3)
 
 -- what was made is stored and counted, where it is kept
-pub record Added (m : Made) (f r : Filled) (l l' : EpochColumns) : Type 0 where
-  pub counted : m.kept ≡ true → r ≡ record { count = f.count + 1; fine = f.fine && epoch_finite m.epoch }
-  pub put : m.kept ≡ true → l' ≡ stored f.count m.epoch l
-  pub same : m.kept ≡ false → r ≡ f
-  pub still : m.kept ≡ false → l' ≡ l
+pub record Added (made : Option Epoch) (f r : Filled) (l l' : EpochColumns) : Type 0 where
+  pub put : (e : Epoch) → made ≡ Some e → (r ≡ record { count = f.count + 1; fine = f.fine && epoch_finite e }) × (l' ≡ stored f.count e l)
+  pub still : made ≡ None → (r ≡ f) × (l' ≡ l)
 
 pub record SoFar (inp : Inputs) (obs : Observed) (base i : ℕ) (f : Filled) (l : EpochColumns) (w : List Float) : Type 0 where
   pub count : f.count ≡ length (kept_to inp obs i)
-  pub fine : f.fine ≡ all epoch_finite (kept_to inp obs i)
+  pub fine : f.fine ≡ list_all epoch_finite (kept_to inp obs i)
   pub outputs : l ≡ filled_columns (length obs.obs_times) (kept_to inp obs i)
   pub room : base ≤ length w
   pub usable : Usable inp.model (take base w)
@@ -61,5 +58,5 @@ pub record Begun (inp : Inputs) (obs : Observed) (base : ℕ) (l : EpochColumns)
 -- all observations are done
 pub record Done (inp : Inputs) (obs : Observed) (r : Filled) (l : EpochColumns) : Type 0 where
   pub count : r.count ≡ length (kept_in inp obs)
-  pub fine : r.fine ≡ all epoch_finite (kept_in inp obs)
+  pub fine : r.fine ≡ list_all epoch_finite (kept_in inp obs)
   pub outputs : l ≡ filled_columns (length obs.obs_times) (kept_in inp obs)

@@ -1,5 +1,5 @@
 -- The epochs that are kept of what the calls are lent (document 01, module 5; the source's `Inputs`). Assumes nothing.
-use Rattle.std.proofs.Math.Option.{Option}
+use Rattle.std.specs.Prelude.{Option}
 use Rattle.finality.specs.Sheet.{Observation}
 use Rattle.std.specs.Prelude.{Float}
 use Rattle.vectors.specs.declared.Vector.{Vector}

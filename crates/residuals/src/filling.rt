@@ -1,42 +1,34 @@
 // All epochs over lent lists: the records of those that are kept, in order.
-ghost use Rattle.std.specs.Prelude.{◌≡◌, ◌+◌, ◌<◌, length};
-ghost use Rattle.inputs.specs.Inputs.{model_of, front_size, lent_list, pair_of, observed_of, inputs};
-ghost use Rattle.residuals.specs.Work.{Searchable, Ready};
+// kept: the outputs are lent one by one, as the call has them; a struct of `&mut` slices would be taken apart in each function. Whether values and
+// bytes are as many as times is what the call tests, so `Observed` cannot promise it.
+ghost use Rattle.std.specs.Prelude.{◌≡◌, ◌+◌, ◌<◌, ◌≤◌, length};
+ghost use Rattle.inputs.specs.Inputs.{front_size};
+ghost use Rattle.inputs.specs.Lent.{inputs_of, observed_of};
+ghost use Rattle.residuals.specs.Work.{Ready};
 ghost use Rattle.residuals.specs.Calls.{epoch_columns};
 ghost use Rattle.residuals.specs.Filling.{zeros, blank, Long, Added, SoFar, Begun, Done};
 
+use crate::work::Rows;
+use epoch_record::Epoch;
+
 // How many records are stored, and whether all their numbers are finite.
+// kept: no Option, since the count holds either way.
 #[derive(Clone, Copy)]
 pub struct Filled {
     pub count: usize,
     pub fine: bool,
 }
 
-fn clear_terms(list: &mut [[f64; 5]])
-    ensures { list.new ≡ zeros (length list.old) 5 }
+fn clear_arrays<const N: usize>(list: &mut [[f64; N]])
+    requires { N ≤ 5 }
+    ensures { list.new ≡ zeros (length list.old) N }
 {
-    let nothing = [0.0; 5];
-    let mut i = 0;
-    while i < list.len() {
-        list[i] = nothing;
-        i += 1;
-    }
-}
-
-fn clear_vectors(list: &mut [[f64; 3]])
-    ensures { list.new ≡ zeros (length list.old) 3 }
-{
-    let nothing = [0.0; 3];
-    let mut i = 0;
-    while i < list.len() {
-        list[i] = nothing;
-        i += 1;
-    }
+    list.fill([0.0; N]);
 }
 
 // Stores a record at the next place, where it is kept.
 fn add(
-    made: epoch::Made,
+    made: Option<Epoch>,
     filled: Filled,
     outtimes: &mut [f64],
     outresiduals: &mut [f64],
@@ -50,34 +42,26 @@ fn add(
         outvels.old)
         (epoch_columns outtimes.new outresiduals.new outterms.new outmids.new outvels.new) }
 {
-    if made.kept {
-        let e = made.epoch;
-        let k = filled.count;
-        let terms = e.terms;
-        let mid = e.mid;
-        let vel = e.vel;
-        outtimes[k] = e.t;
-        outresiduals[k] = e.residual;
-        outterms[k] = terms;
-        outmids[k] = mid;
-        outvels[k] = vel;
-        let fine = slices::both(filled.fine, crate::epoch_finite(e));
-        return Filled { count: k + 1, fine };
+    match made {
+        Some(e) => {
+            let k = filled.count;
+            outtimes[k] = e.t;
+            outresiduals[k] = e.residual;
+            let (terms, mid, vel) = (e.terms, e.mid, e.vel);
+            outterms[k] = terms;
+            outmids[k] = mid;
+            outvels[k] = vel;
+            let fine = filled.fine && crate::epoch_finite(e);
+            Filled { count: k + 1, fine }
+        }
+        None => filled,
     }
-    filled
 }
 
 // Observation i.
-fn turn<'a>(
-    degree: usize,
-    model: inputs::Model<'a>,
-    keys: inputs::Keys<'a>,
-    states: inputs::Rows<'a>,
-    acckeys: inputs::Keys<'a>,
-    accs: inputs::Rows<'a>,
-    obstimes: &[f64],
-    obsvalues: &[f64],
-    good: &[u8],
+fn turn(
+    rows: Rows<'_>,
+    observed: inputs::Observed<'_>,
     i: usize,
     filled: Filled,
     base: usize,
@@ -88,28 +72,16 @@ fn turn<'a>(
     outvels: &mut [[f64; 3]],
     w: &mut [f64],
 ) -> Filled
-    requires { Searchable (lent_list keys 0) × Searchable (lent_list keys 1) × Searchable (lent_list acckeys 0) × Searchable (lent_list acckeys 1)
-        × (base ≡ front_size degree) × (i < length obstimes.now) × (length obsvalues.now ≡ length obstimes.now)
-        × (length good.now ≡ length obstimes.now)
-        × SoFar (inputs (model_of degree model) (pair_of keys states) (pair_of acckeys accs)) (observed_of obstimes.now obsvalues.now good.now) base i
+    requires { (base ≡ front_size rows.inputs.model.degree) × (i < length observed.times.now) × (length observed.values.now ≡ length observed.times.now)
+        × (length observed.good.now ≡ length observed.times.now)
+        × SoFar (inputs_of rows.inputs) (observed_of observed) base i
         filled (epoch_columns outtimes.old outresiduals.old outterms.old outmids.old outvels.old) w.old }
-    ensures { SoFar (inputs (model_of degree model.entry) (pair_of keys.entry states.entry) (pair_of acckeys.entry accs.entry))
-        (observed_of obstimes.now obsvalues.now good.now) base (i + 1) result
+    ensures { SoFar (inputs_of rows.entry.inputs) (observed_of observed.entry) base (i + 1) result
         (epoch_columns outtimes.new outresiduals.new outterms.new outmids.new outvels.new) w.new }
 {
-    let made = crate::work::try_epoch(
-        degree,
-        model,
-        keys,
-        states,
-        acckeys,
-        accs,
-        integrate::kernel::element(obstimes, i),
-        integrate::kernel::element(obsvalues, i),
-        good[i],
-        base,
-        w,
-    );
+    let t = integrate::kernel::element(observed.times, i);
+    let value = integrate::kernel::element(observed.values, i);
+    let made = crate::work::try_epoch(rows, t, value, observed.good[i], base, w);
     add(
         made,
         filled,
@@ -122,16 +94,9 @@ fn turn<'a>(
 }
 
 // From an empty beginning.
-fn fill_from<'a>(
-    degree: usize,
-    model: inputs::Model<'a>,
-    keys: inputs::Keys<'a>,
-    states: inputs::Rows<'a>,
-    acckeys: inputs::Keys<'a>,
-    accs: inputs::Rows<'a>,
-    obstimes: &[f64],
-    obsvalues: &[f64],
-    good: &[u8],
+fn fill_from(
+    rows: Rows<'_>,
+    observed: inputs::Observed<'_>,
     base: usize,
     outtimes: &mut [f64],
     outresiduals: &mut [f64],
@@ -140,30 +105,21 @@ fn fill_from<'a>(
     outvels: &mut [[f64; 3]],
     w: &mut [f64],
 ) -> Filled
-    requires { Searchable (lent_list keys 0) × Searchable (lent_list keys 1) × Searchable (lent_list acckeys 0) × Searchable (lent_list acckeys 1)
-        × (base ≡ front_size degree) × (length obsvalues.now ≡ length obstimes.now) × (length good.now ≡ length obstimes.now)
-        × Begun (inputs (model_of degree model) (pair_of keys states) (pair_of acckeys accs)) (observed_of obstimes.now obsvalues.now good.now) base
+    requires { (base ≡ front_size rows.inputs.model.degree) × (length observed.values.now ≡ length observed.times.now)
+        × (length observed.good.now ≡ length observed.times.now)
+        × Begun (inputs_of rows.inputs) (observed_of observed) base
         (epoch_columns outtimes.old outresiduals.old outterms.old outmids.old outvels.old) w.old }
-    ensures { Done (inputs (model_of degree model.entry) (pair_of keys.entry states.entry) (pair_of acckeys.entry accs.entry))
-        (observed_of obstimes.now obsvalues.now good.now) result
+    ensures { Done (inputs_of rows.entry.inputs) (observed_of observed.entry) result
         (epoch_columns outtimes.new outresiduals.new outterms.new outmids.new outvels.new) }
 {
     let mut filled = Filled {
         count: 0,
         fine: true,
     };
-    let mut i = 0;
-    while i < obstimes.len() {
+    for i in 0..observed.times.len() {
         filled = turn(
-            degree,
-            model,
-            keys,
-            states,
-            acckeys,
-            accs,
-            obstimes,
-            obsvalues,
-            good,
+            rows,
+            observed,
             i,
             filled,
             base,
@@ -174,7 +130,6 @@ fn fill_from<'a>(
             outvels,
             w,
         );
-        i += 1;
     }
     filled
 }
@@ -192,22 +147,15 @@ pub(crate) fn clear_lists(
 {
     slices::clear(outtimes);
     slices::clear(outresiduals);
-    clear_terms(outterms);
-    clear_vectors(outmids);
-    clear_vectors(outvels);
+    clear_arrays(outterms);
+    clear_arrays(outmids);
+    clear_arrays(outvels);
 }
 
 // The records of the epochs that are kept, in order; +0.0 after the last.
-pub(crate) fn fill<'a>(
-    degree: usize,
-    model: inputs::Model<'a>,
-    keys: inputs::Keys<'a>,
-    states: inputs::Rows<'a>,
-    acckeys: inputs::Keys<'a>,
-    accs: inputs::Rows<'a>,
-    obstimes: &[f64],
-    obsvalues: &[f64],
-    good: &[u8],
+pub(crate) fn fill(
+    inputs: inputs::Inputs<'_>,
+    observed: inputs::Observed<'_>,
     outtimes: &mut [f64],
     outresiduals: &mut [f64],
     outterms: &mut [[f64; 5]],
@@ -215,26 +163,18 @@ pub(crate) fn fill<'a>(
     outvels: &mut [[f64; 3]],
     w: &mut [f64],
 ) -> Filled
-    requires { Ready degree (lent_list keys 0) (lent_list keys 1) (lent_list acckeys 0) (lent_list acckeys 1) (length w.old)
-        × (length obsvalues.now ≡ length obstimes.now) × (length good.now ≡ length obstimes.now)
-        × Long (length obstimes.now) (epoch_columns outtimes.old outresiduals.old outterms.old outmids.old outvels.old) }
-    ensures { Done (inputs (model_of degree model.entry) (pair_of keys.entry states.entry) (pair_of acckeys.entry accs.entry))
-        (observed_of obstimes.now obsvalues.now good.now) result
+    requires { Ready (inputs_of inputs) (length w.old)
+        × (length observed.values.now ≡ length observed.times.now) × (length observed.good.now ≡ length observed.times.now)
+        × Long (length observed.times.now) (epoch_columns outtimes.old outresiduals.old outterms.old outmids.old outvels.old) }
+    ensures { Done (inputs_of inputs.entry) (observed_of observed.entry) result
         (epoch_columns outtimes.new outresiduals.new outterms.new outmids.new outvels.new) }
 {
-    let base = inputs::front_size(degree);
+    let base = inputs::front_size(inputs.model.degree);
     clear_lists(outtimes, outresiduals, outterms, outmids, outvels);
-    epoch::open(degree, base, w);
+    epoch::open(inputs.model.degree, base, w);
     fill_from(
-        degree,
-        model,
-        keys,
-        states,
-        acckeys,
-        accs,
-        obstimes,
-        obsvalues,
-        good,
+        Rows { inputs },
+        observed,
         base,
         outtimes,
         outresiduals,

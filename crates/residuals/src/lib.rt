@@ -1,292 +1,156 @@
-// Module 5 of document 01: range-acceleration residuals of the satellites C and D.
+// Range-acceleration residuals of the satellites C and D.
 #![tactic(auto)]
 
 mod filling;
 mod work;
 
-ghost use Rattle.std.specs.Prelude.{◌≡◌, ◌&&◌, [], length};
-ghost use Rattle.inputs.specs.Inputs.{model_of, lent_list, pair_of, observed_of, inputs};
+ghost use Rattle.std.specs.Prelude.{◌≡◌, [], length};
+ghost use Rattle.inputs.specs.Lent.{inputs_of, observed_of};
 ghost use Rattle.slices.specs.Calls.{left};
 ghost use Rattle.epoch.specs.Kept.{observation};
 ghost use Rattle.residuals.specs.Inputs.{epoch_of};
 ghost use Rattle.residuals.specs.Work.{Ready};
-ghost use Rattle.residuals.specs.Calls.{epoch_refusal, epoch_finite, refused as refused_of, answered, told, epoch_call, samples_fit, residuals_refusal};
+ghost use Rattle.residuals.specs.Calls.{epoch_refusal, epoch_finite, answered, epoch_call, samples_fit, residuals_refusal};
 ghost use Rattle.residuals.specs.Calls.{epoch_columns, columns_left, residuals_call};
 
-#[derive(Clone, Copy)]
-pub enum Verdict {
-    Kept,
-    NotKept,
-    Refused(u8),
-}
-
-// The record is +0.0 in each place unless kept.
-#[derive(Clone, Copy)]
-pub struct EpochAnswer {
-    pub verdict: Verdict,
-    pub epoch: epoch_record::Epoch,
-}
+use epoch_record::Epoch;
+use slices::Refusal;
 
 // ---- what is refused
 
-fn epoch_refusal<'a>(
-    degree: usize,
-    model: inputs::Model<'a>,
-    keys: inputs::Keys<'a>,
-    states: inputs::Rows<'a>,
-    acckeys: inputs::Keys<'a>,
-    accs: inputs::Rows<'a>,
+#[tactic(auto, unfolding(crate::specs::Calls::epoch_refusal))]
+fn epoch_refusal(
+    inputs: inputs::Inputs<'_>,
     t: f64,
     observed: f64,
     scratch: usize,
-) -> u8
-    ensures { result ≡ epoch_refusal (inputs (model_of degree model.entry) (pair_of keys.entry states.entry) (pair_of acckeys.entry accs.entry))
-        t observed scratch }
+) -> Result<(), Refusal>
+    ensures { result ≡ epoch_refusal (inputs_of inputs.entry) t observed scratch }
 {
-    let times = model[inputs::FIELD_TIMES];
-    let fields = times.len();
-    let counts = inputs::inputs_counted(model, keys, acckeys);
-    let lists = inputs::inputs_fit(degree, model, keys, states, acckeys, accs);
-    let lengths = slices::both(lists, inputs::scratch_fits(degree, fields, 0, scratch));
-    let values = inputs::inputs_fine(model, keys, states, acckeys, accs);
-    let own = slices::both(slices::is_time(t), numbers::is_finite(observed));
+    let model = inputs.model;
+    let fields = model.field_times.len();
     inputs::first_of(
-        inputs::degree_fine(degree),
-        counts,
-        lengths,
-        slices::both(values, own),
-        inputs::inputs_rise(model, keys, acckeys),
-        0,
+        inputs::degree_fine(model.degree),
+        inputs.are_counted(),
+        inputs.are_sized() && inputs::scratch_fits(model.degree, fields, 0, scratch),
+        inputs.are_fine() && (slices::is_time(t) && numbers::is_finite(observed)),
+        inputs.rise(),
+        Ok(()),
     )
 }
 
 // Lengths of the observations' lists and of the outputs.
+#[tactic(auto, unfolding(crate::specs::Calls::samples_fit))]
 fn samples_fit(
-    m: usize,
-    values: usize,
-    good: usize,
+    observed: inputs::Observed<'_>,
     times: usize,
     residuals: usize,
     terms: usize,
     mids: usize,
     vels: usize,
 ) -> bool
-    ensures { result ≡ samples_fit m values good times residuals terms mids vels }
+    ensures { result ≡ samples_fit (length observed.entry.times.now) (length observed.entry.values.now) (length observed.entry.good.now)
+        times residuals terms mids vels }
 {
-    let arrays = slices::both(terms == m, slices::both(mids == m, vels == m));
-    slices::both(
-        slices::both(values == m, good == m),
-        slices::both(slices::both(times == m, residuals == m), arrays),
-    )
+    let m = observed.times.len();
+    (observed.values.len() == m && observed.good.len() == m)
+        && ((times == m && residuals == m) && (terms == m && (mids == m && vels == m)))
 }
 
-fn residuals_refusal<'a>(
-    degree: usize,
-    model: inputs::Model<'a>,
-    keys: inputs::Keys<'a>,
-    states: inputs::Rows<'a>,
-    acckeys: inputs::Keys<'a>,
-    accs: inputs::Rows<'a>,
-    obstimes: &[f64],
-    obsvalues: &[f64],
-    good: &[u8],
+#[tactic(auto, unfolding(crate::specs::Calls::residuals_refusal))]
+fn residuals_refusal(
+    inputs: inputs::Inputs<'_>,
+    observed: inputs::Observed<'_>,
     samples: bool,
     scratch: usize,
-) -> u8
-    ensures { result ≡ residuals_refusal (inputs (model_of degree model.entry) (pair_of keys.entry states.entry)
-        (pair_of acckeys.entry accs.entry)) (observed_of obstimes.now obsvalues.now good.now) samples scratch }
+) -> Result<(), Refusal>
+    ensures { result ≡ residuals_refusal (inputs_of inputs.entry) (observed_of observed.entry) samples scratch }
 {
-    let times = model[inputs::FIELD_TIMES];
-    let fields = times.len();
-    let count = obstimes.len();
-    let counts = inputs::inputs_counted(model, keys, acckeys);
-    let lists = inputs::inputs_fit(degree, model, keys, states, acckeys, accs);
-    let lengths = slices::both(lists, inputs::scratch_fits(degree, fields, count, scratch));
-    let values = inputs::inputs_fine(model, keys, states, acckeys, accs);
-    let own = slices::both(slices::all_times(obstimes), slices::all_finite(obsvalues));
-    let rise = inputs::inputs_rise(model, keys, acckeys);
+    let model = inputs.model;
+    let fields = model.field_times.len();
+    let count = observed.times.len();
+    let sized = inputs.are_sized() && inputs::scratch_fits(model.degree, fields, count, scratch);
+    let own = slices::all_times(observed.times) && slices::all_finite(observed.values);
     inputs::first_of(
-        inputs::degree_fine(degree),
-        slices::both(counts, count <= 100000),
-        slices::both(lengths, samples),
-        slices::both(values, own),
-        slices::both(rise, slices::rising(obstimes)),
-        0,
+        inputs::degree_fine(model.degree),
+        inputs.are_counted() && count <= 100000,
+        sized && samples,
+        inputs.are_fine() && own,
+        inputs.rise() && slices::rising(observed.times),
+        Ok(()),
     )
 }
 
 // ---- what is handed out
 
-fn epoch_finite(e: epoch_record::Epoch) -> bool
+#[tactic(auto, unfolding(crate::specs::Calls::epoch_finite))]
+fn epoch_finite(e: Epoch) -> bool
     ensures { result ≡ epoch_finite e }
 {
-    let terms = e.terms;
-    let mid = e.mid;
-    let vel = e.vel;
-    let arrays = slices::both(
-        slices::all_finite(&terms),
-        slices::both(slices::all_finite(&mid), slices::all_finite(&vel)),
-    );
-    slices::both(
-        numbers::is_finite(e.t),
-        slices::both(numbers::is_finite(e.residual), arrays),
-    )
+    let arrays = slices::all_finite(&e.terms)
+        && (slices::all_finite(&e.mid) && slices::all_finite(&e.vel));
+    numbers::is_finite(e.t) && (numbers::is_finite(e.residual) && arrays)
 }
 
-fn refused(number: u8) -> EpochAnswer
-    ensures { result ≡ refused_of number }
+fn judged(made: Option<Epoch>) -> Result<Option<Epoch>, Refusal>
+    ensures { result ≡ answered made }
 {
-    let nothing = epoch::no_epoch();
-    let epoch = nothing.epoch;
-    let verdict = Verdict::Refused(number);
-    EpochAnswer { verdict, epoch }
-}
-
-fn judged(made: epoch::Made) -> EpochAnswer
-    ensures { result ≡ told made }
-{
-    let epoch = made.epoch;
-    if made.kept {
-        if epoch_finite(epoch) {
-            let verdict = Verdict::Kept;
-            return EpochAnswer { verdict, epoch };
+    match made {
+        Some(epoch) => {
+            slices::tested(epoch_finite(epoch), Refusal::NotFinite)?;
+            Ok(Some(epoch))
         }
-        return refused(10);
-    }
-    let nothing = epoch::no_epoch();
-    let zeros = nothing.epoch;
-    let verdict = Verdict::NotKept;
-    EpochAnswer {
-        verdict,
-        epoch: zeros,
+        None => Ok(None),
     }
 }
 
 // ---- the calls
 
-fn epoch_work<'a>(
-    degree: usize,
-    model: inputs::Model<'a>,
-    keys: inputs::Keys<'a>,
-    states: inputs::Rows<'a>,
-    acckeys: inputs::Keys<'a>,
-    accs: inputs::Rows<'a>,
+// One epoch's record, where it is kept.
+pub fn epoch(
+    inputs: inputs::Inputs<'_>,
     t: f64,
     observed: f64,
     good: u8,
     scratch: &mut [f64],
-) -> EpochAnswer
-    requires { Ready degree (lent_list keys 0) (lent_list keys 1) (lent_list acckeys 0) (lent_list acckeys 1) (length scratch.old) }
-    ensures { (result ≡ answered (epoch_of (inputs (model_of degree model.entry) (pair_of keys.entry states.entry)
-        (pair_of acckeys.entry accs.entry)) (observation t observed good))) × (length scratch.new ≡ length scratch.old) }
+) -> Result<Option<Epoch>, Refusal>
+    ensures { left result [] scratch.new ≡ epoch_call (inputs_of inputs.entry) (observation t observed good) scratch.old }
 {
-    let base = inputs::front_size(degree);
-    epoch::open(degree, base, scratch);
-    let made = work::try_epoch(
-        degree, model, keys, states, acckeys, accs, t, observed, good, base, scratch,
-    );
+    epoch_refusal(inputs, t, observed, scratch.len())?;
+    let base = inputs::front_size(inputs.model.degree);
+    epoch::open(inputs.model.degree, base, scratch);
+    let made = work::try_epoch(work::Rows { inputs }, t, observed, good, base, scratch);
+    slices::clear(scratch);
     judged(made)
 }
 
-// One epoch's record, where it is kept.
-pub fn epoch<'a>(
-    degree: usize,
-    model: inputs::Model<'a>,
-    keys: inputs::Keys<'a>,
-    states: inputs::Rows<'a>,
-    acckeys: inputs::Keys<'a>,
-    accs: inputs::Rows<'a>,
-    t: f64,
-    observed: f64,
-    good: u8,
-    scratch: &mut [f64],
-) -> EpochAnswer
-    ensures { left result [] scratch.new ≡ epoch_call
-        (inputs (model_of degree model.entry) (pair_of keys.entry states.entry) (pair_of acckeys.entry accs.entry)) (observation t observed good)
-        scratch.old }
-{
-    let n = epoch_refusal(
-        degree,
-        model,
-        keys,
-        states,
-        acckeys,
-        accs,
-        t,
-        observed,
-        scratch.len(),
-    );
-    if n != 0 {
-        return refused(n);
-    }
-    let answer = epoch_work(
-        degree, model, keys, states, acckeys, accs, t, observed, good, scratch,
-    );
-    slices::clear(scratch);
-    answer
-}
-
 // The records of the epochs that are kept, in order: how many, and their numbers in five lists.
-pub fn residuals<'a>(
-    degree: usize,
-    model: inputs::Model<'a>,
-    keys: inputs::Keys<'a>,
-    states: inputs::Rows<'a>,
-    acckeys: inputs::Keys<'a>,
-    accs: inputs::Rows<'a>,
-    obstimes: &[f64],
-    obsvalues: &[f64],
-    good: &[u8],
+pub fn residuals(
+    inputs: inputs::Inputs<'_>,
+    observed: inputs::Observed<'_>,
     outtimes: &mut [f64],
     outresiduals: &mut [f64],
     outterms: &mut [[f64; 5]],
     outmids: &mut [[f64; 3]],
     outvels: &mut [[f64; 3]],
     scratch: &mut [f64],
-) -> slices::Counted
-    ensures { columns_left result
-        (epoch_columns outtimes.new outresiduals.new outterms.new outmids.new outvels.new)
-        scratch.new ≡ residuals_call (inputs (model_of degree model.entry) (pair_of keys.entry states.entry)
-        (pair_of acckeys.entry accs.entry)) (observed_of obstimes.now obsvalues.now good.now)
-        (epoch_columns outtimes.old outresiduals.old outterms.old outmids.old outvels.old)
-        scratch.old }
+) -> Result<usize, Refusal>
+    ensures { columns_left result (epoch_columns outtimes.new outresiduals.new outterms.new outmids.new outvels.new) scratch.new
+        ≡ residuals_call (inputs_of inputs.entry) (observed_of observed.entry)
+        (epoch_columns outtimes.old outresiduals.old outterms.old outmids.old outvels.old) scratch.old }
 {
     let samples = samples_fit(
-        obstimes.len(),
-        obsvalues.len(),
-        good.len(),
+        observed,
         outtimes.len(),
         outresiduals.len(),
         outterms.len(),
         outmids.len(),
         outvels.len(),
     );
-    let n = residuals_refusal(
-        degree,
-        model,
-        keys,
-        states,
-        acckeys,
-        accs,
-        obstimes,
-        obsvalues,
-        good,
-        samples,
-        scratch.len(),
-    );
-    if n != 0 {
-        return slices::Counted::Refused(n);
-    }
+    residuals_refusal(inputs, observed, samples, scratch.len())?;
     let filled = filling::fill(
-        degree,
-        model,
-        keys,
-        states,
-        acckeys,
-        accs,
-        obstimes,
-        obsvalues,
-        good,
+        inputs,
+        observed,
         outtimes,
         outresiduals,
         outterms,
@@ -296,8 +160,8 @@ pub fn residuals<'a>(
     );
     slices::clear(scratch);
     if filled.fine {
-        return slices::Counted::Counted(filled.count);
+        return Ok(filled.count);
     }
     filling::clear_lists(outtimes, outresiduals, outterms, outmids, outvels);
-    slices::Counted::Refused(10)
+    Err(Refusal::NotFinite)
 }

@@ -11,9 +11,11 @@ use lib.Ieee.Scale.{finite}
 use lib.ListN.{length}
 use borrow.Author.Tests.{leb-true, le-leb, eqb-true, eq-eqb}
 use Rattle.laws.specs.Lists.{All, all_map}
-use Rattle.laws.specs.Checks.{all, all_says, is_time, rising, rising_seconds, degree_fine}
+use Rattle.std.specs.List.{list_all}
+use Rattle.laws.specs.Checks.{all_says, is_time, rising, rising_seconds, degree_fine}
 use Rattle.laws.specs.Bools.{both_true, holds}
-use Rattle.inputs.specs.Inputs.{window_room, fit_room, kind, field_size, counts_fine, model_sized, states_fit, tables_fit, least_scratch, whole_scratch_fits, model_fine, keyed_fine, rise, front_size, Fixed}
+use Rattle.slices.specs.Calls.{accepted}
+use Rattle.inputs.specs.Inputs.{window_room, fit_room, kind, field_size, counts_fine, model_sized, states_fit, tables_fit, least_scratch, whole_scratch_fits, model_fine, rise, front_size, Fixed}
 use Rattle.inputs.specs.Inputs.{Lists, inputs_in, model_in, inputs_fit, inputs_fine, inputs_rise}
 use Rattle.inputs.proofs.Passed.{all_pass, Few, counts_pass, Rise, rise_passes, states_pass, model_passes}
 use Rattle.windows.specs.Windows.{room_for, windows_serve}
@@ -42,9 +44,9 @@ pub record Accepts (S : Fixed) (l : Lists) (outputs : List (List Float)) (room :
   pub good : length l.tracks.observed.good ≡ length l.tracks.observed.obs_times
   pub outputs_fit_law : places_fit l outputs ≡ true
   pub scratch : least_scratch S.degree (length l.fields.field_times) (length l.tracks.observed.obs_times) + window_room * (length l.tracks.nodes - 1) ≤ room
-  pub field_times : all is_time l.fields.field_times ≡ true
-  pub node_times : all is_time l.tracks.nodes ≡ true
-  pub times : all is_time l.tracks.observed.obs_times ≡ true
+  pub field_times : list_all is_time l.fields.field_times ≡ true
+  pub node_times : list_all is_time l.tracks.nodes ≡ true
+  pub times : list_all is_time l.tracks.observed.obs_times ≡ true
   pub rise : Rise l.fields.field_times l.tracks.states.c.keys l.tracks.states.d.keys l.tracks.accs.c.keys l.tracks.accs.d.keys
   pub nodes_rise : rising l.tracks.nodes ≡ true
   pub times_rise : rising l.tracks.observed.obs_times ≡ true
@@ -137,24 +139,24 @@ module _ (S : Fixed) (l : Lists) (outputs : List (List Float)) (room : ℕ) wher
       }
 
   record Values : Type 0 where
-    pub field_times : all is_time l.fields.field_times ≡ true
-    pub node_times : all is_time l.tracks.nodes ≡ true
-    pub times : all is_time l.tracks.observed.obs_times ≡ true
+    pub field_times : list_all is_time l.fields.field_times ≡ true
+    pub node_times : list_all is_time l.tracks.nodes ≡ true
+    pub times : list_all is_time l.tracks.observed.obs_times ≡ true
 
   values_say : lists_fine S l ≡ true → Values
   unfolding lists_fine model_fine
   values_say h =
       let a = both_true (inputs_fine (inputs_in S l)) _ h in
       let b = both_true (model_fine (model_in S l)) _ a.0 in
-      let e = both_true (all finite S.static && all finite l.fields.added) _ b.0 in
-      let f = both_true (all is_time l.tracks.nodes) _ a.1 in
-      let g = both_true (all is_time l.tracks.observed.obs_times) (all finite l.tracks.observed.values) f.1 in
-      record { field_times = (both_true (all is_time l.fields.field_times) (all finite S.a && all finite S.b) e.1).0; node_times = f.0; times = g.0 }
+      let e = both_true (list_all finite S.static && list_all finite l.fields.added) _ b.0 in
+      let f = both_true (list_all is_time l.tracks.nodes) _ a.1 in
+      let g = both_true (list_all is_time l.tracks.observed.obs_times) (list_all finite l.tracks.observed.values) f.1 in
+      record { field_times = (both_true (list_all is_time l.fields.field_times) (list_all finite S.a && list_all finite S.b) e.1).0; node_times = f.0; times = g.0 }
 
-  pub accepts : sheet_refusal S l outputs room ≡ 0 → Accepts S l outputs room
+  pub accepts : sheet_refusal S l outputs room ≡ accepted → Accepts S l outputs room
   unfolding refusal_of lists_rise
   accepts h =
-      let t = all_pass (degree_fine S.degree) _ (lists_fit S l (places_fit l outputs) room) (lists_fine S l) _ 0 h in
+      let t = all_pass (degree_fine S.degree) _ (lists_fit S l (places_fit l outputs) room) (lists_fine S l) _ accepted h in
       let k = counts_say t.counts in
       let n = lengths_say t.lengths in
       let v = values_say t.values in

@@ -3,11 +3,11 @@
 -- bits at each of the other's places; degree and static field are equal by bits, and so are any Legendre tables lent to the two calls; the published lists are those of 8. What the lent
 -- outputs and scratch held before makes no difference."
 --
--- So let two calls with one setting S be accepted (`sheet_values`), the first with k kept and f final epochs, the second with k' and f', and let each list of the second begin with the
+-- So let two calls with one setting S be accepted (`answer_value`), the first with k kept and f final epochs, the second with k' and f', and let each list of the second begin with the
 -- whole of the first's. Then the first f entries of each column are the same, f' is not below f, and f and f' are the F of their calls (`FinalSheet`). What outputs and scratch held
 -- before plays no part (`same_sheet`). Assumes nothing.
 use mathlib.Core.Path.{◌≡◌, sym, ◌∙◌}
-use mathlib.Core.Option.{Option, none, some}
+use Rattle.std.specs.Prelude.{Option, None, Some}
 use mathlib.Core.List.{List, map}
 use Prim.Native.Nat.{ℕ, ◌≤◌}
 use native.Mathlib.Omega.{arith}
@@ -17,7 +17,8 @@ use Rattle.inputs.specs.Inputs.{Fixed, Lists}
 use Rattle.laws.specs.Runs.{runs_of}
 use Rattle.finality.specs.Sheet.{times, horizon, count_runs}
 use Rattle.sheet.specs.Submission.{stages, submission_of, ListsGrow}
-use Rattle.sheet.specs.Calls.{sheet_values, columns_of, kept_count, final_count, sheet_call}
+use Rattle.slices.specs.Answers.{answer_value}
+use Rattle.sheet.specs.Calls.{columns_of, kept_count, final_count, sheet_call}
 use Rattle.sheet.proofs.Final.{final_entries_law, counted, none_counted, within_kept}
 use Rattle.sheet.proofs.AcceptedCalls.{Answered, answered}
 
@@ -31,8 +32,8 @@ horizon_in S l = horizon (stages S) (submission_of S l)
 -- f of the k kept epochs are final: those in runs that end more than 3.0 s before the horizon
 pub record Counted (S : Fixed) (l : Lists) (k f : ℕ) : Type 0 where
   pub within : f ≤ k
-  pub none_final : horizon_in S l ≡ none → f ≡ 0
-  pub final_runs : (z : Float) → horizon_in S l ≡ some z → f ≡ count_runs z (runs_of (kept_times S l)) (kept_times S l)
+  pub none_final : horizon_in S l ≡ None → f ≡ 0
+  pub final_runs : (z : Float) → horizon_in S l ≡ Some z → f ≡ count_runs z (runs_of (kept_times S l)) (kept_times S l)
 
 -- the first f entries of each column are the same, and f never falls
 pub record FinalSheet (S : Fixed) (l l' : Lists) (columns columns' : List (List Float)) (k f k' f' : ℕ) : Type 0 where
@@ -51,8 +52,8 @@ counts S l outputs scratch k f a =
     }
 
 pub final_sheet : (S : Fixed) (l l' : Lists) (outputs outputs' : List (List Float)) (scratch scratch' : List Float) (k f k' f' : ℕ) →
-    sheet_values (sheet_call S l outputs scratch).answer ≡ some (k, f) →
-    sheet_values (sheet_call S l' outputs' scratch').answer ≡ some (k', f') →
+    answer_value (sheet_call S l outputs scratch).answer ≡ Some (record { kept = k; finals = f }) →
+    answer_value (sheet_call S l' outputs' scratch').answer ≡ Some (record { kept = k'; finals = f' }) →
     ListsGrow l l' →
     FinalSheet S l l' (sheet_call S l outputs scratch).outputs (sheet_call S l' outputs' scratch').outputs k f k' f'
 unfolding columns_of final_count
@@ -69,8 +70,8 @@ final_sheet S l l' outputs outputs' scratch scratch' k f k' f' h h' g =
 
 -- what outputs and scratch held before
 pub same_sheet : (S : Fixed) (l : Lists) (outputs outputs' : List (List Float)) (scratch scratch' : List Float) (k f k' f' : ℕ) →
-    sheet_values (sheet_call S l outputs scratch).answer ≡ some (k, f) →
-    sheet_values (sheet_call S l outputs' scratch').answer ≡ some (k', f') →
+    answer_value (sheet_call S l outputs scratch).answer ≡ Some (record { kept = k; finals = f }) →
+    answer_value (sheet_call S l outputs' scratch').answer ≡ Some (record { kept = k'; finals = f' }) →
     (k ≡ k') × (f ≡ f') × ((sheet_call S l outputs scratch).outputs ≡ (sheet_call S l outputs' scratch').outputs)
 same_sheet S l outputs outputs' scratch scratch' k f k' f' h h' =
     let a = answered S l outputs scratch k f h in

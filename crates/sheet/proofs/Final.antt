@@ -2,7 +2,7 @@
 -- with the whole of the first's. The submissions are valid (`valid`) and the second grows out of the first (`grows`), so the theorem of crate `finality` holds of them (`final_entries_law`);
 -- F is the number of kept epochs in runs that end more than 3.0 s before the horizon (`counted`; none without a horizon, `none_counted`). Assumes nothing.
 use mathlib.Core.Path.{◌≡◌, sym, ◌∙◌, subst}
-use mathlib.Core.Option.{none, some}
+use Rattle.std.specs.Prelude.{None, Some}
 use mathlib.Core.List.{List}
 use Prim.Native.Nat.{ℕ, ◌*◌, ◌≤◌}
 use native.Mathlib.Omega.{arith}
@@ -11,7 +11,8 @@ use lib.IntN.{ℤ}
 use lib.ListN.{length, drop}
 use lib.Ieee.{Float}
 use Rattle.inputs.specs.Inputs.{field_size, Fixed, Lists}
-use Rattle.laws.specs.Checks.{all, is_time, rising, rising_seconds}
+use Rattle.std.specs.List.{list_all}
+use Rattle.laws.specs.Checks.{is_time, rising, rising_seconds}
 use Rattle.laws.specs.Runs.{runs_of}
 use Rattle.finality.proofs.Begins.{glue}
 use Rattle.finality.specs.Sheet.{Submission, Valid, Grows, Begins, times, horizon, kept, final, count_runs}
@@ -38,7 +39,7 @@ valid S l p =
     let ot = observations_times l.tracks.observed in
     valid_of (stages S) (submission_of S l)
     (let n = timed_length N l.fields.field_times l.fields.added in let f = p.fields in omega arith)
-    (carried (λ (ts : List Float). T (all is_time ts)) l.fields.field_times _ ft p.field_times.0)
+    (carried (λ (ts : List Float). T (list_all is_time ts)) l.fields.field_times _ ft p.field_times.0)
     (carried (λ (ts : List Float). T (rising ts)) l.fields.field_times _ ft p.field_times.1)
     (carried (λ (ks : List ℤ). T (rising_seconds ks)) l.tracks.states.c.keys _ (states_keys l.tracks.states.c) p.keys_c_rise)
     (carried (λ (ks : List ℤ). T (rising_seconds ks)) l.tracks.states.d.keys _ (states_keys l.tracks.states.d) p.keys_d_rise)
@@ -46,7 +47,7 @@ valid S l p =
     (carried (λ (ks : List ℤ). T (rising_seconds ks)) l.tracks.accs.d.keys _ (values_keys l.tracks.accs.d) p.acc_keys_d_rise)
     p.node_times.0
     p.node_times.1
-    (carried (λ (ts : List Float). T (all is_time ts)) l.tracks.observed.obs_times _ ot p.observed_times.0)
+    (carried (λ (ts : List Float). T (list_all is_time ts)) l.tracks.observed.obs_times _ ot p.observed_times.0)
     (carried (λ (ts : List Float). T (rising ts)) l.tracks.observed.obs_times _ ot p.observed_times.1)
 
 fields_begin : (N : ℕ) (ts ts' fs fs' : List Float) → length fs ≡ length ts * field_size N → Begins ts ts' → Begins fs fs' → Begins (timed N ts fs) (timed N ts' fs')
@@ -74,10 +75,10 @@ module _ (S : Fixed) (l : Lists) where
   abbrev s : Submission (stages S)
   s = submission_of S l
 
-  pub counted : (z : Float) → horizon (stages S) s ≡ some z → final (stages S) s ≡ count_runs z (runs_of (times (stages S) s)) (times (stages S) s)
+  pub counted : (z : Float) → horizon (stages S) s ≡ Some z → final (stages S) s ≡ count_runs z (runs_of (times (stages S) s)) (times (stages S) s)
   counted = final_is (stages S) (lawful (kernels S) (lawful_kernels S)) s
 
-  pub none_counted : horizon (stages S) s ≡ none → final (stages S) s ≡ 0
+  pub none_counted : horizon (stages S) s ≡ None → final (stages S) s ≡ 0
   none_counted = no_horizon (stages S) (lawful (kernels S) (lawful_kernels S)) s
 
   pub within_kept : final (stages S) s ≤ length (kept (stages S) s)

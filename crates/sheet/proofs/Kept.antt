@@ -1,6 +1,6 @@
 -- The epochs that the code keeps, over the tables of all windows, are those of the submission. Assumes nothing.
 use mathlib.Core.Path.{◌≡◌, ◌∙◌}
-use mathlib.Core.Option.{Option, none}
+use Rattle.std.specs.Prelude.{Option, None}
 use mathlib.Core.Bool.{cond, ◌&&◌}
 use mathlib.Core.List.{List}
 use Prim.Native.Nat.{◌≤◌}
@@ -50,7 +50,7 @@ module _ (S : Fixed) (l : Lists) (few : 2 ≤ length l.fields.field_times) (fits
       let k = second_of_time o.at h in
       (λ i. cond (o.good && covered_is S l few o.at i)
       (where_found (λ c d p q. record_is o.at o.observed c d p q i) (find (k i) (fitted (stages_of (kernels S)) sub sub.states_c)) (find (k i) (fitted (stages_of (kernels S)) sub sub.states_d))
-      (find (k i) sub.acc_c) (find (k i) sub.acc_d)) none)
+      (find (k i) sub.acc_c) (find (k i) sub.acc_d)) None)
 
   -- all of them
   pub kept_is : Valid (stages_of (kernels S)) sub →

@@ -1,8 +1,8 @@
 -- The windows that the code fits are those of the submission's stages, all of them end to end are its fitted orbits, and each can be searched. Assumes nothing.
 use mathlib.Core.Path.{◌≡◌, refl, sym, ap, ◌∙◌, subst}
-use mathlib.Core.Bool.{Bool, true}
+use mathlib.Core.Bool.{Bool}
 use mathlib.Core.List.{List, [], ◌∷◌, ◌++◌}
-use mathlib.Core.Option.{Option}
+use Rattle.std.specs.Prelude.{Option}
 use Prim.Native.Nat.{ℕ, zero, suc, ◌+◌, ◌-◌, ◌≤◌}
 use native.Mathlib.Numerals.{add-one}
 use native.Mathlib.Omega.{arith}
@@ -59,7 +59,7 @@ module _ (S : Fixed) (l : Lists) (few : 2 ≤ length l.fields.field_times) where
   window_in states = window_of (fit_stage S) (covered_in (stages_of (kernels S)) (submission_of S l)) (field_in (stages_of (kernels S)) (submission_of S l)) (λ (k : ℤ). find k (states_in states))
 
   pub fitted_window : ModelFits S l → (states : Keyed) (a b : Float) → Ends a b →
-      window_by (covers l.fields.field_times) (full_force (model_in S l)) (state_for states.keys states.values) a b ≡ window_in states a b
+      window_by (covers l.fields.field_times) (full_force (model_in S l)) (state_for states) a b ≡ window_in states a b
   fitted_window fits states a b e =
       window_is (model_in S l) states fits a b e
       ∙ (λ i. window_of (fit_stage S) (λ t. covered_is t i) (λ t. field_is t i) (λ (k : ℤ). find k (states_in states)) a b)

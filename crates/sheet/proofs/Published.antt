@@ -5,19 +5,20 @@ use mathlib.Core.List.{List}
 use lib.Ieee.{Float}
 use lib.ListN.{length}
 use Rattle.inputs.specs.Inputs.{Fixed, Lists, model_in}
+use Rattle.std.specs.Prelude.{Result, Ok}
 use Rattle.slices.specs.Calls.{Left, settled}
+use Rattle.slices.specs.declared.refusal.Refusal.{Refusal}
 use Rattle.vectors.specs.declared.Vector.{Vector}
 use Rattle.integrate.proofs.Published.{Published}
 use Rattle.windows.specs.Stage.{field_gravity}
 use Rattle.windows.proofs.Meaning.{published_gravity, stage_published}
-use Rattle.sheet.specs.declared.SheetAnswer.{SheetAnswer}
-use Rattle.sheet.specs.declared.SheetAnswer.TheVariants.{Accepted, Refused}
+use Rattle.sheet.specs.declared.Counts.{Counts}
 use Rattle.sheet.specs.Calls.{sheet_refusal, columns_by, columns_of, kept_by, kept_count, final_by, final_count, sheet_call}
 
 -- the call with the gravity of a field given; `sheet_call` takes that of the lent tables
-abbrev pub sheet_by : (List Float → Vector → Vector) → Fixed → Lists → List (List Float) → List Float → Left SheetAnswer
+abbrev pub sheet_by : (List Float → Vector → Vector) → Fixed → Lists → List (List Float) → List Float → Left (Result Counts Refusal)
 sheet_by gravity S l outputs scratch =
-    settled (Accepted (kept_by gravity S l) (final_by gravity S l)) Refused (sheet_refusal S l outputs (length scratch)) 0 (columns_by gravity S l) outputs scratch
+    settled (sheet_refusal S l outputs (length scratch)) (Ok (record { kept = kept_by gravity S l; finals = final_by gravity S l })) (columns_by gravity S l) outputs scratch
 
 module _ (S : Fixed) (l : Lists) (tables : Published (model_in S l)) where
   gravity_published : (field : List Float) (x : Vector) → field_gravity S field x ≡ published_gravity S.degree S.static field x

@@ -12,22 +12,20 @@ use borrow.Author.Tests.{le-leb, eq-eqb}
 use Rattle.inputs.specs.Inputs.{window_room, front_size, Keyed, Fixed, Lists, model_in}
 use Rattle.laws.specs.Floats.{zero64}
 use Rattle.laws.specs.Lists.{All}
-use Rattle.laws.specs.Checks.{all}
+use Rattle.std.specs.List.{list_all}
 use Rattle.laws.specs.Loops.{filled_length, filled_front}
 use Rattle.finality.specs.Tables.{Table, find}
-use Rattle.finality.specs.Brackets.{covers}
+use Rattle.slices.specs.Calls.{accepted}
 use Rattle.finality.specs.Sheet.{Submission, published, covered_in, field_in, fitted, epoch_of, kept, kept_of}
 use Rattle.finality.proofs.Keeping.{kept_length}
 use Rattle.epoch_record.specs.EpochRecord.{time, residual}
 use Rattle.epoch_record.specs.declared.Epoch.{Epoch}
-use Rattle.integrate.specs.Force.{full_force}
 use Rattle.integrate.specs.declared.kernel.State.{State}
-use Rattle.fit.specs.Fit.{state_for}
 use Rattle.integrate.specs.RowsBySecond.{states_in}
 use Rattle.epoch.specs.Kept.{epoch_by}
 use Rattle.epoch.proofs.Kept.{observations_length}
 use Rattle.windows.specs.Slots.{Slot}
-use Rattle.windows.specs.Windows.{slot_at, window_by, windows_serve, Ends}
+use Rattle.windows.specs.Windows.{slot_at, window_of, windows_serve, Ends}
 use Rattle.windows.proofs.Filling.{served}
 use Rattle.slots.specs.LookUp.{joined, SlotsHold, BothFit}
 use Rattle.kept_epochs.specs.KeptEpochs.{Given, given, kept_in, gather_serves, Listed, Gathered}
@@ -64,8 +62,7 @@ module _ (S : Fixed) (l : Lists) (outputs : List (List Float)) (room : ℕ) (h :
 
   pub slots_hold : (states : Keyed) (satellite : ℕ) (s : List Float) → satellite ≤ 1 → length s ≡ room →
       ((w : ℕ) → w < length l.tracks.nodes - 1 →
-      Slot s (slot_at base satellite w) (window_by (covers l.fields.field_times) (full_force (model_in S l)) (state_for states.keys states.values) (get_or l.tracks.nodes w nan)
-      (get_or l.tracks.nodes (w + 1) nan))) →
+      Slot s (slot_at base satellite w) (window_of (model_in S l) states (get_or l.tracks.nodes w nan) (get_or l.tracks.nodes (w + 1) nan))) →
       SlotsHold s (slot_at base satellite 0) (tables states) (length l.tracks.nodes - 1)
   slots_hold states satellite s one e slots = record {
     room = omega (arith, h.scratch);
@@ -90,13 +87,13 @@ length_kept S l =
     )
 
 -- lists of one length
-all_long : (x m : ℕ) (columns : List (List Float)) → x ≡ m → All (λ (c : List Float). length c ≡ m) columns → all (λ (k : ℕ). eqb k x) (map length columns) ≡ true
+all_long : (x m : ℕ) (columns : List (List Float)) → x ≡ m → All (λ (c : List Float). length c ≡ m) columns → list_all (λ (k : ℕ). eqb k x) (map length columns) ≡ true
 all_long x m [] e a = refl
 all_long x m (c ∷ cs) e a = rw (eq-eqb (length c) x (a.0 ∙ sym e)) (all_long x m cs e a.1)
 
 -- the outputs: times, raw residuals, and the columns that follow from them
 module _ (S : Fixed) (l : Lists) (outtimes outraws : List Float) (others : List (List Float)) (s : List Float)
-    (none_fails : sheet_refusal S l (outtimes ∷ outraws ∷ others) (length s) ≡ 0) where
+    (none_fails : sheet_refusal S l (outtimes ∷ outraws ∷ others) (length s) ≡ accepted) where
   abbrev outputs : List (List Float)
   outputs = outtimes ∷ outraws ∷ others
 
@@ -111,9 +108,6 @@ module _ (S : Fixed) (l : Lists) (outtimes outraws : List Float) (others : List 
 
   places : All (λ (o : List Float). length o ≡ m) outputs
   places = outputs_long S l outputs (length s) h
-
-  abbrev window_of_code : Keyed → Float → Float → Table State
-  window_of_code states = window_by (covers l.fields.field_times) (full_force (model_in S l)) (state_for states.keys states.values)
 
   abbrev both_serve : Bool
   both_serve = windows_serve S.degree l.tracks.states.c.keys (length l.tracks.states.c.values) l.tracks.nodes 0 (length s) && windows_serve S.degree l.tracks.states.d.keys
@@ -150,7 +144,7 @@ module _ (S : Fixed) (l : Lists) (outtimes outraws : List Float) (others : List 
 
   -- the fits and the epochs over them
   listed : (s₁ s₂ t r : List Float) (b : Bool) (windows n : ℕ) → windows ≡ length l.tracks.nodes - 1 →
-      BothFit both_serve (window_of_code l.tracks.states.c) (window_of_code l.tracks.states.d) l.tracks.nodes s s₁
+      BothFit both_serve (window_of (model_in S l) l.tracks.states.c) (window_of (model_in S l) l.tracks.states.d) l.tracks.nodes s s₁
       (front_size S.degree) b →
       Gathered (as_given windows) (epochs_serve (length s₁)) outtimes outraws s₁ t r s₂ n →
       Listed m es t r n
@@ -159,7 +153,7 @@ module _ (S : Fixed) (l : Lists) (outtimes outraws : List Float) (others : List 
       let D : ℕ → Table State = tables S l outputs (length s) h l.tracks.states.d in
       let hold : (states : Keyed) (satellite : ℕ) → satellite ≤ 1 →
       ((i : ℕ) → i < length l.tracks.nodes - 1 → Slot s₁ (slot_at (front_size S.degree) satellite i)
-      (window_of_code states (get_or l.tracks.nodes i nan) (get_or l.tracks.nodes (i + 1) nan))) →
+      (window_of (model_in S l) states (get_or l.tracks.nodes i nan) (get_or l.tracks.nodes (i + 1) nan))) →
       SlotsHold s₁ (slot_at (front_size S.degree) satellite 0) (tables S l outputs (length s) h states) windows =
       λ states satellite one slots. subst (λ (k : ℕ). SlotsHold s₁ (slot_at (front_size S.degree) satellite 0) (tables S l outputs (length s) h states) k) (sym w)
       (slots_hold S l outputs (length s) h states satellite s₁ one f.long slots) in
@@ -181,7 +175,7 @@ module _ (S : Fixed) (l : Lists) (outtimes outraws : List Float) (others : List 
       rw (le-leb n (length t) (omega (arith, lt, few)), all_long (length t) m (r ∷ others) lt (lr, places.1.1), le-leb n (room / 8) enough) refl
 
   pub worked : (s₁ s₂ s₃ t r : List Float) (others' : List (List Float)) (b c : Bool) (windows n : ℕ) → windows ≡ length l.tracks.nodes - 1 →
-      BothFit both_serve (window_of_code l.tracks.states.c) (window_of_code l.tracks.states.d) l.tracks.nodes s s₁
+      BothFit both_serve (window_of (model_in S l) l.tracks.states.c) (window_of (model_in S l) l.tracks.states.d) l.tracks.nodes s s₁
       (front_size S.degree) b →
       Gathered (as_given windows) (epochs_serve (length s₁)) outtimes outraws s₁ t r s₂ n →
       ColumnsFilled (columns_serve n (length t) (map length (r ∷ others)) (length s₂)) l.tracks.nodes n t r others others' s₂ s₃ c →

@@ -1,28 +1,18 @@
 -- The whole path as a call (document 01, module 8, "Outcomes" and "Bounds"): which refusal, what is published, what is left behind. Assumes nothing.
-use Rattle.std.specs.Prelude.{◌≡◌, ℕ, Bool, ◌&&◌, List, leb, eqb, ℤ, Float, length}
-use Rattle.std.proofs.Math.Option.{Option, none, some}
+use Rattle.std.specs.Prelude.{◌≡◌, ℕ, Bool, ◌&&◌, List, leb, eqb, Float, length, Result, Ok}
 use Rattle.std.specs.Float.Ieee.Scale.{finite}
-use Rattle.laws.specs.Checks.{all, is_time, rising, degree_fine}
-use Rattle.slices.specs.Calls.{Left, settled}
+use Rattle.std.specs.List.{list_all}
+use Rattle.laws.specs.Checks.{is_time, rising, degree_fine}
+use Rattle.slices.specs.Calls.{Left, settled, Verdict, accepted}
+use Rattle.slices.specs.declared.refusal.Refusal.{Refusal}
 use Rattle.finality.specs.Sheet.{sheet, kept, final}
 use Rattle.inputs.specs.Inputs.{Fixed, Lists, first_of, inputs_in, inputs_counted, inputs_fit, inputs_fine, inputs_rise, whole_scratch_fits}
 use Rattle.vectors.specs.declared.Vector.{Vector}
 use Rattle.windows.specs.Stage.{field_gravity}
 use Rattle.sheet.specs.Submission.{stages_by, submission_by}
-use Rattle.sheet.specs.declared.SheetAnswer.{SheetAnswer}
-use Rattle.sheet.specs.declared.SheetAnswer.TheVariants.{Accepted, Refused}
+use Rattle.sheet.specs.declared.Counts.{Counts}
 
--- ---- an answer: document 01's number, 0 for acceptance, and the counts of kept and of final epochs
-
-abbrev pub sheet_number : SheetAnswer → ℕ
-sheet_number (Accepted k f) = 0
-sheet_number (Refused n) = n
-
-abbrev pub sheet_values : SheetAnswer → Option (ℕ × ℕ)
-sheet_values (Accepted k f) = some (k, f)
-sheet_values (Refused n) = none
-
--- ---- which refusal: 2, 3, 4 and 5 of all lists
+-- ---- which refusal
 
 unfoldable pub lists_counted : Fixed → Lists → Bool
 lists_counted F l = inputs_counted (inputs_in F l) && (leb (length l.tracks.nodes) 64 && leb (length l.tracks.observed.obs_times) 100000)
@@ -39,20 +29,20 @@ lists_fit F l outputs room =
 unfoldable pub lists_fine : Fixed → Lists → Bool
 lists_fine F l =
     inputs_fine (inputs_in F l)
-    && (all is_time l.tracks.nodes && (all is_time l.tracks.observed.obs_times && all finite l.tracks.observed.values))
+    && (list_all is_time l.tracks.nodes && (list_all is_time l.tracks.observed.obs_times && list_all finite l.tracks.observed.values))
 
 unfoldable pub lists_rise : Fixed → Lists → Bool
 lists_rise F l = inputs_rise (inputs_in F l) && (rising l.tracks.nodes && rising l.tracks.observed.obs_times)
 
-unfoldable pub refusal_of : Fixed → Lists → Bool → ℕ → ℕ
+unfoldable pub refusal_of : Fixed → Lists → Bool → ℕ → Verdict
 refusal_of F l outputs room =
-    first_of (degree_fine F.degree) (lists_counted F l) (lists_fit F l outputs room) (lists_fine F l) (lists_rise F l) 0
+    first_of (degree_fine F.degree) (lists_counted F l) (lists_fit F l outputs room) (lists_fine F l) (lists_rise F l) accepted
 
 -- a place for each observation in each output
 abbrev pub places_fit : Lists → List (List Float) → Bool
-places_fit l outputs = all (λ (o : List Float). eqb (length o) (length l.tracks.observed.obs_times)) outputs
+places_fit l outputs = list_all (λ (o : List Float). eqb (length o) (length l.tracks.observed.obs_times)) outputs
 
-abbrev pub sheet_refusal : Fixed → Lists → List (List Float) → ℕ → ℕ
+abbrev pub sheet_refusal : Fixed → Lists → List (List Float) → ℕ → Verdict
 sheet_refusal S l outputs room = refusal_of S l (places_fit l outputs) room
 
 -- ---- what is published: for each kept epoch its time, raw residual, detrended residual and passed value, +0.0 after the last
@@ -84,6 +74,6 @@ pub record Worked (S : Fixed) (l : Lists) (kept : ℕ) (columns : List (List Flo
   pub long : length s' ≡ length s
 
 -- ---- the call; its outputs are the columns, in this order
-abbrev pub sheet_call : Fixed → Lists → List (List Float) → List Float → Left SheetAnswer
+abbrev pub sheet_call : Fixed → Lists → List (List Float) → List Float → Left (Result Counts Refusal)
 sheet_call S l outputs scratch =
-    settled (Accepted (kept_count S l) (final_count S l)) Refused (sheet_refusal S l outputs (length scratch)) 0 (columns_of S l) outputs scratch
+    settled (sheet_refusal S l outputs (length scratch)) (Ok (record { kept = kept_count S l; finals = final_count S l })) (columns_of S l) outputs scratch

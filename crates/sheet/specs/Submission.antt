@@ -5,7 +5,8 @@ use Rattle.inputs.specs.Inputs.{Fixed, Lists, field_size}
 use Rattle.finality.specs.Stages.{Stages}
 use Rattle.finality.specs.Kernels.{stages_of}
 use Rattle.finality.specs.Sheet.{Submission, Begins}
-use Rattle.laws.specs.Checks.{all, is_time, rising, rising_seconds}
+use Rattle.std.specs.List.{list_all}
+use Rattle.laws.specs.Checks.{is_time, rising, rising_seconds}
 use Rattle.model.specs.Stages.{timed}
 use Rattle.vectors.specs.declared.Vector.{Vector}
 use Rattle.integrate.specs.RowsBySecond.{states_in, values_in}
@@ -45,13 +46,13 @@ pub record Passed (S : Fixed) (l : Lists) : Type 0 where
   pub acc_d : length l.tracks.accs.d.values ≡ length l.tracks.accs.d.keys
   pub values : length l.tracks.observed.values ≡ length l.tracks.observed.obs_times
   pub good : length l.tracks.observed.good ≡ length l.tracks.observed.obs_times
-  pub field_times : T (all is_time l.fields.field_times) × T (rising l.fields.field_times)
+  pub field_times : T (list_all is_time l.fields.field_times) × T (rising l.fields.field_times)
   pub keys_c_rise : T (rising_seconds l.tracks.states.c.keys)
   pub keys_d_rise : T (rising_seconds l.tracks.states.d.keys)
   pub acc_keys_c_rise : T (rising_seconds l.tracks.accs.c.keys)
   pub acc_keys_d_rise : T (rising_seconds l.tracks.accs.d.keys)
-  pub node_times : T (all is_time l.tracks.nodes) × T (rising l.tracks.nodes)
-  pub observed_times : T (all is_time l.tracks.observed.obs_times) × T (rising l.tracks.observed.obs_times)
+  pub node_times : T (list_all is_time l.tracks.nodes) × T (rising l.tracks.nodes)
+  pub observed_times : T (list_all is_time l.tracks.observed.obs_times) × T (rising l.tracks.observed.obs_times)
 
 -- each list of the second begins with the whole of the first's
 pub record ListsGrow (l l' : Lists) : Type 0 where

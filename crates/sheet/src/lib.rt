@@ -1,4 +1,4 @@
-// Module 8 of document 01, the whole path: one call from a submission to the columns of its sheet, with the number of kept epochs and of final ones.
+// The whole path: one call from a submission to the columns of its sheet, with the number of kept epochs and of final ones.
 #![tactic(auto)]
 
 mod tests;
@@ -6,27 +6,26 @@ mod work;
 
 ghost use Rattle.std.specs.Prelude.{◌≡◌, [], ◌∷◌, map};
 ghost use Rattle.std.specs.Float.Ieee.Scale.{finite};
-ghost use Rattle.laws.specs.Checks.{all};
+ghost use Rattle.std.specs.List.{list_all};
 ghost use Rattle.laws.specs.Loops.{cleared};
 ghost use Rattle.slices.specs.Calls.{left};
-ghost use Rattle.inputs.specs.Inputs.{model_of, pair_of, observed_of, lists};
+ghost use Rattle.inputs.specs.Lent.{fixed_of, lists_of};
 ghost use Rattle.sheet.specs.Calls.{sheet_call};
 
-// How many epochs are kept and how many of them are final, or a refusal's number.
+use slices::Refusal;
+
+// How many epochs are kept, and how many of them are final.
 #[derive(Clone, Copy)]
-pub enum SheetAnswer {
-    Accepted(usize, usize),
-    Refused(u8),
+pub struct Counts {
+    pub kept: usize,
+    pub finals: usize,
 }
 
 fn columns_finite(times: &[f64], raws: &[f64], detrended: &[f64], passed: &[f64]) -> bool
-    ensures { result ≡ all (all finite) (times.now ∷ raws.now ∷ detrended.now ∷ passed.now ∷ []) }
+    ensures { result ≡ list_all (list_all finite) (times.now ∷ raws.now ∷ detrended.now ∷ passed.now ∷ []) }
 {
-    let filtered = slices::both(slices::all_finite(detrended), slices::all_finite(passed));
-    slices::both(
-        slices::all_finite(times),
-        slices::both(slices::all_finite(raws), filtered),
-    )
+    let filtered = slices::all_finite(detrended) && slices::all_finite(passed);
+    slices::all_finite(times) && (slices::all_finite(raws) && filtered)
 }
 
 fn clear_columns(times: &mut [f64], raws: &mut [f64], detrended: &mut [f64], passed: &mut [f64])
@@ -40,64 +39,28 @@ fn clear_columns(times: &mut [f64], raws: &mut [f64], detrended: &mut [f64], pas
 }
 
 // The sheet of a submission: time, raw residual, detrended residual and passed value of each epoch that is kept.
-pub fn sheet<'a>(
-    degree: usize,
-    model: inputs::Model<'a>,
-    keys: inputs::Keys<'a>,
-    states: inputs::Rows<'a>,
-    acckeys: inputs::Keys<'a>,
-    accs: inputs::Rows<'a>,
-    nodes: &[f64],
-    obstimes: &[f64],
-    obsvalues: &[f64],
-    good: &[u8],
+pub fn sheet(
+    submission: inputs::Submission<'_>,
     outtimes: &mut [f64],
     outraws: &mut [f64],
     outdetrended: &mut [f64],
     outpassed: &mut [f64],
     scratch: &mut [f64],
-) -> SheetAnswer
+) -> Result<Counts, Refusal>
     ensures { left result (outtimes.new ∷ outraws.new ∷ outdetrended.new ∷ outpassed.new ∷ []) scratch.new ≡
-        sheet_call (model_of degree model.entry).fixed
-        (lists (model_of degree model.entry) (pair_of keys.entry states.entry) (pair_of acckeys.entry accs.entry) nodes.now
-        (observed_of obstimes.now obsvalues.now good.now))
+        sheet_call (fixed_of submission.entry) (lists_of submission.entry)
         (outtimes.old ∷ outraws.old ∷ outdetrended.old ∷ outpassed.old ∷ []) scratch.old }
 {
     let outputs = tests::outputs_fit(
-        obstimes.len(),
+        submission.observed.times.len(),
         outtimes.len(),
         outraws.len(),
         outdetrended.len(),
         outpassed.len(),
     );
-    let number = tests::refusal(
-        degree,
-        model,
-        keys,
-        states,
-        acckeys,
-        accs,
-        nodes,
-        obstimes,
-        obsvalues,
-        good,
-        outputs,
-        scratch.len(),
-    );
-    if number != 0 {
-        return SheetAnswer::Refused(number);
-    }
+    tests::refusal(submission, outputs, scratch.len())?;
     let kept = work::work(
-        degree,
-        model,
-        keys,
-        states,
-        acckeys,
-        accs,
-        nodes,
-        obstimes,
-        obsvalues,
-        good,
+        submission,
         outtimes,
         outraws,
         outdetrended,
@@ -106,16 +69,9 @@ pub fn sheet<'a>(
     );
     slices::clear(scratch);
     if columns_finite(outtimes, outraws, outdetrended, outpassed) {
-        let last = work::count_final(
-            model[inputs::FIELD_TIMES],
-            keys,
-            acckeys,
-            nodes,
-            obstimes,
-            &outtimes[0..kept],
-        );
-        return SheetAnswer::Accepted(kept, last);
+        let finals = work::count_final(submission, &outtimes[0..kept]);
+        return Ok(Counts { kept, finals });
     }
     clear_columns(outtimes, outraws, outdetrended, outpassed);
-    SheetAnswer::Refused(10)
+    Err(Refusal::NotFinite)
 }

@@ -1,8 +1,11 @@
-// The tests 1 to 5 of the whole path, over all its lists.
-ghost use Rattle.std.specs.Prelude.{◌≡◌, [], ◌∷◌, ◌&&◌, leb, eqb, length};
-ghost use Rattle.laws.specs.Checks.{all, rising};
-ghost use Rattle.inputs.specs.Inputs.{model_of, counts_fine, rise, lent_list, pair_of, observed_of, lists};
-ghost use Rattle.sheet.specs.Calls.{lists_fit, lists_fine, refusal_of};
+// The tests of the whole path, over all its lists, before the work.
+ghost use Rattle.std.specs.Prelude.{◌≡◌, [], ◌∷◌, eqb};
+ghost use Rattle.std.specs.List.{list_all};
+ghost use Rattle.inputs.specs.Lent.{fixed_of, lists_of};
+ghost use Rattle.sheet.specs.Calls.{lists_counted, lists_fit, lists_fine, lists_rise, refusal_of};
+
+use inputs::Submission;
+use slices::Refusal;
 
 // Outputs of length m.
 pub(crate) fn outputs_fit(
@@ -12,127 +15,61 @@ pub(crate) fn outputs_fit(
     detrended: usize,
     passed: usize,
 ) -> bool
-    ensures { result ≡ all (λ n. eqb n m) (times ∷ raws ∷ detrended ∷ passed ∷ []) }
+    ensures { result ≡ list_all (λ n. eqb n m) (times ∷ raws ∷ detrended ∷ passed ∷ []) }
 {
-    let filtered = slices::both(detrended == m, passed == m);
-    slices::both(times == m, slices::both(raws == m, filtered))
+    times == m && (raws == m && (detrended == m && passed == m))
 }
 
-fn lists_counted<'a>(
-    model: inputs::Model<'a>,
-    keys: inputs::Keys<'a>,
-    acckeys: inputs::Keys<'a>,
-    nodes: usize,
-    observations: usize,
-) -> bool
-    ensures { result ≡ counts_fine (length (lent_list model.entry 3)) (length (lent_list keys.entry 0)) (length (lent_list keys.entry 1))
-        (length (lent_list acckeys.entry 0)) (length (lent_list acckeys.entry 1)) && (leb nodes 64 && leb observations 100000) }
+#[tactic(auto, unfolding(crate::specs::Calls::lists_counted))]
+fn lists_counted(submission: Submission<'_>) -> bool
+    ensures { result ≡ lists_counted (fixed_of submission.entry) (lists_of submission.entry) }
 {
-    slices::both(
-        inputs::inputs_counted(model, keys, acckeys),
-        slices::both(nodes <= 64, observations <= 100000),
-    )
+    submission.inputs.are_counted()
+        && (submission.nodes.len() <= 64 && submission.observed.times.len() <= 100000)
 }
 
-fn lists_fit<'a>(
-    degree: usize,
-    model: inputs::Model<'a>,
-    keys: inputs::Keys<'a>,
-    states: inputs::Rows<'a>,
-    acckeys: inputs::Keys<'a>,
-    accs: inputs::Rows<'a>,
-    nodes: &[f64],
-    obstimes: &[f64],
-    obsvalues: &[f64],
-    good: &[u8],
-    outputs: bool,
-    room: usize,
-) -> bool
-    ensures { result ≡ lists_fit (model_of degree model.entry).fixed
-        (lists (model_of degree model.entry) (pair_of keys.entry states.entry) (pair_of acckeys.entry accs.entry) nodes.now
-        (observed_of obstimes.now obsvalues.now good.now)) outputs room }
+#[tactic(auto, unfolding(crate::specs::Calls::lists_fit))]
+fn lists_fit(submission: Submission<'_>, outputs: bool, room: usize) -> bool
+    ensures { result ≡ lists_fit (fixed_of submission.entry) (lists_of submission.entry) outputs room }
 {
-    let inputs = inputs::inputs_fit(degree, model, keys, states, acckeys, accs);
-    let m = obstimes.len();
-    let observed = slices::both(obsvalues.len() == m, good.len() == m);
-    let times = model[inputs::FIELD_TIMES];
-    let scratch = inputs::whole_scratch_fits(degree, times.len(), nodes.len(), m, room);
-    slices::both(
-        inputs,
-        slices::both(slices::both(observed, outputs), scratch),
-    )
+    let model = submission.inputs.model;
+    let observed = submission.observed;
+    let m = observed.times.len();
+    let fields = model.field_times.len();
+    let nodes = submission.nodes.len();
+    let scratch = inputs::whole_scratch_fits(model.degree, fields, nodes, m, room);
+    submission.inputs.are_sized()
+        && (((observed.values.len() == m && observed.good.len() == m) && outputs) && scratch)
 }
 
-fn lists_fine<'a>(
-    degree: usize,
-    model: inputs::Model<'a>,
-    keys: inputs::Keys<'a>,
-    states: inputs::Rows<'a>,
-    acckeys: inputs::Keys<'a>,
-    accs: inputs::Rows<'a>,
-    nodes: &[f64],
-    obstimes: &[f64],
-    obsvalues: &[f64],
-    good: &[u8],
-) -> bool
-    ensures { result ≡ lists_fine (model_of degree model.entry).fixed
-        (lists (model_of degree model.entry) (pair_of keys.entry states.entry) (pair_of acckeys.entry accs.entry) nodes.now
-        (observed_of obstimes.now obsvalues.now good.now)) }
+#[tactic(auto, unfolding(crate::specs::Calls::lists_fine))]
+fn lists_fine(submission: Submission<'_>) -> bool
+    ensures { result ≡ lists_fine (fixed_of submission.entry) (lists_of submission.entry) }
 {
-    let inputs = inputs::inputs_fine(model, keys, states, acckeys, accs);
-    let observed = slices::both(slices::all_times(obstimes), slices::all_finite(obsvalues));
-    slices::both(inputs, slices::both(slices::all_times(nodes), observed))
+    let observed = submission.observed;
+    let own = slices::all_times(observed.times) && slices::all_finite(observed.values);
+    submission.inputs.are_fine() && (slices::all_times(submission.nodes) && own)
 }
 
-fn lists_rise<'a>(
-    model: inputs::Model<'a>,
-    keys: inputs::Keys<'a>,
-    acckeys: inputs::Keys<'a>,
-    nodes: &[f64],
-    obstimes: &[f64],
-) -> bool
-    ensures { result ≡ rise (lent_list model.entry 3) (lent_list keys.entry 0) (lent_list keys.entry 1) (lent_list acckeys.entry 0)
-        (lent_list acckeys.entry 1) && (rising nodes.now && rising obstimes.now) }
+#[tactic(auto, unfolding(crate::specs::Calls::lists_rise))]
+fn lists_rise(submission: Submission<'_>) -> bool
+    ensures { result ≡ lists_rise (fixed_of submission.entry) (lists_of submission.entry) }
 {
-    slices::both(
-        inputs::inputs_rise(model, keys, acckeys),
-        slices::both(slices::rising(nodes), slices::rising(obstimes)),
-    )
+    submission.inputs.rise()
+        && (slices::rising(submission.nodes) && slices::rising(submission.observed.times))
 }
 
-// The number of the first of the tests 1 to 5 that fails; `outputs` is whether the outputs are as long as they must be.
-pub(crate) fn refusal<'a>(
-    degree: usize,
-    model: inputs::Model<'a>,
-    keys: inputs::Keys<'a>,
-    states: inputs::Rows<'a>,
-    acckeys: inputs::Keys<'a>,
-    accs: inputs::Rows<'a>,
-    nodes: &[f64],
-    obstimes: &[f64],
-    obsvalues: &[f64],
-    good: &[u8],
-    outputs: bool,
-    room: usize,
-) -> u8
-    ensures { result ≡ refusal_of (model_of degree model.entry).fixed
-        (lists (model_of degree model.entry) (pair_of keys.entry states.entry) (pair_of acckeys.entry accs.entry) nodes.now
-        (observed_of obstimes.now obsvalues.now good.now)) outputs room }
+// The refusal of the first test that fails; `outputs` is whether the outputs are as long as they must be.
+#[tactic(auto, unfolding(crate::specs::Calls::refusal_of))]
+pub(crate) fn refusal(submission: Submission<'_>, outputs: bool, room: usize) -> Result<(), Refusal>
+    ensures { result ≡ refusal_of (fixed_of submission.entry) (lists_of submission.entry) outputs room }
 {
-    let counts = lists_counted(model, keys, acckeys, nodes.len(), obstimes.len());
-    let lengths = lists_fit(
-        degree, model, keys, states, acckeys, accs, nodes, obstimes, obsvalues, good, outputs, room,
-    );
-    let values = lists_fine(
-        degree, model, keys, states, acckeys, accs, nodes, obstimes, obsvalues, good,
-    );
-    let order = lists_rise(model, keys, acckeys, nodes, obstimes);
     inputs::first_of(
-        inputs::degree_fine(degree),
-        counts,
-        lengths,
-        values,
-        order,
-        0,
+        inputs::degree_fine(submission.inputs.model.degree),
+        lists_counted(submission),
+        lists_fit(submission, outputs, room),
+        lists_fine(submission),
+        lists_rise(submission),
+        Ok(()),
     )
 }

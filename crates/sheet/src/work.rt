@@ -1,72 +1,56 @@
 // The work of the whole path on lists that have passed the tests: fits, epochs, columns, and how many entries are final.
-ghost use Rattle.std.specs.Prelude.{◌≡◌, [], ◌∷◌, ◌-◌, length};
+// kept: the columns are lent one by one, as the call has them; a struct of `&mut` slices would be taken apart in each function.
+ghost use Rattle.std.specs.Prelude.{◌≡◌, [], ◌∷◌, length};
 ghost use Rattle.finality.specs.Sheet.{horizon_of, count_to};
 ghost use Rattle.horizon.specs.Horizon.{ends_of};
-ghost use Rattle.inputs.specs.Inputs.{model_of, lent_list, pair_of, observed_of, lists};
+ghost use Rattle.inputs.specs.Lent.{fixed_of, lists_of};
+ghost use Rattle.slices.specs.Calls.{accepted};
 ghost use Rattle.sheet.specs.Calls.{sheet_refusal, Worked};
 
-// How many pairs of neighbouring nodes there are.
-fn windows_of(nodes: usize) -> usize
-    ensures { result ≡ nodes - 1 }
-{
-    if nodes == 0 { 0 } else { nodes - 1 }
-}
+use inputs::Submission;
 
 // The columns; how many epochs are kept.
-pub(crate) fn work<'a>(
-    degree: usize,
-    model: inputs::Model<'a>,
-    keys: inputs::Keys<'a>,
-    states: inputs::Rows<'a>,
-    acckeys: inputs::Keys<'a>,
-    accs: inputs::Rows<'a>,
-    nodes: &[f64],
-    obstimes: &[f64],
-    obsvalues: &[f64],
-    good: &[u8],
+pub(crate) fn work(
+    submission: Submission<'_>,
     outtimes: &mut [f64],
     outraws: &mut [f64],
     outdetrended: &mut [f64],
     outpassed: &mut [f64],
     s: &mut [f64],
 ) -> usize
-    requires { sheet_refusal (model_of degree model).fixed
-        (lists (model_of degree model) (pair_of keys states) (pair_of acckeys accs) nodes.now (observed_of obstimes.now obsvalues.now good.now))
-        (outtimes.old ∷ outraws.old ∷ outdetrended.old ∷ outpassed.old ∷ []) (length s.old) ≡ 0 }
-    ensures { Worked (model_of degree model.entry).fixed
-        (lists (model_of degree model.entry) (pair_of keys.entry states.entry) (pair_of acckeys.entry accs.entry) nodes.now
-        (observed_of obstimes.now obsvalues.now good.now)) result
+    requires { sheet_refusal (fixed_of submission) (lists_of submission)
+        (outtimes.old ∷ outraws.old ∷ outdetrended.old ∷ outpassed.old ∷ []) (length s.old) ≡ accepted }
+    ensures { Worked (fixed_of submission.entry) (lists_of submission.entry) result
         (outtimes.new ∷ outraws.new ∷ outdetrended.new ∷ outpassed.new ∷ []) s.old s.new }
 {
-    slots::fill(degree, model, keys, states, nodes, s);
-    let windows = windows_of(nodes.len());
-    let kept = kept_epochs::gather(
-        degree, model, acckeys, accs, windows, obstimes, obsvalues, good, outtimes, outraws, s,
-    );
+    let inputs = submission.inputs;
+    let nodes = submission.nodes;
+    slots::fill(inputs.model, inputs.states, nodes, s);
+    let given = kept_epochs::Given {
+        model: inputs.model,
+        accs: inputs.accs,
+        windows: nodes.len().saturating_sub(1),
+        observed: submission.observed,
+    };
+    let kept = kept_epochs::gather(given, outtimes, outraws, s);
     columns::fill(nodes, kept, outtimes, outraws, outdetrended, outpassed, s);
     kept
 }
 
 // How many of the kept epochs at these times are final.
-pub(crate) fn count_final<'a>(
-    times: &[f64],
-    keys: inputs::Keys<'a>,
-    acckeys: inputs::Keys<'a>,
-    nodes: &[f64],
-    obstimes: &[f64],
-    kept: &[f64],
-) -> usize
-    ensures { result ≡ count_to (horizon_of (ends_of (lent_list keys.entry 0) (lent_list keys.entry 1) (lent_list acckeys.entry 0)
-        (lent_list acckeys.entry 1) times.now obstimes.now) nodes.now) kept.now }
+pub(crate) fn count_final(submission: Submission<'_>, kept: &[f64]) -> usize
+    ensures { result ≡ count_to (horizon_of (ends_of submission.entry.inputs.states.c.keys.now submission.entry.inputs.states.d.keys.now
+        submission.entry.inputs.accs.c.keys.now submission.entry.inputs.accs.d.keys.now submission.entry.inputs.model.field_times.now
+        submission.entry.observed.times.now) submission.entry.nodes.now) kept.now }
 {
-    let z = horizon::kernel::horizon(
-        nodes,
-        keys[inputs::C],
-        keys[inputs::D],
-        acckeys[inputs::C],
-        acckeys[inputs::D],
-        times,
-        obstimes,
-    );
-    horizon::kernel::final_count(z, kept)
+    let inputs = submission.inputs;
+    let tracks = horizon::Tracks {
+        states_c: inputs.states.c.keys,
+        states_d: inputs.states.d.keys,
+        acc_c: inputs.accs.c.keys,
+        acc_d: inputs.accs.d.keys,
+        fields: inputs.model.field_times,
+        observed: submission.observed.times,
+    };
+    horizon::kernel::final_count(horizon::kernel::horizon(submission.nodes, tracks), kept)
 }

@@ -1,25 +1,22 @@
 -- Laws of the numbers that were read and of what is printed, as the loops and calls give their premises. Assumes nothing.
 use mathlib.Core.Path.{◌≡◌, refl, sym, ap, ◌∙◌, subst}
+use mathlib.Core.Bool.{Bool, true, false, cond}
 use mathlib.Core.List.{List, [], ◌∷◌, ◌++◌, append_assoc, append-nil}
 use Prim.Native.Nat.{ℕ, zero, suc, ◌+◌, ◌-◌, ◌*◌, ◌/◌, ◌%◌, ◌<◌, ◌≤◌, min}
-use native.Mathlib.Nat.{mul-le-mul, div-le_self}
+use native.Mathlib.Nat.{mul-le-mul, div-le_self, min-eq_left, min-eq_right}
 use native.Mathlib.Omega.{arith}
-use borrow.Author.Tests.{lt-ltb, le-ltb}
-use lib.IntN.{ℤ}
+use borrow.Author.Tests.{ltb-true, ltb-false}
+use lib.Dec.{ltb}
 use lib.ListN.{length, take, get_or, set, length-append, get_or-eq_default}
 use lib.Seq.{length-take-le}
-use borrow.Rule.Slice.PartMut.{put_mid, post_of}
 use lib.Ieee.{Float, nan, binary64, to_bits}
 use Rattle.laws.specs.Loops.{fill_turn, fill_done, take_set}
 use Rattle.hexadecimal.specs.Digits.{digits_of, written, decimal_of}
-use Rattle.hexadecimal.proofs.Printing.{then, written_prints, refused_prints, printed_counts}
+use Rattle.hexadecimal.proofs.Printing.{then, written_prints}
 use Rattle.hexadecimal.proofs.DigitLoops.{digits_length}
-use Rattle.hexadecimal.specs.Printing.{line_feed, refused_text, Printed}
+use Rattle.hexadecimal.specs.Printing.{line_feed, Printed}
 use Rattle.io.specs.Counts.{IsPrefixLen}
-use Rattle.streams.specs.Got.{Within}
-use Rattle.streams.specs.declared.Got.{Got}
-use Rattle.streams.specs.declared.Got.TheVariants.{Bytes, Failed}
-use Rattle.sheet_program.specs.Text.{number_at, whole_at, count_at, next_at, key_at, byte_at, floats_from, keys_from, bytes_from, places_of as places_of·program, head_text, term_text, row_text, rows_text}
+use Rattle.sheet_program.specs.Text.{number_at, whole_at, count_at, next_at, values_from, places_of as places_of·program, head_text, term_text, row_text, rows_text}
 
 -- ---- numbers
 
@@ -31,17 +28,15 @@ pub number_behind : (numbers : List Float) (at : ℕ) → length numbers ≤ at 
 unfolding number_at
 number_behind numbers at h = sym (get_or-eq_default numbers nan {n = at} h)
 
-module _ (numbers : List Float) (at most n : ℕ) (x : Float) (ex : x ≡ number_at numbers at) (en : n ≡ to_bits binary64 x) where
-  bits : n ≡ to_bits binary64 (number_at numbers at)
-  bits = en ∙ ap (to_bits binary64) ex
+cut_off : (b : Bool) (n most : ℕ) → ltb n most ≡ b → min n most ≡ cond b n most
+cut_off true n most e = min-eq_left (let h : n < most = ltb-true n most e in omega arith)
+cut_off false n most e = min-eq_right (ltb-false n most e)
 
-  pub whole_below : n < most → n ≡ whole_at numbers at most
-  unfolding whole_at
-  whole_below h = bits ∙ sym (rw (lt-ltb (to_bits binary64 (number_at numbers at)) most (subst (λ (k : ℕ). k < most) bits h)))
-
-  pub whole_most : most ≤ n → most ≡ whole_at numbers at most
-  unfolding whole_at
-  whole_most h = sym (rw (le-ltb (to_bits binary64 (number_at numbers at)) most (subst (λ (k : ℕ). most ≤ k) bits h)))
+pub whole_is : (numbers : List Float) (at most n m : ℕ) (x : Float) → x ≡ number_at numbers at → n ≡ to_bits binary64 x → m ≡ min n most → m ≡ whole_at numbers at most
+unfolding whole_at
+whole_is numbers at most n m x ex en em =
+    let word : ℕ = to_bits binary64 (number_at numbers at) in
+    em ∙ ap (λ (k : ℕ). min k most) (en ∙ ap (to_bits binary64) ex) ∙ cut_off (ltb word most) word most refl
 
 pub far : (words n : ℕ) → words ≤ 185 → n ≤ 12000 → words * n ≤ 2220000
 far words n h k = mul-le-mul h k
@@ -71,72 +66,24 @@ places_are numbers c a1 a2 a3 a4 a5 a6 a7 a8 e1 e2 e3 e4 e5 e6 e7 e8 =
 pub lines_far : (i step width : ℕ) → i < 100000 → step ≤ 185 → 0 < width → step * (i / width) ≤ 18500000
 lines_far i step width k h w = mul-le-mul h (let q : i / width ≤ 100000 = omega (arith, div-le_self i width) in q)
 
-pub step_far : (step i : ℕ) → step ≤ 185 → i < 100000 → step * i ≤ 18500000
-step_far step i h k = mul-le-mul h (let q : i ≤ 100000 = omega arith in q)
+module _ {A : Type 0} (value : ℕ → A) (from step width : ℕ) (out out₀ : List A) where
+  pub values_turn : (k j : ℕ) (y : A) → length out ≡ length out₀ → k < length out → j ≡ step * (k / width) + k % width → y ≡ value (from + j) →
+      take k out ++ values_from value from step width k (length out₀ - k) ≡ values_from value from step width 0 (length out₀) →
+      take (k + 1) (set out k y) ++ values_from value from step width (k + 1) (length out₀ - (k + 1)) ≡ values_from value from step width 0 (length out₀)
+  unfolding values_from
+  values_turn k j y l h ej ey inv =
+      let e : y ≡ value (from + (step * (k / width) + k % width)) = ey ∙ ap (λ (n : ℕ). value (from + n)) ej in
+      let n : ℕ = length out₀ - (k + 1) in
+      let s : length out₀ - k ≡ suc n = omega arith in
+      fill_turn out (values_from value from step width k (length out₀ - k)) (values_from value from step width (k + 1) n) (values_from value from step width 0 (length out₀)) k y h inv
+      (ap (values_from value from step width k) s ∙ ap (λ (v : A). v ∷ values_from value from step width (k + 1) n) (sym e))
 
-pub floats_start : (numbers : List Float) (from step width : ℕ) (out : List Float) → floats_from numbers from step width 0 (length out - 0) ≡ floats_from numbers from step width 0 (length out)
-floats_start numbers from step width out = let b : length out - 0 ≡ length out = omega arith in (λ i. floats_from numbers from step width 0 (b i))
-
-pub floats_turn : (numbers : List Float) (from step width : ℕ) (out out₀ : List Float) (k j : ℕ) (y : Float) → length out ≡ length out₀ → k < length out → j ≡ step * (k / width) + k % width →
-    y ≡ number_at numbers (from + j) →
-    take k out ++ floats_from numbers from step width k (length out₀ - k) ≡ floats_from numbers from step width 0 (length out₀) →
-    take (k + 1) (set out k y) ++ floats_from numbers from step width (k + 1) (length out₀ - (k + 1)) ≡ floats_from numbers from step width 0 (length out₀)
-unfolding floats_from
-floats_turn numbers from step width out out₀ k j y l h ej ey inv =
-    let e : y ≡ number_at numbers (from + (step * (k / width) + k % width)) = ey ∙ ap (λ (n : ℕ). number_at numbers (from + n)) ej in
-    let n : ℕ = length out₀ - (k + 1) in
-    let s : length out₀ - k ≡ suc n = omega arith in
-    fill_turn out (floats_from numbers from step width k (length out₀ - k)) (floats_from numbers from step width (k + 1) n) (floats_from numbers from step width 0 (length out₀)) k y h inv
-    (ap (floats_from numbers from step width k) s ∙ ap (λ (v : Float). v ∷ floats_from numbers from step width (k + 1) n) (sym e))
-
-pub floats_done : (numbers : List Float) (from step width : ℕ) (out out₀ : List Float) (k : ℕ) → length out ≡ length out₀ → length out ≤ k →
-    take k out ++ floats_from numbers from step width k (length out₀ - k) ≡ floats_from numbers from step width 0 (length out₀) → out ≡ floats_from numbers from step width 0 (length out₀)
-unfolding floats_from
-floats_done numbers from step width out out₀ k l h inv =
-    let z : length out₀ - k ≡ 0 = omega arith in
-    fill_done out (floats_from numbers from step width k (length out₀ - k)) (floats_from numbers from step width 0 (length out₀)) k h (ap (floats_from numbers from step width k) z) inv
-
-pub keys_start : (numbers : List Float) (from step : ℕ) (out : List ℤ) → keys_from numbers from step 0 (length out - 0) ≡ keys_from numbers from step 0 (length out)
-keys_start numbers from step out = let b : length out - 0 ≡ length out = omega arith in (λ i. keys_from numbers from step 0 (b i))
-
-pub keys_turn : (numbers : List Float) (from step : ℕ) (out out₀ : List ℤ) (k j : ℕ) (y : ℤ) → length out ≡ length out₀ → k < length out → j ≡ from + step * k → y ≡ key_at numbers j →
-    take k out ++ keys_from numbers from step k (length out₀ - k) ≡ keys_from numbers from step 0 (length out₀) →
-    take (k + 1) (set out k y) ++ keys_from numbers from step (k + 1) (length out₀ - (k + 1)) ≡ keys_from numbers from step 0 (length out₀)
-unfolding keys_from
-keys_turn numbers from step out out₀ k j y l h ej ey inv =
-    let e : y ≡ key_at numbers (from + step * k) = ey ∙ ap (key_at numbers) ej in
-    let n : ℕ = length out₀ - (k + 1) in
-    let s : length out₀ - k ≡ suc n = omega arith in
-    fill_turn out (keys_from numbers from step k (length out₀ - k)) (keys_from numbers from step (k + 1) n) (keys_from numbers from step 0 (length out₀)) k y h inv
-    (ap (keys_from numbers from step k) s ∙ ap (λ (v : ℤ). v ∷ keys_from numbers from step (k + 1) n) (sym e))
-
-pub keys_done : (numbers : List Float) (from step : ℕ) (out out₀ : List ℤ) (k : ℕ) → length out ≡ length out₀ → length out ≤ k →
-    take k out ++ keys_from numbers from step k (length out₀ - k) ≡ keys_from numbers from step 0 (length out₀) → out ≡ keys_from numbers from step 0 (length out₀)
-unfolding keys_from
-keys_done numbers from step out out₀ k l h inv =
-    let z : length out₀ - k ≡ 0 = omega arith in
-    fill_done out (keys_from numbers from step k (length out₀ - k)) (keys_from numbers from step 0 (length out₀)) k h (ap (keys_from numbers from step k) z) inv
-
-pub bytes_of_start : (numbers : List Float) (from step : ℕ) (out : List ℕ) → bytes_from numbers from step 0 (length out - 0) ≡ bytes_from numbers from step 0 (length out)
-bytes_of_start numbers from step out = let b : length out - 0 ≡ length out = omega arith in (λ i. bytes_from numbers from step 0 (b i))
-
-pub bytes_of_turn : (numbers : List Float) (from step : ℕ) (out out₀ : List ℕ) (k j : ℕ) (y : ℕ) → length out ≡ length out₀ → k < length out → j ≡ from + step * k → y ≡ byte_at numbers j →
-    take k out ++ bytes_from numbers from step k (length out₀ - k) ≡ bytes_from numbers from step 0 (length out₀) →
-    take (k + 1) (set out k y) ++ bytes_from numbers from step (k + 1) (length out₀ - (k + 1)) ≡ bytes_from numbers from step 0 (length out₀)
-unfolding bytes_from
-bytes_of_turn numbers from step out out₀ k j y l h ej ey inv =
-    let e : y ≡ byte_at numbers (from + step * k) = ey ∙ ap (byte_at numbers) ej in
-    let n : ℕ = length out₀ - (k + 1) in
-    let s : length out₀ - k ≡ suc n = omega arith in
-    fill_turn out (bytes_from numbers from step k (length out₀ - k)) (bytes_from numbers from step (k + 1) n) (bytes_from numbers from step 0 (length out₀)) k y h inv
-    (ap (bytes_from numbers from step k) s ∙ ap (λ (v : ℕ). v ∷ bytes_from numbers from step (k + 1) n) (sym e))
-
-pub bytes_of_done : (numbers : List Float) (from step : ℕ) (out out₀ : List ℕ) (k : ℕ) → length out ≡ length out₀ → length out ≤ k →
-    take k out ++ bytes_from numbers from step k (length out₀ - k) ≡ bytes_from numbers from step 0 (length out₀) → out ≡ bytes_from numbers from step 0 (length out₀)
-unfolding bytes_from
-bytes_of_done numbers from step out out₀ k l h inv =
-    let z : length out₀ - k ≡ 0 = omega arith in
-    fill_done out (bytes_from numbers from step k (length out₀ - k)) (bytes_from numbers from step 0 (length out₀)) k h (ap (bytes_from numbers from step k) z) inv
+  pub values_done : (k : ℕ) → length out ≡ length out₀ → length out ≤ k →
+      take k out ++ values_from value from step width k (length out₀ - k) ≡ values_from value from step width 0 (length out₀) → out ≡ values_from value from step width 0 (length out₀)
+  unfolding values_from
+  values_done k l h inv =
+      let z : length out₀ - k ≡ 0 = omega arith in
+      fill_done out (values_from value from step width k (length out₀ - k)) (values_from value from step width 0 (length out₀)) k h (ap (values_from value from step width k) z) inv
 
 -- ---- sentences
 
@@ -188,12 +135,6 @@ unfolding rows_text
 rows_length ts xs ys zs i zero = refl
 rows_length ts xs ys zs i (suc n) = simp (length-append, row_length, rows_length ts xs ys zs (i + 1) n) (omega arith)
 
-pub rows_start : (ts xs ys zs : List Float) (i n : ℕ) (o : List ℕ) → take (68 * 0) o ++ rows_text (i + 0) (n - 0) ts xs ys zs ≡ rows_text i n ts xs ys zs
-rows_start ts xs ys zs i n o =
-    let a : i + 0 ≡ i = omega arith in
-    let b : n - 0 ≡ n = omega arith in
-    (λ j. rows_text (a j) (b j) ts xs ys zs)
-
 pub rows_turn : (ts xs ys zs : List Float) (i n k : ℕ) (out out' goal : List ℕ) → k < n → Printed (row_text (i + k) ts xs ys zs) out (68 * k) out' (68 * k + 68) →
     take (68 * k) out ++ rows_text (i + k) (n - k) ts xs ys zs ≡ goal → take (68 * (k + 1)) out' ++ rows_text (i + (k + 1)) (n - (k + 1)) ts xs ys zs ≡ goal
 unfolding rows_text
@@ -208,27 +149,15 @@ rows_turn ts xs ys zs i n k out out' goal h p inv =
     ∙ inv)
 
 pub rows_done : (ts xs ys zs : List Float) (i n k : ℕ) (o out : List ℕ) → n ≤ k → k ≤ n → take (68 * k) out ++ rows_text (i + k) (n - k) ts xs ys zs ≡ rows_text i n ts xs ys zs →
-    Printed (rows_text i n ts xs ys zs) o 0 out (68 * k)
+    Printed (rows_text i n ts xs ys zs) o 0 out (68 * n)
 unfolding rows_text
 rows_done ts xs ys zs i n k o out h g inv =
     let z : n - k ≡ 0 = omega arith in
+    let e : n ≡ k = omega arith in
     record {
       ends = omega (arith, rows_length ts xs ys zs i n);
-      text = sym (append-nil (take (68 * k) out)) ∙ ap (λ (x : ℕ). take (68 * k) out ++ rows_text (i + k) x ts xs ys zs) (sym z) ∙ inv;
+      text = ap (λ (x : ℕ). take (68 * x) out) e ∙ sym (append-nil (take (68 * k) out)) ∙ ap (λ (x : ℕ). take (68 * k) out ++ rows_text (i + k) x ts xs ys zs) (sym z) ∙ inv;
     }
-
-pub counts : (n : ℕ) (xs : List ℕ) → n ≤ length xs → IsPrefixLen n xs
-counts n xs h = (h, sym (length-take-le n xs h))
-
-pub set_counts : (line : List ℕ) (n b last : ℕ) → n ≤ last → last < length line → IsPrefixLen (n + 1) (set line n b)
-set_counts line n b last h g = counts (n + 1) (set line n b) (rw (lib.ListN.length-set line n b) (omega arith))
-
-pub counts_mid : (r k : ℕ) (xs ys : List ℕ) → IsPrefixLen r ys → IsPrefixLen r (put_mid 0 k xs ys)
-counts_mid r k xs ys h = counts r (put_mid 0 k xs ys) (omega (arith, h.0, length-append ys (post_of 0 k xs)))
-
-pub within_mid : (g : Got) (k : ℕ) (xs ys : List ℕ) → Within ys g → Within (put_mid 0 k xs ys) g
-within_mid (Bytes r) k xs ys h = counts_mid r k xs ys h
-within_mid Failed k xs ys h = tt
 
 -- where its pieces end
 pub head_few : (o o1 o2 o3 o4 o5 : List ℕ) (a b c d r : ℕ) → Printed (107 ∷ 101 ∷ 112 ∷ 116 ∷ 32 ∷ []) o 0 o1 a → b ≤ a + 20 → Printed (32 ∷ 102 ∷ 105 ∷ 110 ∷ 97 ∷ 108 ∷ 32 ∷ []) o2 b o3 c →
@@ -239,20 +168,5 @@ head_few o o1 o2 o3 o4 o5 a b c d r p1 h1 p2 h2 p3 =
     let e3 : r ≡ d + 1 = p3.ends in
     omega arith
 
-pub refused_counts : (n : ℕ) (o o1 o2 o3 : List ℕ) (a b r : ℕ) → Printed (114 ∷ 101 ∷ 102 ∷ 117 ∷ 115 ∷ 101 ∷ 100 ∷ 32 ∷ []) o 0 o1 a → Printed (decimal_of n) o1 a o2 b →
-    Printed line_feed o2 b o3 r → IsPrefixLen r o3
-refused_counts n o o1 o2 o3 a b r p q s = printed_counts (refused_text n) o o3 r (refused_prints n o o1 o2 o3 a b r p q s)
-
-pub rows_count : (out out₀ : List ℕ) (n k : ℕ) → length out ≡ length out₀ → 34000 ≤ length out₀ → n ≤ 500 → k ≤ n → IsPrefixLen (68 * k) out
-rows_count out out₀ n k l h g i = counts (68 * k) out (omega arith)
-
--- ---- as many as were counted
-
-pub counted_part : {A : Type 0} (xs ys xs₀ : List A) (n k j : ℕ) → xs ≡ ys → length xs ≡ length xs₀ → k ≡ j → n ≡ min k (length xs) → take (n - 0) xs ≡ take (min j (length xs₀)) ys
-counted_part xs ys xs₀ n k j e l h g =
-    let z : n - 0 ≡ n = omega arith in
-    let m : n - 0 ≡ min j (length xs₀) = z ∙ g ∙ (λ i. min (h i) (l i)) in
-    (λ i. take (m i) (e i))
-
-pub lines_part : {A : Type 0} (xs ys xs₀ : List A) (n k w c j : ℕ) → xs ≡ ys → length xs ≡ length xs₀ → c ≡ j → k ≡ w * c → n ≡ min k (length xs) → take (n - 0) xs ≡ take (min (w * j) (length xs₀)) ys
-lines_part xs ys xs₀ n k w c j e l h f g = counted_part xs ys xs₀ n k (w * j) e l (f ∙ ap (λ (x : ℕ). w * x) h) g
+pub rows_count : (out : List ℕ) (n : ℕ) → 34000 ≤ length out → n ≤ 500 → IsPrefixLen (68 * n) out
+rows_count out n g h = let e : 68 * n ≤ length out = omega arith in (e, sym (length-take-le (68 * n) out e))

@@ -32,19 +32,10 @@ key_at numbers at = to_z w64 (whole_at numbers at 2147483649)
 abbrev pub byte_at : List Float → ℕ → ℕ
 byte_at numbers at = whole_at numbers at 255
 
--- `width` numbers from `from` on of each line of `step`: the n numbers from the i-th on
-unfoldable pub floats_from : List Float → ℕ → ℕ → ℕ → ℕ → ℕ → List Float
-floats_from numbers from step width i zero = []
-floats_from numbers from step width i (suc n) = number_at numbers (from + (step * (i / width) + i % width)) ∷ floats_from numbers from step width (i + 1) n
-
--- one of each line
-unfoldable pub keys_from : List Float → ℕ → ℕ → ℕ → ℕ → List ℤ
-keys_from numbers from step i zero = []
-keys_from numbers from step i (suc n) = key_at numbers (from + step * i) ∷ keys_from numbers from step (i + 1) n
-
-unfoldable pub bytes_from : List Float → ℕ → ℕ → ℕ → ℕ → List ℕ
-bytes_from numbers from step i zero = []
-bytes_from numbers from step i (suc n) = byte_at numbers (from + step * i) ∷ bytes_from numbers from step (i + 1) n
+-- `width` values from `from` on of each line of `step`, where one stands at each number: the n values from the i-th on
+unfoldable pub values_from : {A : Type 0} → (ℕ → A) → ℕ → ℕ → ℕ → ℕ → ℕ → List A
+values_from value from step width i zero = []
+values_from value from step width i (suc n) = value (from + (step * (i / width) + i % width)) ∷ values_from value from step width (i + 1) n
 
 -- where each section's count stands, with c coefficients to a field
 unfoldable pub places_of : List Float → ℕ → Places

@@ -2,23 +2,54 @@
 // is printed.
 #![tactic(auto)]
 
-ghost use Rattle.std.specs.Prelude.{◌≡◌, ◌++◌, ◌∷◌, [], ◌+◌, ◌*◌, ◌/◌, ◌%◌, ◌≤◌, ◌<◌, min, length, take, pos};
-ghost use Rattle.std.specs.Float.{nan};
+ghost use Rattle.std.specs.Prelude.{◌≡◌, ◌+◌, ◌*◌, ◌/◌, ◌%◌, ◌≤◌, ◌<◌, ℕ, List, Float, min, length, take};
+ghost use Rattle.std.specs.Io.{ReadsAtMost};
 ghost use Rattle.io.specs.Counts.{IsPrefixLen};
-ghost use Rattle.streams.specs.Got.{Within};
-ghost use Rattle.hexadecimal.specs.Digits.{decimal_of};
-ghost use Rattle.submission_text.specs.Text.{coefficients};
-ghost use Rattle.hexadecimal.specs.Printing.{refused_text, Printed};
-ghost use Rattle.sheet_program.specs.Text.{number_at, whole_at, count_at, next_at, key_at, byte_at, floats_from, keys_from, bytes_from, places_of, Near, head_text};
+ghost use Rattle.hexadecimal.specs.Printing.{Printed};
+ghost use Rattle.sheet_program.specs.Text.{number_at, whole_at, count_at, next_at, key_at, byte_at, values_from, places_of, Near, head_text};
 ghost use Rattle.sheet_program.specs.Text.{term_text, row_text, rows_text};
+ghost use Rattle.sheet_program.specs.declared.Stop.TheVariants.{Unread, Text, Numbers};
 
-use hexadecimal;
-use legendre;
-use sheet;
-use slices;
+use slices::Refusal;
 use std::io::Read;
-use streams;
-use submission_text;
+use submission_text::Fault;
+
+// ---- why there is no sheet
+
+// What an input is instead of a submission that has a sheet.
+#[derive(Clone, Copy)]
+enum Stop {
+    // It could not be read to its end.
+    Unread,
+    // Its text is refused.
+    Text(Fault),
+    // What the text says is refused.
+    Numbers(Refusal),
+}
+
+impl From<std::io::Error> for Stop {
+    ghost from_gives = { λ _ stop. stop ≡ Unread };
+
+    fn from(_: std::io::Error) -> Stop {
+        Stop::Unread
+    }
+}
+
+impl From<Fault> for Stop {
+    ghost from_gives = { λ fault stop. stop ≡ Text fault };
+
+    fn from(fault: Fault) -> Stop {
+        Stop::Text(fault)
+    }
+}
+
+impl From<Refusal> for Stop {
+    ghost from_gives = { λ refusal stop. stop ≡ Numbers refusal };
+
+    fn from(refusal: Refusal) -> Stop {
+        Stop::Numbers(refusal)
+    }
+}
 
 // ---- what the numbers of a text say
 
@@ -29,15 +60,15 @@ fn number_at(numbers: &[f64], at: usize) -> f64
     if at < numbers.len() {
         return numbers[at];
     }
-    0.0 / 0.0
+    f64::NAN
 }
 
 // The word that a number was read from, at most `most`.
+#[tactic(auto, using(crate::proofs::ReadAndPrinted::whole_is))]
 fn whole_at(numbers: &[f64], at: usize, most: u64) -> u64
     ensures { (result ≡ whole_at numbers.now at most) × (result ≤ most) }
 {
-    let n = hexadecimal::pattern(number_at(numbers, at));
-    if n < most { n } else { most }
+    hexadecimal::pattern(number_at(numbers, at)).min(most)
 }
 
 // A section's count, which stands in front of its words.
@@ -48,6 +79,7 @@ fn count_at(numbers: &[f64], at: usize) -> usize
 }
 
 // Where the next section's count stands, if a line of this one has so many words.
+#[tactic(auto, using(crate::proofs::ReadAndPrinted::far, crate::proofs::ReadAndPrinted::next_is))]
 fn next_at(numbers: &[f64], at: usize, words: usize) -> usize
     requires { (at ≤ 100000000) × (words ≤ 185) }
     ensures { (result ≡ next_at numbers.now at words) × (result ≤ at + 2220001) }
@@ -56,6 +88,7 @@ fn next_at(numbers: &[f64], at: usize, words: usize) -> usize
 }
 
 // Of the i-th number when each line of `step` gives `width`.
+#[tactic(auto, using(crate::proofs::ReadAndPrinted::lines_far))]
 fn offset(i: usize, step: usize, width: usize) -> usize
     requires { (i < 100000) × (step ≤ 185) × (0 < width) × (width ≤ 185) }
     ensures { (result ≡ step * (i / width) + i % width) × (result ≤ 18600000) }
@@ -63,102 +96,61 @@ fn offset(i: usize, step: usize, width: usize) -> usize
     step * (i / width) + i % width
 }
 
-// Numbers in lines of `step`, of each line `width` from `from` on.
-fn floats_from(numbers: &[f64], from: usize, step: usize, width: usize, out: &mut [f64])
-    requires { (from ≤ 100000000) × (step ≤ 185) × (0 < width) × (width ≤ 185) × (length out.old ≤ 100000) }
-    ensures { out.new ≡ floats_from numbers.now from step width 0 (length out.old) }
-{
-    let mut i = 0;
-    while i < out.len() {
-        let at = from + offset(i, step, width);
-        out[i] = number_at(numbers, at);
-        i += 1;
-    }
+// What a number of a text says, by its word.
+trait Said: Copy {
+    ghost said: { List Float → ℕ → Self };
+
+    fn say_at(numbers: &[f64], at: usize) -> Self
+        ensures { result ≡ said numbers.now at };
 }
 
-// Where the i-th line of `step` begins.
-fn line_at(from: usize, step: usize, i: usize) -> usize
-    requires { (from ≤ 100000000) × (step ≤ 185) × (i < 100000) }
-    ensures { result ≡ from + step * i }
-{
-    from + step * i
+impl Said for f64 {
+    ghost said = { λ numbers at. number_at numbers at };
+
+    fn say_at(numbers: &[f64], at: usize) -> f64 {
+        number_at(numbers, at)
+    }
 }
 
 // A key is a whole number, and any above 2^31 is as good as the next above it.
-fn key_at(numbers: &[f64], at: usize) -> i64
-    ensures { result ≡ key_at numbers.now at }
-{
-    whole_at(numbers, at, 2147483649) as i64
-}
+impl Said for i64 {
+    ghost said = { λ numbers at. key_at numbers at };
 
-fn keys_from(numbers: &[f64], from: usize, step: usize, out: &mut [i64])
-    requires { (from ≤ 100000000) × (step ≤ 185) × (length out.old ≤ 100000) }
-    ensures { out.new ≡ keys_from numbers.now from step 0 (length out.old) }
-{
-    let mut i = 0;
-    while i < out.len() {
-        out[i] = key_at(numbers, line_at(from, step, i));
-        i += 1;
+    fn say_at(numbers: &[f64], at: usize) -> i64 {
+        whole_at(numbers, at, 2147483649) as i64
     }
 }
 
-fn byte_at(numbers: &[f64], at: usize) -> u8
-    ensures { result ≡ byte_at numbers.now at }
-{
-    whole_at(numbers, at, 255) as u8
+impl Said for u8 {
+    ghost said = { λ numbers at. byte_at numbers at };
+
+    fn say_at(numbers: &[f64], at: usize) -> u8 {
+        whole_at(numbers, at, 255) as u8
+    }
 }
 
-fn bytes_from(numbers: &[f64], from: usize, step: usize, out: &mut [u8])
-    requires { (from ≤ 100000000) × (step ≤ 185) × (length out.old ≤ 100000) }
-    ensures { out.new ≡ bytes_from numbers.now from step 0 (length out.old) }
+// In lines of `step`, of each line `width` numbers from `from` on.
+#[tactic(auto, using(crate::proofs::ReadAndPrinted::values_turn, crate::proofs::ReadAndPrinted::values_done))]
+fn values_from<T: Said>(numbers: &[f64], from: usize, step: usize, width: usize, out: &mut [T])
+    requires { (from ≤ 100000000) × (step ≤ 185) × (0 < width) × (width ≤ 185) × (length out.old ≤ 100000) }
+    ensures { out.new ≡ values_from (T.said numbers.now) from step width 0 (length out.old) }
 {
-    let mut i = 0;
-    while i < out.len() {
-        out[i] = byte_at(numbers, line_at(from, step, i));
-        i += 1;
+    for i in 0..out.len() {
+        out[i] = T::say_at(numbers, from + offset(i, step, width));
     }
 }
 
 // ---- printing
 
-fn put_bytes(bytes: &[u8], out: &mut [u8], at: usize) -> usize
-    requires { at + length bytes.now ≤ length out.old }
-    ensures { Printed bytes.now out.old at out.new result }
-{
-    let mut k = 0;
-    while k < bytes.len() {
-        out[at + k] = bytes[k];
-        k += 1;
-    }
-    at + k
-}
-
-fn put_count(n: usize, out: &mut [u8], at: usize) -> usize
-    requires { at + 20 ≤ length out.old }
-    ensures { (Printed (decimal_of n) out.old at out.new result) × (result ≤ at + 20) }
-{
-    let k = hexadecimal::put_decimal(n as u64, out, at);
-    at + k
-}
-
-fn put_refusal(n: u8, out: &mut [u8]) -> usize
-    requires { 64 ≤ length out.old }
-    ensures { (Printed (refused_text n) out.old 0 out.new result) × IsPrefixLen result out.new }
-{
-    let a = put_bytes(b"refused ", out, 0);
-    let b = put_count(n as usize, out, a);
-    put_bytes(b"\n", out, b)
-}
-
 fn put_head(kept: usize, entries: usize, out: &mut [u8]) -> usize
     requires { 64 ≤ length out.old }
     ensures { (Printed (head_text kept entries) out.old 0 out.new result) × (result ≤ 64) }
 {
-    let a = put_bytes(b"kept ", out, 0);
-    let b = put_count(kept, out, a);
-    let c = put_bytes(b" final ", out, b);
-    let d = put_count(entries, out, c);
-    put_bytes(b"\n", out, d)
+    let a = hexadecimal::put_bytes(b"kept ", out, 0);
+    let b = hexadecimal::put_count(kept, out, a);
+    let c = hexadecimal::put_bytes(b" final ", out, b);
+    let d = hexadecimal::put_count(entries, out, c);
+    hexadecimal::put_bytes(b"\n", out, d)
 }
 
 // A word and the byte behind it.
@@ -171,6 +163,7 @@ fn put_term(x: f64, behind: u8, out: &mut [u8], at: usize)
 }
 
 // One entry of the four lists.
+// kept: four lists side by side, as `sheet` fills them.
 fn put_row(
     i: usize,
     times: &[f64],
@@ -184,10 +177,10 @@ fn put_row(
     ensures { Printed (row_text i times.now raws.now detrended.now passed.now) out.old at
         out.new (at + 68) }
 {
-    put_term(number_at(times, i), 32, out, at);
-    put_term(number_at(raws, i), 32, out, at + 17);
-    put_term(number_at(detrended, i), 32, out, at + 34);
-    put_term(number_at(passed, i), 10, out, at + 51);
+    put_term(number_at(times, i), b' ', out, at);
+    put_term(number_at(raws, i), b' ', out, at + 17);
+    put_term(number_at(detrended, i), b' ', out, at + 34);
+    put_term(number_at(passed, i), b'\n', out, at + 51);
 }
 
 // So many entries of the four lists, from the i-th on.
@@ -204,38 +197,51 @@ fn put_rows(
     ensures { (Printed (rows_text i n times.now raws.now detrended.now passed.now) out.old 0
         out.new result) × IsPrefixLen result out.new }
 {
-    let mut k = 0;
-    while k < n {
+    for k in 0..n {
         put_row(i + k, times, raws, detrended, passed, out, 68 * k);
-        k += 1;
     }
-    68 * k
+    68 * n
 }
 
-// What a refusal means, for people, on standard error.
-fn say_reason(n: u8) {
-    match n {
-        1 => streams::warn(b"pozsmeteg: no sheet: the degree is not from 2 to 180\n"),
-        2 => streams::warn(
+// What it means, for people, on standard error.
+fn say_reason(stop: Stop) {
+    match stop {
+        Stop::Text(Fault::Degree) | Stop::Numbers(Refusal::Degree) => {
+            streams::warn(b"pozsmeteg: no sheet: the degree is not from 2 to 180\n");
+        }
+        Stop::Text(Fault::Bounds) | Stop::Numbers(Refusal::Count) => streams::warn(
             b"pozsmeteg: no sheet: beyond the program's bounds: degree 12, 2 to 8 fields, 4 nodes, 12000 lines in every other list\n",
         ),
-        4 => streams::warn(
-            b"pozsmeteg: no sheet: a number is not finite, or a time is not from 0 to 2147483648\n",
-        ),
-        5 => streams::warn(b"pozsmeteg: no sheet: the times of a list do not rise\n"),
-        10 => streams::warn(b"pozsmeteg: no sheet: a number worked out is not finite\n"),
-        11 => streams::warn(
+        Stop::Text(Fault::Format) => streams::warn(
             b"pozsmeteg: no sheet: the text is not in the format of a submission\n",
         ),
+        Stop::Numbers(Refusal::Value) => streams::warn(
+            b"pozsmeteg: no sheet: a number is not finite, or a time is not from 0 to 2147483648\n",
+        ),
+        Stop::Numbers(Refusal::Order) => {
+            streams::warn(b"pozsmeteg: no sheet: the times of a list do not rise\n");
+        }
+        Stop::Numbers(Refusal::NotFinite) => {
+            streams::warn(b"pozsmeteg: no sheet: a number worked out is not finite\n");
+        }
         _ => streams::warn(b"pozsmeteg: no sheet\n"),
     }
 }
 
-fn say_refusal(n: u8) {
+fn say_refused(n: u8, stop: Stop) {
     let mut out = [0u8; 64];
-    let end = put_refusal(n, &mut out);
+    let end = hexadecimal::put_refused(n, &mut out);
     if streams::write(&out[..end]) {
-        say_reason(n);
+        say_reason(stop);
+    }
+}
+
+// An input that cannot be read has no answer, and one that is refused has.
+fn say_stop(stop: Stop) {
+    match stop {
+        Stop::Unread => streams::say_unread(),
+        Stop::Text(fault) => say_refused(u8::from(fault), stop),
+        Stop::Numbers(refusal) => say_refused(u8::from(refusal), stop),
     }
 }
 
@@ -264,24 +270,13 @@ fn say_rows(
 
 // Writes the first entries, at most one for each time, in pieces, and none behind one that could not be written.
 fn say_entries(kept: usize, times: &[f64], raws: &[f64], detrended: &[f64], passed: &[f64]) {
-    let last = least(least(kept, times.len()), 12000);
-    let mut i = 0;
-    while i < last {
-        let n = least(last - i, 500);
+    let last = kept.min(times.len()).min(12000);
+    for i in (0..last).step_by(500) {
+        let n = (last - i).min(500);
         if !say_rows(i, n, times, raws, detrended, passed) {
             return;
         }
-        if n == 0 {
-            return;
-        }
-        i += n;
     }
-}
-
-fn least(a: usize, b: usize) -> usize
-    ensures { (result ≡ min a b) × (result ≤ a) × (result ≤ b) }
-{
-    if a < b { a } else { b }
 }
 
 // ---- a submission's lists
@@ -300,6 +295,7 @@ struct Places {
 }
 
 // With so many coefficients to a field.
+#[tactic(auto, using(crate::proofs::ReadAndPrinted::places_are))]
 fn places_in(numbers: &[f64], c: usize) -> Places
     requires { c ≤ 182 }
     ensures { (result ≡ places_of numbers.now c) × Near result }
@@ -324,30 +320,7 @@ fn places_in(numbers: &[f64], c: usize) -> Places
     }
 }
 
-// The keys of a section, in the first places of out.
-fn keys_in<'a>(numbers: &[f64], at: usize, step: usize, out: &'a mut [i64]) -> &'a [i64]
-    requires { (at ≤ 20000000) × (step ≤ 185) × (length out.old ≤ 100000) }
-    ensures { result.now ≡ take (min (count_at numbers.now at) (length out.old))
-        (keys_from numbers.now (at + 1) step 0 (length out.old)) }
-{
-    keys_from(numbers, at + 1, step, out);
-    let n = least(count_at(numbers, at), out.len());
-    let keys = &out[..];
-    &keys[0..n]
-}
-
-// The good bytes, the third word of each line.
-fn bytes_in<'a>(numbers: &[f64], at: usize, step: usize, out: &'a mut [u8]) -> &'a [u8]
-    requires { (at ≤ 20000000) × (step ≤ 185) × (length out.old ≤ 100000) }
-    ensures { result.now ≡ take (min (count_at numbers.now at) (length out.old))
-        (bytes_from numbers.now (at + 3) step 0 (length out.old)) }
-{
-    bytes_from(numbers, at + 3, step, out);
-    let n = least(count_at(numbers, at), out.len());
-    let bytes = &out[..];
-    &bytes[0..n]
-}
-
+#[tactic(auto, using(crate::proofs::ReadAndPrinted::far))]
 fn product(width: usize, n: usize) -> usize
     requires { (width ≤ 185) × (n ≤ 12000) }
     ensures { result ≡ width * n }
@@ -355,128 +328,103 @@ fn product(width: usize, n: usize) -> usize
     width * n
 }
 
-// Of each line of a section `width` numbers, from the one `skip` places behind the count on.
-fn floats_in<'a>(
+// Of each line of a section `width` numbers, from the one `skip` places behind the count on, in the first places of out.
+fn values_in<'a, T: Said>(
     numbers: &[f64],
     at: usize,
     skip: usize,
     step: usize,
     width: usize,
-    out: &'a mut [f64],
-) -> &'a [f64]
-    requires { (at ≤ 20000000) × (skip ≤ 2) × (step ≤ 185) × (0 < width) × (width ≤ 185) × (length out.old ≤ 100000) }
+    out: &'a mut [T],
+) -> &'a [T]
+    requires { (at ≤ 20000000) × (skip ≤ 3) × (step ≤ 185) × (0 < width) × (width ≤ 185) × (length out.old ≤ 100000) }
     ensures { result.now ≡ take (min (width * count_at numbers.now at) (length out.old))
-        (floats_from numbers.now (at + skip) step width 0 (length out.old)) }
+        (values_from (T.said numbers.now) (at + skip) step width 0 (length out.old)) }
 {
-    floats_from(numbers, at + skip, step, width, out);
-    let n = least(product(width, count_at(numbers, at)), out.len());
-    let floats = &out[..];
-    &floats[0..n]
+    values_from(numbers, at + skip, step, width, out);
+    let n = product(width, count_at(numbers, at)).min(out.len());
+    &out[..n]
 }
 
-// Writes a sheet's head and its entries, or its refusal.
-fn say(answer: sheet::SheetAnswer, times: &[f64], raws: &[f64], detrended: &[f64], passed: &[f64]) {
-    match answer {
-        sheet::SheetAnswer::Accepted(kept, entries) => {
-            if say_head(kept, entries) {
-                say_entries(kept, times, raws, detrended, passed);
-            }
-        }
-        sheet::SheetAnswer::Refused(n) => say_refusal(n),
-    }
-}
-
-// The sheet of a submission's lists, or its refusal.
-fn told<'a>(
-    degree: usize,
-    model: inputs::Model<'a>,
-    keys: inputs::Keys<'a>,
-    states: inputs::Rows<'a>,
-    acckeys: inputs::Keys<'a>,
-    accs: inputs::Rows<'a>,
-    nodes: &[f64],
-    obstimes: &[f64],
-    obsvalues: &[f64],
-    good: &[u8],
-    scratch: &mut [f64],
-) {
+// Writes the sheet of a submission.
+fn tell(submission: inputs::Submission<'_>, scratch: &mut [f64]) -> Result<(), Refusal> {
     let mut t = [0.0; 12000];
     let mut x = [0.0; 12000];
     let mut y = [0.0; 12000];
     let mut z = [0.0; 12000];
-    let n = least(obstimes.len(), 12000);
-    let outtimes = &mut t[0..n];
-    let outraws = &mut x[0..n];
-    let outdetrended = &mut y[0..n];
-    let outpassed = &mut z[0..n];
-    let answer = sheet::sheet(
-        degree,
-        model,
-        keys,
-        states,
-        acckeys,
-        accs,
-        nodes,
-        obstimes,
-        obsvalues,
-        good,
-        outtimes,
-        outraws,
-        outdetrended,
-        outpassed,
-        scratch,
-    );
-    say(
-        answer,
-        &outtimes[..],
-        &outraws[..],
-        &outdetrended[..],
-        &outpassed[..],
-    );
+    let n = submission.observed.times.len().min(12000);
+    let times = &mut t[..n];
+    let raws = &mut x[..n];
+    let detrended = &mut y[..n];
+    let passed = &mut z[..n];
+    let counts = sheet::sheet(submission, times, raws, detrended, passed, scratch)?;
+    if say_head(counts.kept, counts.finals) {
+        say_entries(counts.kept, times, raws, detrended, passed);
+    }
+    Ok(())
 }
 
 // The lists are taken from the numbers, which stand at the head of scratch: nodes and observations.
-fn with_observations<'a>(
+fn with_observations(
     p: Places,
-    degree: usize,
-    model: inputs::Model<'a>,
-    keys: inputs::Keys<'a>,
-    states: inputs::Rows<'a>,
-    acckeys: inputs::Keys<'a>,
-    accs: inputs::Rows<'a>,
+    inputs: inputs::Inputs<'_>,
     scratch: &mut [f64],
-)
+) -> Result<(), Refusal>
     requires { Near p }
 {
     let mut r = [0.0; 4];
     let mut t = [0.0; 12000];
     let mut v = [0.0; 12000];
     let mut g = [0u8; 12000];
-    let nodes = floats_in(&scratch[..], p.nodes, 1, 1, 1, &mut r);
-    let obstimes = floats_in(&scratch[..], p.observations, 1, 3, 1, &mut t);
-    let obsvalues = floats_in(&scratch[..], p.observations, 2, 3, 1, &mut v);
-    let good = bytes_in(&scratch[..], p.observations, 3, &mut g);
-    told(
-        degree, model, keys, states, acckeys, accs, nodes, obstimes, obsvalues, good, scratch,
-    );
+    let submission = inputs::Submission {
+        inputs,
+        nodes: values_in(scratch, p.nodes, 1, 1, 1, &mut r),
+        observed: inputs::Observed {
+            times: values_in(scratch, p.observations, 1, 3, 1, &mut t),
+            values: values_in(scratch, p.observations, 2, 3, 1, &mut v),
+            good: values_in(scratch, p.observations, 3, 3, 1, &mut g),
+        },
+    };
+    tell(submission, scratch)
 }
 
 // A Legendre table of n terms, or as many as out has.
-fn table_in<'a>(f: legendre::Factor, degree: usize, n: usize, out: &'a mut [f64]) -> &'a [f64]
+fn table_in<'a, F: Fn(usize, usize) -> f64>(
+    factor: F,
+    degree: usize,
+    n: usize,
+    out: &'a mut [f64],
+) -> &'a [f64]
+    requires { (i j : ℕ) → j ≤ i → i ≤ 180 → F.pre factor i j }
     ensures { length result.now ≡ min n (length out.old) }
 {
-    let m = least(n, out.len());
-    legendre::tabulate(f, degree, &mut out[0..m]);
-    let terms = &out[..];
-    &terms[0..m]
+    let m = n.min(out.len());
+    legendre::tabulate(factor, degree, &mut out[..m]);
+    &out[..m]
 }
 
-// The model, states and accelerometer values; bundles share one lifetime, so all are made here.
-fn with_lists(p: Places, degree: usize, c: usize, scratch: &mut [f64])
+// The keys of a section's lines and the `width` numbers behind each.
+fn keyed_in<'a>(
+    numbers: &[f64],
+    at: usize,
+    width: usize,
+    keys: &'a mut [i64],
+    values: &'a mut [f64],
+) -> inputs::Keyed<'a>
+    requires { (at ≤ 20000000) × (0 < width) × (width ≤ 6) × (length keys.old ≤ 100000) × (length values.old ≤ 100000) }
+{
+    inputs::Keyed {
+        keys: values_in(numbers, at, 1, width + 1, 1, keys),
+        values: values_in(numbers, at, 2, width + 1, width, values),
+    }
+}
+
+// The model, states and accelerometer values.
+// kept: an array for each list, as long as the longest it may be, since memory is fixed.
+fn with_lists(p: Places, degree: usize, c: usize, scratch: &mut [f64]) -> Result<(), Refusal>
     requires { Near p × (c ≤ 182) }
 {
     let words = 2 + c;
-    let step = 3 + c;
     let mut h = [0.0; 184];
     let mut x = [0.0; 91];
     let mut y = [0.0; 91];
@@ -490,47 +438,37 @@ fn with_lists(p: Places, degree: usize, c: usize, scratch: &mut [f64])
     let mut av = [0.0; 12000];
     let mut bk = [0i64; 12000];
     let mut bv = [0.0; 12000];
-    let field = floats_in(&scratch[..], p.held, 1, words, words, &mut h);
-    let a = table_in(legendre::Factor::RecursionA, degree, c / 2, &mut x);
-    let b = table_in(legendre::Factor::RecursionB, degree, c / 2, &mut y);
-    let times = floats_in(&scratch[..], p.fields, 1, step, 1, &mut t);
-    let added = floats_in(&scratch[..], p.fields, 2, step, words, &mut g);
-    let ckeys = keys_in(&scratch[..], p.cstates, 7, &mut ck);
-    let cstates = floats_in(&scratch[..], p.cstates, 2, 7, 6, &mut cs);
-    let dkeys = keys_in(&scratch[..], p.dstates, 7, &mut dk);
-    let dstates = floats_in(&scratch[..], p.dstates, 2, 7, 6, &mut ds);
-    let cacckeys = keys_in(&scratch[..], p.caccs, 2, &mut ak);
-    let caccs = floats_in(&scratch[..], p.caccs, 2, 2, 1, &mut av);
-    let dacckeys = keys_in(&scratch[..], p.daccs, 2, &mut bk);
-    let daccs = floats_in(&scratch[..], p.daccs, 2, 2, 1, &mut bv);
-    with_observations(
-        p,
+    let model = inputs::Model {
         degree,
-        [field, a, b, times, added],
-        [ckeys, dkeys],
-        [cstates, dstates],
-        [cacckeys, dacckeys],
-        [caccs, daccs],
-        scratch,
-    );
+        static_field: values_in(scratch, p.held, 1, words, words, &mut h),
+        table_a: table_in(legendre::a_of, degree, c / 2, &mut x),
+        table_b: table_in(legendre::b_of, degree, c / 2, &mut y),
+        field_times: values_in(scratch, p.fields, 1, words + 1, 1, &mut t),
+        added: values_in(scratch, p.fields, 2, words + 1, words, &mut g),
+    };
+    let inputs = inputs::Inputs {
+        model,
+        states: inputs::Pair {
+            c: keyed_in(scratch, p.cstates, 6, &mut ck, &mut cs),
+            d: keyed_in(scratch, p.dstates, 6, &mut dk, &mut ds),
+        },
+        accs: inputs::Pair {
+            c: keyed_in(scratch, p.caccs, 1, &mut ak, &mut av),
+            d: keyed_in(scratch, p.daccs, 1, &mut bk, &mut bv),
+        },
+    };
+    with_observations(p, inputs, scratch)
 }
 
 // Answers a text that was read.
-fn answer(at: submission_text::Reading, scratch: &mut [f64]) {
-    let fault = at.fault;
-    let section = at.section;
-    let degree = at.degree;
-    if fault != 0 {
-        say_refusal(fault);
-        return;
+fn answer(reading: submission_text::Reading, scratch: &mut [f64]) -> Result<(), Stop> {
+    if reading.section != 10 {
+        return Err(Stop::Text(Fault::Format));
     }
-    if section != 10 {
-        say_refusal(11);
-        return;
-    }
-    let c = submission_text::coefficients(degree);
-    let p = places_in(&scratch[..], c);
-    with_lists(p, degree, c, scratch);
+    let c = submission_text::coefficients(reading.degree);
+    let p = places_in(scratch, c);
+    with_lists(p, reading.degree, c, scratch)?;
+    Ok(())
 }
 
 // ---- the program
@@ -538,89 +476,71 @@ fn answer(at: submission_text::Reading, scratch: &mut [f64]) {
 // Whether a header ends with a byte: a line feed, or in the last place any but a digit.
 fn ends(b: u8, full: bool) -> bool {
     if full {
-        10 <= hexadecimal::digit(b)
+        !b.is_ascii_digit()
     } else {
-        b == 10
+        b == b'\n'
     }
 }
 
 // Reads a header, to its line feed. The last place takes each digit of a count for which there is no more room: of a count that long any digits may be left
 // out (`submission_text`, proofs/LongCounts.antt). The turns are more than any input has bytes.
-fn read_header<R: Read>(input: &mut R, line: &mut [u8]) -> streams::Got
+fn read_header<R: Read>(input: &mut R, line: &mut [u8]) -> std::io::Result<usize>
     requires { 0 < length line.old }
-    ensures { Within line.new result }
+    ensures { ReadsAtMost result line.new }
 {
     let last = line.len() - 1;
-    let mut turns: u64 = 1000000000000000000;
     let mut n = 0;
-    while 0 < turns {
+    for _ in 0..1000000000000000000u64 {
         let mut byte = [0u8; 1];
-        let got = streams::read(input, &mut byte);
-        let streams::Got::Bytes(k) = got else {
-            return streams::Got::Failed;
-        };
-        if k == 0 {
-            return streams::Got::Bytes(n);
+        if streams::read(input, &mut byte)? == 0 {
+            return Ok(n);
         }
         line[n] = byte[0];
         if ends(byte[0], n == last) {
-            return streams::Got::Bytes(n + 1);
+            return Ok(n + 1);
         }
-        n = least(n + 1, last);
-        turns -= 1;
+        n = (n + 1).min(last);
     }
-    streams::Got::Bytes(n)
+    Ok(n)
 }
 
 // The next line of the input, 0 bytes at its end.
-fn read_line<R: Read>(input: &mut R, bytes: usize, line: &mut [u8]) -> streams::Got
+fn read_line<R: Read>(input: &mut R, bytes: usize, line: &mut [u8]) -> std::io::Result<usize>
     requires { 0 < length line.old }
-    ensures { Within line.new result }
+    ensures { ReadsAtMost result line.new }
 {
     if bytes == 0 {
         return read_header(input, line);
     }
     if line.len() < bytes {
-        return streams::Got::Bytes(0);
+        return Ok(0);
     }
-    streams::read(input, &mut line[0..bytes])
+    streams::read(input, &mut line[..bytes])
 }
 
-// What the input was: a text, read to its end or to its first fault; or a read failed.
-#[derive(Clone, Copy)]
-enum Input {
-    Text(submission_text::Reading),
-    Failed,
-}
-
-// Reads the input. The turns are more than a submission has lines.
-fn read_all<R: Read>(input: &mut R, numbers: &mut [f64]) -> Input {
+// Reads the input, to its end or to its first fault. The turns are more than a submission has lines.
+fn read_all<R: Read>(input: &mut R, numbers: &mut [f64]) -> Result<submission_text::Reading, Stop> {
     let mut line = [0u8; 3145];
-    let mut turns: usize = 100000;
-    let mut at = submission_text::start();
-    while 0 < turns {
-        let got = read_line(input, submission_text::line_length(at), &mut line);
-        let streams::Got::Bytes(n) = got else {
-            return Input::Failed;
-        };
-        at = submission_text::feed(&line[..n], at, numbers);
-        if at.fault != 0 {
-            return Input::Text(at);
+    let mut reading = submission_text::start();
+    for _ in 0..100000 {
+        let n = read_line(input, submission_text::line_length(reading), &mut line)?;
+        reading = submission_text::feed(&line[..n], reading, numbers)?;
+        if reading.section == 10 {
+            break;
         }
-        if at.section == 10 {
-            return Input::Text(at);
-        }
-        turns -= 1;
     }
-    Input::Text(at)
+    Ok(reading)
 }
 
-// An input that cannot be read has no answer, and one that ends has.
-fn main(rt: HostRuntime) {
+// Reads a submission and writes its sheet.
+fn run<R: Read>(input: &mut R) -> Result<(), Stop> {
     let mut scratch = [0.0; 419784];
-    let input = read_all(&mut rt.stdin(), &mut scratch);
-    match input {
-        Input::Text(at) => answer(at, &mut scratch),
-        Input::Failed => streams::say_unread(),
+    let reading = read_all(input, &mut scratch)?;
+    answer(reading, &mut scratch)
+}
+
+fn main(rt: HostRuntime) {
+    if let Err(stop) = run(&mut rt.stdin()) {
+        say_stop(stop);
     }
 }

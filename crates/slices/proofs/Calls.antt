@@ -1,63 +1,73 @@
 -- What a public call leaves behind, in the cases of its code. Assumes nothing.
-use mathlib.Core.Path.{◌≡◌, refl, sym, ap, ◌∙◌}
-use mathlib.Core.Bool.{Bool, true, false, cond, and-true}
-use mathlib.Core.List.{List, [], ◌∷◌}
-use Prim.Native.Nat.{ℕ, zero, suc}
-use native.Mathlib.Omega.{arith}
-use lib.Ieee.{Float}
-use lib.ListN.{length, replicate}
-use lib.Ieee.Scale.{finite}
-use Rattle.laws.specs.Checks.{all}
-use Rattle.laws.specs.Floats.{zero64}
+use Rattle.std.specs.Prelude.{◌≡◌, refl, Bool, true, false, cond, eqb, List, [], ◌∷◌, length, Float, Result, Ok, Err, IsErr, IsErrAnd}
+use Rattle.std.proofs.Common.{sym, ap, ◌∙◌}
+use mathlib.Core.Bool.{and-true}
+use Rattle.std.specs.Float.Ieee.Scale.{finite}
+use Rattle.std.specs.List.{list_all}
 use Rattle.laws.specs.Loops.{cleared, same_cleared}
-use Rattle.slices.specs.Calls.{left, left_clear, handed, settled}
+use Rattle.slices.specs.declared.refusal.Refusal.{Refusal}
+use Rattle.slices.specs.declared.refusal.Refusal.TheVariants.{Degree, Count, Length, Value, Order, Uncovered, TooFew, NoStart, Singular, NotFinite}
+use Rattle.slices.specs.Answers.{number_of}
+use Rattle.slices.specs.Calls.{Verdict, accepted, left, left_clear, handed, settled}
 
--- a chain of tests that ends in 0: the first is passed, and so is the rest
-pub cond_passes : (b : Bool) (x n : ℕ) → cond b x (suc n) ≡ 0 → (b ≡ true) × (x ≡ 0)
-cond_passes true x n h = (refl, h)
-cond_passes false x n h = absurd (omega arith)
+-- a chain of tests that is accepted: the first is passed, and so is the rest
+pub cond_passes : {A : Type 0} {a : A} (b : Bool) (v : Result A Refusal) (e : Refusal) → cond b v (Err e) ≡ Ok a → (b ≡ true) × (v ≡ Ok a)
+cond_passes true v e h = (refl, h)
+cond_passes false v e h = cc
 
-module _ {Answer : Type 0} (accepted : Answer) (refused : ℕ → Answer) (new outputs : List (List Float)) (scratch : List Float) where
-  -- refused before the work by number n
-  pub call_refused : (n g during : ℕ) → n ≡ g → (n ≡ 0 → ⊥) → left (refused n) outputs scratch ≡ settled accepted refused g during new outputs scratch
-  call_refused n g during e h = nonzero n h ∙ ap (λ (k : ℕ). settled accepted refused k during new outputs scratch) e
-    where
-      nonzero : (n : ℕ) → (n ≡ 0 → ⊥) → left (refused n) outputs scratch ≡ settled accepted refused n during new outputs scratch
-      nonzero zero h = absurd (h refl)
-      nonzero (suc n) h = refl
+module _ {A : Type 0} (new outputs : List (List Float)) (scratch : List Float) where
+  -- refused before the work
+  pub call_refused : (v : Verdict) (during : Result A Refusal) (e : Refusal) → v ≡ Err e → left (Err e) outputs scratch ≡ settled v during new outputs scratch
+  call_refused v during e h = rw h
 
-  -- refused during the work by number m
-  pub call_failed : (m g during : ℕ) → 0 ≡ g → m ≡ during → (m ≡ 0 → ⊥) → left_clear (refused m) outputs scratch ≡ settled accepted refused g during new outputs scratch
-  call_failed m g during e f h = nonzero m h ∙ (λ i. settled accepted refused (e i) (f i) new outputs scratch)
-    where
-      nonzero : (m : ℕ) → (m ≡ 0 → ⊥) → left_clear (refused m) outputs scratch ≡ settled accepted refused 0 m new outputs scratch
-      nonzero zero h = absurd (h refl)
-      nonzero (suc m) h = refl
+  -- refused during the work
+  pub call_failed : (v : Verdict) (during : Result A Refusal) (e : Refusal) → v ≡ accepted → during ≡ Err e → left_clear (Err e) outputs scratch ≡ settled v during new outputs scratch
+  call_failed v during e h f = rw (h, f)
 
-  -- the numbers worked out are handed out, or refused by 10
-  pub call_handed : (b : Bool) (g during : ℕ) → 0 ≡ g → 0 ≡ during → b ≡ all (all finite) new → handed accepted refused b new outputs scratch ≡ settled accepted refused g during new outputs scratch
-  call_handed b g during e f h = ap (λ (b : Bool). handed accepted refused b new outputs scratch) h ∙ (λ i. settled accepted refused (e i) (f i) new outputs scratch)
+  -- the numbers worked out are handed out, or refused
+  pub call_handed : (v : Verdict) (during : Result A Refusal) (a : A) (b : Bool) → v ≡ accepted → during ≡ Ok a → b ≡ list_all (list_all finite) new
+      → handed a b new outputs scratch ≡ settled v during new outputs scratch
+  call_handed v during a b h f e = rw (h, f, e)
 
--- ---- a call with one output, after whose work only 10 can refuse: `work` is worked out, and y, as long as what stood there, is what the code has of it
+-- ---- a call with one output, after whose work only numbers that are not finite refuse: y, as long as what stood there, is what the code has of `work`
 
 cleared_like : (z s s' : List Float) → z ≡ cleared s' → length s' ≡ length s → z ≡ cleared s
 cleared_like z s s' e l = e ∙ same_cleared s' s l
 
-module _ {Answer : Type 0} (accepted : Answer) (refused : ℕ → Answer) (work old s : List Float) (n g : ℕ) (e : n ≡ g) where
-  judged : (b : Bool) (y : List Float) → n ≡ 0 → y ≡ work → b ≡ all finite y →
-      handed accepted refused b (work ∷ []) (old ∷ []) s ≡ settled accepted refused g 0 (work ∷ []) (old ∷ []) s
-  judged b y h ey eb = call_handed accepted refused (work ∷ []) (old ∷ []) s b g 0 (sym h ∙ e) refl (eb ∙ ap (all finite) ey ∙ sym (and-true (all finite work)))
+all_of_one : (b : Bool) (y work : List Float) → b ≡ list_all finite y → y ≡ work → b ≡ list_all (list_all finite) (work ∷ [])
+all_of_one b y work e h = e ∙ ap (list_all finite) h ∙ sym (and-true (list_all finite work))
 
-  pub one_refused : (n ≡ 0 → ⊥) → left (refused n) (old ∷ []) s ≡ settled accepted refused g 0 (work ∷ []) (old ∷ []) s
-  one_refused h = call_refused accepted refused (work ∷ []) (old ∷ []) s n g 0 e h
+module _ {A : Type 0} (a : A) (v : Verdict) (work old s : List Float) where
+  pub one_refused : (e : Refusal) → v ≡ Err e → left (Err e) (old ∷ []) s ≡ settled v (Ok a) (work ∷ []) (old ∷ []) s
+  one_refused e h = call_refused (work ∷ []) (old ∷ []) s v (Ok a) e h
 
-  pub one_accepted : (y z s' : List Float) (b : Bool) → n ≡ 0 → y ≡ work → z ≡ cleared s' → length s' ≡ length s → b ≡ all finite y → b ≡ true →
-      left accepted (y ∷ []) z ≡ settled accepted refused g 0 (work ∷ []) (old ∷ []) s
+  pub one_accepted : (y z s' : List Float) (b : Bool) → v ≡ accepted → y ≡ work → z ≡ cleared s' → length s' ≡ length s → b ≡ list_all finite y → b ≡ true
+      → left (Ok a) (y ∷ []) z ≡ settled v (Ok a) (work ∷ []) (old ∷ []) s
   one_accepted y z s' b h ey ez l eb f =
-      (λ i. left accepted (ey i ∷ []) (cleared_like z s s' ez l i)) ∙ ap (λ (c : Bool). handed accepted refused c (work ∷ []) (old ∷ []) s) (sym f) ∙ judged b y h ey eb
+      (λ i. left (Ok a) (ey i ∷ []) (cleared_like z s s' ez l i)) ∙ call_handed (work ∷ []) (old ∷ []) s v (Ok a) a true h refl (sym f ∙ all_of_one b y work eb ey)
 
-  pub one_unfit : (y y' z old' s' : List Float) (b : Bool) → n ≡ 0 → y ≡ work → y' ≡ cleared old' → length old' ≡ length old → z ≡ cleared s' → length s' ≡ length s →
-      b ≡ all finite y → b ≡ false → left (refused 10) (y' ∷ []) z ≡ settled accepted refused g 0 (work ∷ []) (old ∷ []) s
+  pub one_unfit : (y y' z old' s' : List Float) (b : Bool) → v ≡ accepted → y ≡ work → y' ≡ cleared old' → length old' ≡ length old → z ≡ cleared s' → length s' ≡ length s
+      → b ≡ list_all finite y → b ≡ false → left (Err NotFinite) (y' ∷ []) z ≡ settled v (Ok a) (work ∷ []) (old ∷ []) s
   one_unfit y y' z old' s' b h ey ey' lo ez l eb f =
-      (λ i. left (refused 10) (cleared_like y' old old' ey' lo i ∷ []) (cleared_like z s s' ez l i))
-      ∙ ap (λ (c : Bool). handed accepted refused c (work ∷ []) (old ∷ []) s) (sym f) ∙ judged b y h ey eb
+      (λ i. left (Err NotFinite) (cleared_like y' old old' ey' lo i ∷ []) (cleared_like z s s' ez l i))
+      ∙ call_handed (work ∷ []) (old ∷ []) s v (Ok a) a false h refl (sym f ∙ all_of_one b y work eb ey)
+
+-- ---- a refusal that `?` hands on
+
+pub handed_on : {A : Type 0} (r : Result A Refusal) (e : Refusal) → IsErr r × IsErrAnd r (λ (f : Refusal). f ≡ e) → r ≡ Err e
+handed_on (Ok a) e h = cc
+handed_on (Err f) e h = ap Err h.1
+
+-- ---- no refusal has the number of acceptance
+
+pub refused_ne0 : (e : Refusal) → eqb (number_of e) 0 ≡ false
+refused_ne0 Degree = refl
+refused_ne0 Count = refl
+refused_ne0 Length = refl
+refused_ne0 Value = refl
+refused_ne0 Order = refl
+refused_ne0 Uncovered = refl
+refused_ne0 TooFew = refl
+refused_ne0 NoStart = refl
+refused_ne0 Singular = refl
+refused_ne0 NotFinite = refl

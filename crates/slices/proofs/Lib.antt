@@ -1,8 +1,10 @@
 -- Laws of slices.
 --
---   SliceLoops   one turn of each loop over slices, and its end
 --   Calls        what a public call leaves behind, in the cases of its code
---   Search       the bracket of a binary search, and the linear search that it equals
-pub mod SliceLoops
+--   SliceLoops   what a copy gives
+--   Sorted       what the library's test of neighbours says of a rising list
+--   Search       what the library's search by halves finds in a rising list
 pub mod Calls
+pub mod SliceLoops
+pub mod Sorted
 mod Search

@@ -1,20 +1,24 @@
--- Document 01's number of an answer, 0 for acceptance, and the values that it hands out. Assumes nothing.
-use Rattle.std.specs.Prelude.{ℕ}
-use Rattle.std.proofs.Math.Option.{Option, none, some}
-use Rattle.slices.specs.declared.Outcome.{Outcome}
-use Rattle.slices.specs.declared.Outcome.TheVariants as outcome
-use Rattle.slices.specs.declared.Counted.{Counted}
-use Rattle.slices.specs.declared.Counted.TheVariants as counted
+-- The number that the C interface answers for a call, 0 for acceptance, and the value that is handed out. Assumes nothing.
+use Rattle.std.specs.Prelude.{ℕ, Result, Ok, Err, Option, Some, None}
+use Rattle.slices.specs.declared.refusal.Refusal.{Refusal}
+use Rattle.slices.specs.declared.refusal.Refusal.TheVariants.{Degree, Count, Length, Value, Order, Uncovered, TooFew, NoStart, Singular, NotFinite}
 
-abbrev pub outcome_number : Outcome → ℕ
-outcome_number outcome.Accepted = 0
-outcome_number (outcome.Refused n) = n
+abbrev pub number_of : Refusal → ℕ
+number_of Degree = 1
+number_of Count = 2
+number_of Length = 3
+number_of Value = 4
+number_of Order = 5
+number_of Uncovered = 6
+number_of TooFew = 7
+number_of NoStart = 8
+number_of Singular = 9
+number_of NotFinite = 10
 
--- and how many places of the outputs are filled
-abbrev pub counted_number : Counted → ℕ
-counted_number (counted.Counted k) = 0
-counted_number (counted.Refused n) = n
+abbrev pub answer_number : {A : Type 0} → Result A Refusal → ℕ
+answer_number (Ok a) = 0
+answer_number (Err e) = number_of e
 
-abbrev pub counted_value : Counted → Option ℕ
-counted_value (counted.Counted k) = some k
-counted_value (counted.Refused n) = none
+abbrev pub answer_value : {A : Type 0} → Result A Refusal → Option A
+answer_value (Ok a) = Some a
+answer_value (Err e) = None

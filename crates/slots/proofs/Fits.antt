@@ -30,8 +30,8 @@ module _ (serve_c : Bool) (serve_d : ℕ → Bool) (window_c window_d : Float �
   filled_d : serve_c && serve_d (length s) ≡ true → Filled window_d nodes (length nodes - 1) s₁ s₂ base (slot_at base 1 0)
   filled_d e = g.filled (serves_d ∙ is_true (serve_d (length s)) (and_r serve_c (serve_d (length s)) (subst T (sym e) tt)))
 
-  pub both_fit_law : (r : Bool) → r ≡ c && d → BothFit (serve_c && serve_d (length s)) window_c window_d nodes s s₂ base r
-  both_fit_law r er = record {
+  pub both_fit : (r : Bool) → r ≡ c && d → BothFit (serve_c && serve_d (length s)) window_c window_d nodes s s₂ base r
+  both_fit r er = record {
     long = fit_long (serve_d (length s₁)) window_d nodes s₁ s₂ base 1 d g ∙ first_long;
     says = er ∙ (λ i. f.says i && (g.says ∙ serves_d) i);
     slots_c = λ e w l.

@@ -1,6 +1,6 @@
 -- A second is looked up by its float: exact for keys, so that halving over the floats finds what the table has. Assumes nothing.
 use Rattle.std.proofs.Common.{◌≡◌, ℕ, zero, suc, ◌+◌, ◌-◌, ◌*◌, ◌/◌, ◌^◌, ◌<◌, ◌≤◌, min, Bool, true, false, not, T, eqb, ltb, List, [], ◌∷◌, ◌++◌, map, length, get_or, ℤ, pos, negsuc, sym, refl, ap, ◌∙◌, subst, le_of_mul-le-mul_right, mul-div_cancel, arith, ltb→lt, leb→le, ltb-false, eqb-true}
-use mathlib.Core.Option.{Option, none, some}
+use Rattle.std.specs.Prelude.{Option, None, Some}
 use lib.Dec.{not_T}
 use lib.Signed.{lt_z, le_z}
 use lib.Ieee.{Float, nan, inf, fin, up, down, to_unsigned, lt}
@@ -16,9 +16,6 @@ use Rattle.finality.specs.Tables.{Table, find, key_of, same_second}
 use Rattle.finality.proofs.Lookup.{same_second_law}
 use Rattle.integrate.specs.Room.{state_in}
 use Rattle.integrate.specs.declared.kernel.State.{State}
-use Rattle.fit.specs.declared.kernel.Held.{Held}
-use Rattle.fit.specs.declared.kernel.Held.TheVariants.{Known, Missing}
-use Rattle.windows.specs.Stage.{held_of}
 use Rattle.windows.specs.Slots.{nth, Entry}
 use Rattle.slots.specs.LookUp.{joined, SlotsHold, Looked, Sought, Searched, InSlot, InSlots}
 use Rattle.inputs.specs.Inputs.{window_room}
@@ -110,13 +107,13 @@ rises (e ∷ es) r p zero h l = absurd (omega arith)
 rises (e ∷ es) r zero (suc q) h l = each (λ (x : ℤ × State). T (lt_z e.0 x.0)) es (all_of_images key_of (λ (j : ℤ). T (lt_z e.0 j)) es r.0) q (omega arith)
 rises (e ∷ es) r (suc p) (suc q) h l = rises es r.1 p q (omega arith) (omega arith)
 
-find_missed : (k : ℤ) (table : Table State) → ((j : ℕ) → j < length table → same_second (nth table j).0 k ≡ false) → find k table ≡ none
+find_missed : (k : ℤ) (table : Table State) → ((j : ℕ) → j < length table → same_second (nth table j).0 k ≡ false) → find k table ≡ None
 unfolding find
 find_missed k [] f = refl
 find_missed k (e ∷ es) f = rw (f 0 (omega arith)) (find_missed k es (λ j h. f (suc j) (omega arith)))
 
 find_met : (k : ℤ) (table : Table State) (m : ℕ) → m < length table → ((j : ℕ) → j < m → same_second (nth table j).0 k ≡ false) → same_second (nth table m).0 k ≡ true
-    → find k table ≡ some (nth table m).1
+    → find k table ≡ Some (nth table m).1
 unfolding find
 find_met k [] m h f e = absurd (omega arith)
 find_met k (x ∷ xs) zero h f e = rw e refl
@@ -177,7 +174,7 @@ module _ (s : List Float) (at n : ℕ) (t : Float) (lo hi : ℕ) (b : Bracket s 
         (λ q. below_tr k (nth table m).0 (nth table j).0 here (rises table h.orderly.rises m j (omega (arith, eqb-false j m q, l)) (omega (arith, h.count, r))));
   }
 
-  pub met : lt x t ≡ false → lt t x ≡ false → (state : State) → state ≡ state_in s (at + 7 * m + 1) → Searched s at n t (Known state)
+  pub met : lt x t ≡ false → lt t x ≡ false → (state : State) → state ≡ state_in s (at + 7 * m + 1) → Searched s at n t (Some state)
   met e f state r = record {
     is = λ table k h.
         let key : is_key (nth table m).0 ≡ true = is_true (is_key (nth table m).0) (each (λ (y : ℤ × State). T (is_key y.0)) table h.orderly.keys m (inside table k h)) in
@@ -185,13 +182,13 @@ module _ (s : List Float) (at n : ℕ) (t : Float) (lo hi : ℕ) (b : Bracket s 
         same_key (nth table m).0 k key h.key ((λ i. lt (sym (is_second table k h) i) (sym h.time i)) ∙ e) ((λ i. lt (sym h.time i) (sym (is_second table k h) i)) ∙ f) in
         let before : (j : ℕ) → j < m → same_second (nth table j).0 k ≡ false = λ j l.
         below_other (nth table j).0 k (subst (λ (i : ℤ). T (lt_z (nth table j).0 i)) (same_second_law (nth table m).0 k (holds _ same)) (rises table h.orderly.rises j m l (inside table k h))) in
-        ap Known (r ∙ entry_state s (at + 7 * m) (nth table m) (h.entries.each m (inside table k h)))
-        ∙ ap held_of (sym (find_met k table m (inside table k h) before same));
+        ap Some (r ∙ entry_state s (at + 7 * m) (nth table m) (h.entries.each m (inside table k h)))
+        ∙ (sym (find_met k table m (inside table k h) before same));
   }
 
-pub missed : (s : List Float) (at n : ℕ) (t : Float) (lo hi : ℕ) → Bracket s at n t lo hi → hi ≤ lo → Searched s at n t Missing
+pub missed : (s : List Float) (at n : ℕ) (t : Float) (lo hi : ℕ) → Bracket s at n t lo hi → hi ≤ lo → Searched s at n t None
 missed s at n t lo hi b h = record {
-  is = λ table k q. ap held_of (sym (find_missed k table (λ j l.
+  is = λ table k q. (sym (find_missed k table (λ j l.
       by (ltb j lo)
       (λ u. below_other (nth table j).0 k (b.below table k q j (ltb→lt j lo (holds _ u))))
       (λ u. above_other (nth table j).0 k (b.above table k q j (omega (arith, ltb-false j lo u)) (omega (arith, q.count)))))));
@@ -199,7 +196,7 @@ missed s at n t lo hi b h = record {
 
 -- ---- a slot
 
-pub slot_searched : (s : List Float) (at n : ℕ) (t : Float) (r : Held) → ((m : ℕ) → m ≤ 3500 → get_or s at nan ≡ number m → n ≡ m) → Searched s (at + 1) n t r → InSlot s at t r
+pub slot_searched : (s : List Float) (at n : ℕ) (t : Float) (r : Option State) → ((m : ℕ) → m ≤ 3500 → get_or s at nan ≡ number m → n ≡ m) → Searched s (at + 1) n t r → InSlot s at t r
 slot_searched s at n t r count f = record {
   is = λ table k key time o slot.
       f.is table k (record { key = key; time = time; count = sym (count (length table) o.few slot.count); orderly = o; entries = slot.entries });
@@ -207,7 +204,7 @@ slot_searched s at n t r count f = record {
 
 -- ---- slot after slot
 
-find_both : (k : ℤ) (t more : Table State) → find k t ≡ none → find k (t ++ more) ≡ find k more
+find_both : (k : ℤ) (t more : Table State) → find k t ≡ None → find k (t ++ more) ≡ find k more
 unfolding find
 find_both k [] more e = refl
 find_both k (x ∷ t) more e =
@@ -215,24 +212,24 @@ find_both k (x ∷ t) more e =
     (λ q. absurd (is_none (sym (rw q at e))))
     (λ q. rw q (find_both k t more (rw q at e)))
   where
-    is_none : none ≡ some x.1 → ⊥
+    is_none : None ≡ Some x.1 → ⊥
     is_none h = subst (λ (o : Option State). kind o) h tt
       where
         kind : Option State → Type 0
-        kind none = Unit
-        kind (some y) = ⊥
+        kind None = Unit
+        kind (Some y) = ⊥
 
-find_first : (k : ℤ) (t more : Table State) (x : State) → find k t ≡ some x → find k (t ++ more) ≡ some x
+find_first : (k : ℤ) (t more : Table State) (x : State) → find k t ≡ Some x → find k (t ++ more) ≡ Some x
 unfolding find
 find_first k [] more x e = absurd (subst kind e tt)
   where
     kind : Option State → Type 0
-    kind none = Unit
-    kind (some y) = ⊥
+    kind None = Unit
+    kind (Some y) = ⊥
 find_first k (y ∷ t) more x e = by (same_second y.0 k) (λ q. rw q (rw q at e)) (λ q. rw q (find_first k t more x (rw q at e)))
 
 -- what the first windows hold stays found
-joined_first : (k : ℤ) (tables : ℕ → Table State) (w n : ℕ) (x : State) → w ≤ n → find k (joined tables w) ≡ some x → find k (joined tables n) ≡ some x
+joined_first : (k : ℤ) (tables : ℕ → Table State) (w n : ℕ) (x : State) → w ≤ n → find k (joined tables w) ≡ Some x → find k (joined tables n) ≡ Some x
 unfolding joined
 joined_first k tables w zero x l e = let q : 0 ≡ w = omega arith in ap (λ (m : ℕ). find k (joined tables m)) q ∙ e
 joined_first k tables w (suc n) x l e =
@@ -242,55 +239,46 @@ joined_first k tables w (suc n) x l e =
 
 -- nothing in the first windows
 pub record Empty (s : List Float) (first windows : ℕ) (t : Float) (w : ℕ) : Type 0 where
-  pub is : (tables : ℕ → Table State) (k : ℤ) → is_key k ≡ true → t ≡ second_time k → SlotsHold s first tables windows → find k (joined tables w) ≡ none
+  pub is : (tables : ℕ → Table State) (k : ℤ) → is_key k ≡ true → t ≡ second_time k → SlotsHold s first tables windows → find k (joined tables w) ≡ None
 
 pub empty_none : (s : List Float) (first windows : ℕ) (t : Float) → Empty s first windows t 0
 unfolding joined find
 empty_none s first windows t = record { is = λ tables k key time h. refl }
 
-back : Held → Option State
-back (Known x) = some x
-back Missing = none
-
-held_back : (o : Option State) → back (held_of o) ≡ o
-unfolding back
-held_back none = refl
-held_back (some x) = refl
+pub none_is : {A : Type 0} (o : Option A) → ((x : A) → o ≡ Some x → ⊥) → o ≡ None
+none_is None h = refl
+none_is (Some x) h = absurd (h x refl)
 
 module _ (s : List Float) (first windows : ℕ) (t : Float) (w : ℕ) (empty : Empty s first windows t w) where
-  next : w < windows → (r : Held) → InSlot s (first + window_room * w) t r → (tables : ℕ → Table State) (k : ℤ) → is_key k ≡ true → t ≡ second_time k → SlotsHold s first tables windows
-      → find k (joined tables (suc w)) ≡ back r
+  next : w < windows → (r : Option State) → InSlot s (first + window_room * w) t r → (tables : ℕ → Table State) (k : ℤ) → is_key k ≡ true → t ≡ second_time k → SlotsHold s first tables windows
+      → find k (joined tables (suc w)) ≡ r
   unfolding joined
   next l r f tables k key time h =
-      find_both k (joined tables w) (tables w) (empty.is tables k key time h)
-      ∙ sym (held_back (find k (tables w)))
-      ∙ sym (ap back (f.is (tables w) k key time (h.orderly w l) (h.slots w l)))
+      find_both k (joined tables w) (tables w) (empty.is tables k key time h) ∙ sym (f.is (tables w) k key time (h.orderly w l) (h.slots w l))
 
-  pub empty_next : w < windows → (r : Held) → r ≡ Missing → InSlot s (first + window_room * w) t r → Empty s first windows t (w + 1)
-  unfolding back
+  pub empty_next : w < windows → (r : Option State) → r ≡ None → InSlot s (first + window_room * w) t r → Empty s first windows t (w + 1)
   empty_next l r e f = record {
     is = λ tables k key time h.
         let q : suc w ≡ w + 1 = omega arith in
-        ap (λ (m : ℕ). find k (joined tables m)) (sym q) ∙ next l r f tables k key time h ∙ ap back e;
+        ap (λ (m : ℕ). find k (joined tables m)) (sym q) ∙ next l r f tables k key time h ∙ e;
   }
 
-  pub slot_found : w < windows → (r : Held) (x : State) → r ≡ Known x → InSlot s (first + window_room * w) t r → InSlots s first windows t (Known x)
-  unfolding back
+  pub slot_found : w < windows → (r : Option State) (x : State) → r ≡ Some x → InSlot s (first + window_room * w) t r → InSlots s first windows t (Some x)
   slot_found l r x e f = record {
     is = λ tables k key time h.
-        ap held_of (sym (joined_first k tables (suc w) windows x l (next l r f tables k key time h ∙ ap back e)));
+        (sym (joined_first k tables (suc w) windows x l (next l r f tables k key time h ∙ e)));
   }
 
-  pub none_found : w ≡ windows → InSlots s first windows t Missing
-  none_found e = record { is = λ tables k key time h. ap held_of (sym (ap (λ (m : ℕ). find k (joined tables m)) (sym e) ∙ empty.is tables k key time h)) }
+  pub none_found : w ≡ windows → InSlots s first windows t None
+  none_found e = record { is = λ tables k key time h. (sym (ap (λ (m : ℕ). find k (joined tables m)) (sym e) ∙ empty.is tables k key time h)) }
 
 -- ---- the guard
 
-pub no_room : (s : List Float) (first windows : ℕ) (k : ℤ) → ((tables : ℕ → Table State) → SlotsHold s first tables windows → windows ≡ 0) → Looked s first windows k Missing
+pub no_room : (s : List Float) (first windows : ℕ) (k : ℤ) → ((tables : ℕ → Table State) → SlotsHold s first tables windows → windows ≡ 0) → Looked s first windows k None
 unfolding joined find
 no_room s first windows k e = record {
-  is = λ tables key h. ap held_of (sym (ap (λ (m : ℕ). find k (joined tables m)) (e tables h)));
+  is = λ tables key h. (sym (ap (λ (m : ℕ). find k (joined tables m)) (e tables h)));
 }
 
-pub looked : (s : List Float) (first windows : ℕ) (k : ℤ) (t : Float) (r : Held) → t ≡ second_time k → InSlots s first windows t r → Looked s first windows k r
+pub looked : (s : List Float) (first windows : ℕ) (k : ℤ) (t : Float) (r : Option State) → t ≡ second_time k → InSlots s first windows t r → Looked s first windows k r
 looked s first windows k t r e f = record { is = λ tables key h. f.is tables k key e h }

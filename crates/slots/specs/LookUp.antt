@@ -1,14 +1,12 @@
 -- The fitted states of both satellites in their slots: those of crate `windows`, one for each window of neighbouring nodes, and the look-up of a whole second
 -- over all of them (document 01, module 8: the whole path uses the fitted states). Assumes nothing.
-use Rattle.std.specs.Prelude.{◌≡◌, ℕ, zero, suc, ◌+◌, ◌-◌, ◌*◌, ◌<◌, ◌≤◌, Bool, true, T, List, [], ◌++◌, map, length, ℤ, slice_index_or, Float}
+use Rattle.std.specs.Prelude.{◌≡◌, ℕ, zero, suc, ◌+◌, ◌-◌, ◌*◌, ◌<◌, ◌≤◌, Bool, true, T, List, [], ◌++◌, map, length, ℤ, slice_index_or, Float, Option}
 use Rattle.std.specs.Float.{nan}
 use Rattle.laws.specs.Lists.{All}
 use Rattle.laws.specs.Checks.{is_key}
 use Rattle.laws.specs.Times.{RisingSeconds, second_time}
 use Rattle.finality.specs.Tables.{Table, find, key_of}
 use Rattle.integrate.specs.declared.kernel.State.{State}
-use Rattle.fit.specs.declared.kernel.Held.{Held}
-use Rattle.windows.specs.Stage.{held_of}
 use Rattle.windows.specs.Slots.{Entries, Slot}
 use Rattle.windows.specs.Windows.{slot_at}
 use Rattle.inputs.specs.Inputs.{window_room, slot_room}
@@ -31,8 +29,8 @@ pub record SlotsHold (s : List Float) (first : ℕ) (tables : ℕ → Table Stat
   pub orderly : (w : ℕ) → w < windows → Orderly (tables w)
 
 -- the first state at a second, over all windows
-pub record Looked (s : List Float) (first windows : ℕ) (k : ℤ) (r : Held) : Type 0 where
-  pub is : (tables : ℕ → Table State) → is_key k ≡ true → SlotsHold s first tables windows → r ≡ held_of (find k (joined tables windows))
+pub record Looked (s : List Float) (first windows : ℕ) (k : ℤ) (r : Option State) : Type 0 where
+  pub is : (tables : ℕ → Table State) → is_key k ≡ true → SlotsHold s first tables windows → r ≡ (find k (joined tables windows))
 
 -- ---- what the parts of the search give, where t is a second as a float
 
@@ -44,17 +42,17 @@ pub record Sought (s : List Float) (at n : ℕ) (t : Float) (table : Table State
   pub orderly : Orderly table
   pub entries : Entries s at table
 
-pub record Searched (s : List Float) (at n : ℕ) (t : Float) (r : Held) : Type 0 where
-  pub is : (table : Table State) (k : ℤ) → Sought s at n t table k → r ≡ held_of (find k table)
+pub record Searched (s : List Float) (at n : ℕ) (t : Float) (r : Option State) : Type 0 where
+  pub is : (table : Table State) (k : ℤ) → Sought s at n t table k → r ≡ (find k table)
 
 -- in one slot
-pub record InSlot (s : List Float) (at : ℕ) (t : Float) (r : Held) : Type 0 where
-  pub is : (table : Table State) (k : ℤ) → is_key k ≡ true → t ≡ second_time k → Orderly table → Slot s at table → r ≡ held_of (find k table)
+pub record InSlot (s : List Float) (at : ℕ) (t : Float) (r : Option State) : Type 0 where
+  pub is : (table : Table State) (k : ℤ) → is_key k ≡ true → t ≡ second_time k → Orderly table → Slot s at table → r ≡ (find k table)
 
 -- in all slots
-pub record InSlots (s : List Float) (first windows : ℕ) (t : Float) (r : Held) : Type 0 where
+pub record InSlots (s : List Float) (first windows : ℕ) (t : Float) (r : Option State) : Type 0 where
   pub is : (tables : ℕ → Table State) (k : ℤ) → is_key k ≡ true → t ≡ second_time k → SlotsHold s first tables windows
-      → r ≡ held_of (find k (joined tables windows))
+      → r ≡ (find k (joined tables windows))
 
 -- ---- the fits
 

@@ -15,12 +15,12 @@ use Rattle.legendre.specs.Field.{partials_of}
 use Rattle.legendre.specs.Legendre.{legendre, derived}
 use Rattle.legendre.specs.Sums.{Degree, degree_of, term_v, term_lat, term_lon, power, all_r, all_lat, all_lon}
 use Rattle.legendre.specs.declared.Partials.{Partials}
+use Rattle.legendre.specs.declared.Sums.{Sums}
 use Rattle.fields.specs.Calls.{acceleration_of}
 use Rattle.solid_tide.specs.Tide.{entry, place_of, orders_of}
 use Rattle.solid_tide.specs.declared.SolidTide.{SolidTide}
 use Rattle.solid_tide.specs.declared.kernel.Place.{Place}
 use Rattle.solid_tide.specs.declared.degree3.Tables.{Tables}
-use Rattle.solid_tide.specs.declared.degree3.Sums.{Sums}
 use Rattle.solid_tide.specs.declared.degree3.Totals.{Totals}
 
 -- ---- m/s², Earth-fixed
@@ -52,11 +52,11 @@ tide_gravity tide x = gravity_of 3 earth_gM earth_radius tide.c tide.s x
 unfoldable pub tables_of : SolidTide → SineCosine → Float → Tables
 tables_of tide lat lon =
     let p = rows (legendre lat.sine lat.cosine) 4 in
-    record { c = tide.c; s = tide.s; p = p; dp = rows (derived (entry p)) 4; cos = (orders_of lon).cos; sin = (orders_of lon).sin }
+    record { tide = tide; p = p; dp = rows (derived (entry p)) 4; orders = orders_of lon }
 
 -- degree n of the tables
 abbrev pub degree_in : Tables → ℕ → Degree
-degree_in f n = degree_of (entry f.c n) (entry f.s n) (at f.cos) (at f.sin) (entry f.p n) (entry f.dp n)
+degree_in f n = degree_of (entry f.tide.c n) (entry f.tide.s n) (at f.orders.cos) (at f.orders.sin) (entry f.p n) (entry f.dp n)
 
 -- the sums of degree n over its first j orders, and with order m added
 unfoldable pub order_sums : Tables → ℕ → ℕ → Sums

@@ -52,7 +52,7 @@ from_two f n m = cond (ltb n 2) zero64 (f n m)
 unfoldable pub raised_by : Vector → Float → Raised
 raised_by body gm =
     let at = place_of body in
-    record { weight = rows (from_two (weight gm at)) 4; cos = (orders_of at.lon).cos; sin = (orders_of at.lon).sin }
+    record { weight = rows (from_two (weight gm at)) 4; orders = orders_of at.lon }
 
 -- the coefficients, from weights and cosines or sines of the Sun and of the Moon
 unfoldable pub both_raise : List Float → List Float → List Float → List Float → List Float
@@ -63,4 +63,4 @@ unfoldable pub solid_tide : Vector → Vector → SolidTide
 solid_tide sun moon =
     let s = raised_by sun sun_gM in
     let m = raised_by moon moon_gM in
-    record { c = both_raise s.weight s.cos m.weight m.cos; s = both_raise s.weight s.sin m.weight m.sin }
+    record { c = both_raise s.weight s.orders.cos m.weight m.orders.cos; s = both_raise s.weight s.orders.sin m.weight m.orders.sin }

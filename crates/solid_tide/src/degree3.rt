@@ -4,30 +4,18 @@ ghost use Rattle.laws.specs.WholeNumbers.{number};
 ghost use Rattle.laws.specs.Tables.{tri};
 ghost use Rattle.solid_tide.specs.Gravity.{add_order, order_sums, add_degree, degree_sums, tables_of, from_local, tide_gravity};
 
+use crate::{GM_E, R_E};
+use legendre::Sums;
 use numbers;
 use vectors;
-
-const GM_E: f64 = 3.986_004_418e14;
-
-const R_E: f64 = 6_378_136.3;
 
 // The coefficients, P(n, m) and its latitude derivative, cos mλ and sin mλ.
 #[derive(Clone, Copy)]
 pub struct Tables {
-    pub c: [f64; 10],
-    pub s: [f64; 10],
+    pub tide: crate::SolidTide,
     pub p: [f64; 10],
     pub dp: [f64; 10],
-    pub cos: [f64; 4],
-    pub sin: [f64; 4],
-}
-
-// The sums of one degree: of the potential and of its derivatives by latitude and longitude.
-#[derive(Clone, Copy)]
-pub struct Sums {
-    pub v: f64,
-    pub lat: f64,
-    pub lon: f64,
+    pub orders: crate::kernel::Orders,
 }
 
 // (R / r)^n, and the derivatives' sums over the degrees so far.
@@ -39,38 +27,30 @@ pub struct Totals {
     pub lon: f64,
 }
 
-fn float_of(n: usize) -> f64
-    requires { n ≤ 4 }
-    ensures { result ≡ number n }
-{
-    n as f64
-}
-
 // Where (n, m) stands in a table.
 fn idx(n: usize, m: usize) -> usize
     requires { (m ≤ n) × (n ≤ 3) }
     ensures { (result ≡ tri n + m) × (result < 10) }
 {
-    n * (n + 1) / 2 + m
+    numbers::triangle(n) + m
 }
 
-fn add_order(f: Tables, n: usize, m: usize, s: Sums) -> Sums
+#[tactic(auto, unfolding(crate::specs::Gravity::add_order))]
+fn add_order(f: Tables, n: usize, m: usize, sum: Sums) -> Sums
     requires { (m ≤ n) × (n ≤ 3) }
-    ensures { result ≡ add_order f n m s }
+    ensures { result ≡ add_order f n m sum }
 {
     let k = idx(n, m);
-    let cs = f.c;
-    let ss = f.s;
-    let ps = f.p;
-    let ds = f.dp;
-    let xs = f.cos;
-    let ys = f.sin;
-    let even = cs[k] * xs[m] + ss[k] * ys[m];
-    let order = float_of(m);
+    let c = f.tide.c[k];
+    let s = f.tide.s[k];
+    let x = f.orders.cos[m];
+    let y = f.orders.sin[m];
+    let even = c * x + s * y;
+    let order = numbers::float_of(m);
     Sums {
-        v: s.v + ps[k] * even,
-        lat: s.lat + ds[k] * even,
-        lon: s.lon + ps[k] * order * (ss[k] * xs[m] - cs[k] * ys[m]),
+        v: sum.v + f.p[k] * even,
+        lat: sum.lat + f.dp[k] * even,
+        lon: sum.lon + f.p[k] * order * (s * x - c * y),
     }
 }
 
@@ -83,20 +63,19 @@ fn order_sums(f: Tables, n: usize) -> Sums
         lat: 0.0,
         lon: 0.0,
     };
-    let mut m = 0;
-    while m <= n {
+    for m in 0..n + 1 {
         s = add_order(f, n, m, s);
-        m += 1;
     }
     s
 }
 
+#[tactic(auto, unfolding(crate::specs::Gravity::add_degree))]
 fn add_degree(f: Tables, q: f64, n: usize, t: Totals) -> Totals
     requires { n ≤ 3 }
     ensures { result ≡ add_degree f q n t }
 {
     let s = order_sums(f, n);
-    let next = float_of(n + 1);
+    let next = numbers::float_of(n + 1);
     Totals {
         power: t.power * q,
         r: t.r - next * t.power * s.v,
@@ -114,35 +93,27 @@ fn degree_sums(f: Tables, q: f64) -> Totals
         lat: 0.0,
         lon: 0.0,
     };
-    let mut n = 0;
-    while n < 4 {
+    for n in 0..4 {
         t = add_degree(f, q, n, t);
-        n += 1;
     }
     t
 }
 
+#[tactic(auto, unfolding(crate::specs::Gravity::tables_of))]
 fn tables_of(field: crate::SolidTide, lat: numbers::SineCosine, lon: f64) -> Tables
     ensures { result ≡ tables_of field lat lon }
 {
-    let c = field.c;
-    let s = field.s;
     let p = crate::kernel::legendre(lat.sine, lat.cosine);
-    let dp = crate::kernel::derived(p);
-    let o = crate::kernel::orders_of(lon);
-    let cos = o.cos;
-    let sin = o.sin;
     Tables {
-        c,
-        s,
+        tide: field,
         p,
-        dp,
-        cos,
-        sin,
+        dp: crate::kernel::derived(p),
+        orders: crate::kernel::orders_of(lon),
     }
 }
 
 // North, east and up at a latitude and longitude, to Earth-fixed axes.
+#[tactic(auto, unfolding(crate::specs::Gravity::from_local))]
 pub fn from_local(
     lat: numbers::SineCosine,
     lon: numbers::SineCosine,

@@ -5,16 +5,9 @@ ghost use Rattle.laws.specs.Tables.{rows};
 ghost use Rattle.legendre.specs.Legendre.{legendre as legendre_of, derived as derived_of};
 ghost use Rattle.solid_tide.specs.Tide.{entry, place_of, orders_of, raised_by, both_raise, solid_tide};
 
+use crate::{GM_E, GM_MOON, GM_SUN, R_E};
 use numbers;
 use vectors;
-
-const GM_E: f64 = 3.986_004_418e14;
-
-const R_E: f64 = 6_378_136.3;
-
-const GM_SUN: f64 = 1.327_124_400_18e20;
-
-const GM_MOON: f64 = 4.902_800_1e12;
 
 const SCALE: f64 = 1e-280;
 
@@ -102,10 +95,10 @@ pub struct Orders {
 #[derive(Clone, Copy)]
 pub struct Raised {
     pub weight: [f64; 10],
-    pub cos: [f64; 4],
-    pub sin: [f64; 4],
+    pub orders: Orders,
 }
 
+#[tactic(auto, unfolding(crate::specs::Tide::place_of))]
 pub fn place_of(x: vectors::Vector) -> Place
     ensures { result ≡ place_of x }
 {
@@ -181,12 +174,9 @@ fn raised_by(body: vectors::Vector, gm: f64) -> Raised
     let at = place_of(body);
     let sc = numbers::sine_cosine(at.lat);
     let p = legendre(sc.sine, sc.cosine);
-    let o = orders_of(at.lon);
     let q = R_E / at.r;
     let k2 = gm / GM_E * numbers::power(q, 3) / 5.0;
     let k3 = gm / GM_E * numbers::power(q, 4) / 7.0;
-    let cos = o.cos;
-    let sin = o.sin;
     Raised {
         weight: [
             0.0,
@@ -200,12 +190,12 @@ fn raised_by(body: vectors::Vector, gm: f64) -> Raised
             LOVE[8] * k3 * p[8],
             LOVE[9] * k3 * p[9],
         ],
-        cos,
-        sin,
+        orders: orders_of(at.lon),
     }
 }
 
 // The coefficients, from weights and cosines or sines of the Sun and the Moon.
+#[tactic(auto, unfolding(laws::specs::Tables::rows, laws::specs::Tables::row, crate::specs::Tide::both_raise, laws::specs::Tables::tri))]
 fn both(s: [f64; 10], x: [f64; 4], m: [f64; 10], y: [f64; 4]) -> [f64; 10]
     ensures { result ≡ both_raise s x m y }
 {
@@ -228,13 +218,8 @@ pub fn solid_tide(sun: vectors::Vector, moon: vectors::Vector) -> crate::SolidTi
 {
     let s = raised_by(sun, GM_SUN);
     let m = raised_by(moon, GM_MOON);
-    let sw = s.weight;
-    let sc = s.cos;
-    let ss = s.sin;
-    let mw = m.weight;
-    let mc = m.cos;
-    let ms = m.sin;
-    let c = both(sw, sc, mw, mc);
-    let d = both(sw, ss, mw, ms);
-    crate::SolidTide { c: c, s: d }
+    crate::SolidTide {
+        c: both(s.weight, s.orders.cos, m.weight, m.orders.cos),
+        s: both(s.weight, s.orders.sin, m.weight, m.orders.sin),
+    }
 }

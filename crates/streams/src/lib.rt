@@ -2,35 +2,26 @@
 // is told of on standard error. A call that a signal interrupts counts as failed. No contract can say what is read and written.
 #![tactic(auto)]
 
-ghost use Rattle.streams.specs.Got.{Within};
+ghost use Rattle.std.specs.Io.{ReadsAtMost};
 
 use io;
 use std::io::Read;
 
-// What reading brought: so many bytes at the head of the buffer, fewer than it holds only where the input ended; or a read failed.
-#[derive(Clone, Copy)]
-pub enum Got {
-    Bytes(usize),
-    Failed,
-}
-
-// Reads from a stream, such as standard input, until the buffer is full or the input ends.
-pub fn read<R: Read>(from: &mut R, buf: &mut [u8]) -> Got
-    ensures { Within buf.new result }
+// Reads from a stream, such as standard input, until the buffer is full or the input ends, and answers how many bytes it put at the buffer's head: fewer
+// than it holds only where the input ended.
+pub fn read<R: Read>(from: &mut R, buf: &mut [u8]) -> std::io::Result<usize>
+    ensures { ReadsAtMost result buf.new }
 {
-    let end = buf.len();
     let mut done = 0;
-    while done < end {
-        let more = match from.read(&mut buf[done..end]) {
-            Ok(n) => n,
-            Err(_) => return Got::Failed,
-        };
+    // kept: a turn goes on by as many bytes as the stream gave
+    while done < buf.len() {
+        let more = from.read(&mut buf[done..])?;
         if more == 0 {
-            return Got::Bytes(done);
+            break;
         }
         done += more;
     }
-    Got::Bytes(done)
+    Ok(done)
 }
 
 // Writes words to standard error.

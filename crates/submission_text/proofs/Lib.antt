@@ -1,6 +1,6 @@
--- What the proofs cite, and what the definitions mean.
+-- What the proofs use.
 --
---   ReadLines    words, headers, rows and line after line of a submission's text, as the loops and calls give their premises
+--   ReadLines    headers, rows and lines, as the loops and calls give their premises
 --   LongCounts   a count is judged however many digits it has
 pub mod ReadLines
 pub mod LongCounts

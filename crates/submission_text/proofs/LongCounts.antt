@@ -1,28 +1,28 @@
--- A count is judged however many digits it has: one of more than 18 is beyond every bound and is refused 2 like any other beyond its own. So a reader that
+-- A count is judged however many digits it has: one of more than 18 is beyond every bound and is refused like any other beyond its own. So a reader that
 -- has no room for a whole header may leave digits out behind the 19th: the refusal is the same. Assumes nothing.
 use mathlib.Core.Path.{◌≡◌, refl, sym, ap, ◌∙◌}
-use mathlib.Core.Bool.{Bool, true, false, cond, not, ◌&&◌}
+use mathlib.Core.Bool.{Bool, true, false, not, ◌&&◌}
 use mathlib.Core.List.{List, [], ◌∷◌, ◌++◌, append_assoc}
 use Prim.Native.Nat.{ℕ, zero, suc, ◌+◌, ◌-◌, ◌<◌, ◌≤◌}
 use native.Mathlib.Omega.{arith}
-use borrow.Author.Tests.{eq-eqb}
+use borrow.Author.Tests.{eq-eqb, le-ltb, lt-ltb}
 use lib.Dec.{leb, eqb}
 use lib.ListN.{length, take, get_or, length-append}
 use lib.Seq.{take_at, drop_at, get_or_at}
 use lib.Ieee.{binary64, of_bits}
-use Rattle.laws.specs.Checks.{all}
+use Rattle.std.specs.List.{list_all}
 use Rattle.hexadecimal.specs.Digits.{is_digit, part}
 use Rattle.hexadecimal.specs.Printing.{line_feed}
-use Rattle.hexadecimal.specs.declared.Parsed.TheVariants.{Value}
+use Rattle.std.specs.Prelude.{Some, Err}
+use Rattle.submission_text.specs.declared.Fault.TheVariants.{Bounds}
 use Rattle.submission_text.specs.declared.Reading.{Reading}
-use Rattle.submission_text.specs.Text.{count_in, begins_with, header_with, names, header_of, outside, count_refusal, header_fault, refused_by, goes_on, only, unless_fault, announced, headed}
+use Rattle.submission_text.specs.Text.{count_in, begins_with, header_with, names, header_of, outside, count_refusal, header_fault, Verdict, unless, first, accepted, goes_on, announced, headed}
 use Rattle.submission_text.specs.Text.{taken_header}
-use Rattle.submission_text.proofs.ReadLines.{count_long, header_counts, header_at}
 
 -- more than 18 decimal digits, and no zero in front of them
 pub record LongCount (digits : List ℕ) : Type 0 where
   pub many : 18 < length digits
-  pub decimal : (not (eqb (get_or digits 0 0) 48) && all (is_digit 10) digits) ≡ true
+  pub decimal : (not (eqb (get_or digits 0 0) 48) && list_all (is_digit 10) digits) ≡ true
 
 -- a header: its name, with the space after it, the digits of its count and a line feed
 abbrev pub header : List ℕ → List ℕ → List ℕ
@@ -33,10 +33,12 @@ unfolding begins_with
 begins_itself [] rest = refl
 begins_itself (n ∷ name) rest = ap (λ (b : Bool). b && begins_with name (name ++ rest)) (eq-eqb n n refl) ∙ begins_itself name rest
 
-counted : (digits : List ℕ) → LongCount digits → count_in digits ≡ Value 1000000000000000000
-counted digits l = sym (count_long digits (all (is_digit 10) digits) true (Value 1000000000000000000) l.many refl (sym l.decimal) refl)
+counted : (digits : List ℕ) → LongCount digits → count_in digits ≡ Some 1000000000000000000
+unfolding count_in
+counted digits l = rw (le-ltb (length digits) 19 (let m : 18 < length digits = l.many in omega arith), l.decimal)
 
-long_header : (name digits : List ℕ) → LongCount digits → header_with name (header name digits) ≡ Value 1000000000000000000
+long_header : (name digits : List ℕ) → LongCount digits → header_with name (header name digits) ≡ Some 1000000000000000000
+unfolding header_with
 long_header name digits l =
     let line = header name digits in
     let k : length line ≡ length name + (length digits + 1) = length-append name (digits ++ line_feed) ∙ ap (λ (n : ℕ). length name + n) (length-append digits line_feed) in
@@ -49,11 +51,12 @@ long_header name digits l =
     let digits_there : part line (length name) (length line - 1 - length name) ≡ digits =
     ap (take (length line - 1 - length name)) (drop_at name (digits ++ line_feed) (length name) refl) ∙ take_at digits line_feed (length line - 1 - length name) n
     in
-    let tested : (eqb (get_or line (length line - 1) 0) 10 && true) ≡ true = ap (λ (b : Bool). b && true) (eq-eqb (get_or line (length line - 1) 0) 10 last) in
-    sym (header_counts name line true (eqb (get_or line (length line - 1) 0) 10 && true) room (sym (begins_itself name (digits ++ line_feed))) refl (Value 1000000000000000000) tested
-    (sym (ap count_in digits_there ∙ counted digits l)))
+    let tested : (eqb (get_or line (length line - 1) 0) 10 && begins_with name line) ≡ true =
+    (λ i. eq-eqb (get_or line (length line - 1) 0) 10 last i && begins_itself name (digits ++ line_feed) i)
+    in
+    rw (le-ltb (length line) (length name + 2) room, tested) (ap count_in digits_there ∙ counted digits l)
 
-beyond_bound : (section : ℕ) → 2 ≤ section → section < 9 → count_refusal section 1000000000000000000 ≡ 2
+beyond_bound : (section : ℕ) → 2 ≤ section → section < 9 → count_refusal section 1000000000000000000 ≡ Err Bounds
 unfolding count_refusal outside
 beyond_bound zero h k = absurd (let none : ⊥ = omega arith in none)
 beyond_bound (suc zero) h k = absurd (let none : ⊥ = omega arith in none)
@@ -66,23 +69,21 @@ beyond_bound (suc (suc (suc (suc (suc (suc (suc zero))))))) h k = refl
 beyond_bound (suc (suc (suc (suc (suc (suc (suc (suc zero)))))))) h k = refl
 beyond_bound (suc (suc (suc (suc (suc (suc (suc (suc (suc section))))))))) h k = absurd (let none : ⊥ = omega arith in none)
 
-either : (b : Bool) (n : ℕ) → cond b n n ≡ n
-either true n = refl
-either false n = refl
-
-faulty : (section filled room : ℕ) → 2 ≤ section → section < 9 → header_fault section 1000000000000000000 filled room ≡ 2
+faulty : (section filled room : ℕ) → 2 ≤ section → section < 9 → header_fault section 1000000000000000000 filled room ≡ Err Bounds
 unfolding header_fault
-faulty section filled room h k = ap (λ (n : ℕ). cond (leb (filled + 1) room) n 2) (beyond_bound section h k) ∙ either (leb (filled + 1) room) 2
+faulty section filled room h k = by (leb (filled + 1) room)
+  where
+    by : (b : Bool) → first (unless b Bounds) (count_refusal section 1000000000000000000) ≡ Err Bounds
+    by true = beyond_bound section h k
+    by false = refl
 
--- a section that has a bound refuses a longer count by 2
+-- a section that has a bound refuses a longer count as beyond it
 pub long_count_refused : (room : ℕ) (r : Reading) (digits : List ℕ) → 2 ≤ r.section → r.section < 9 → LongCount digits →
-    taken_header room (header (get_or names r.section []) digits) r ≡ only (refused_by 2 r)
-unfolding taken_header announced
+    taken_header room (header (get_or names r.section []) digits) r ≡ Err Bounds
+unfolding taken_header announced header_of
 long_count_refused room r digits h k l =
     let line = header (get_or names r.section []) digits in
-    let value : header_of r.section line ≡ Value 1000000000000000000 =
-    sym (header_at r.section k r.section line (Value 1000000000000000000) refl (sym (long_header (get_or names r.section []) digits l)))
-    in
+    let value : header_of r.section line ≡ Some 1000000000000000000 = rw (lt-ltb r.section 9 k) (long_header (get_or names r.section []) digits l) in
     ap (headed room r) value
-    ∙ ap (λ (n : ℕ). unless_fault n r (record { reading = goes_on r.section 1000000000000000000 (r.filled + 1) r.degree; numbers = of_bits binary64 1000000000000000000 ∷ [] }))
+    ∙ ap (λ (v : Verdict). accepted v (record { reading = goes_on r.section 1000000000000000000 (r.filled + 1) r.degree; numbers = of_bits binary64 1000000000000000000 ∷ [] }))
     (faulty r.section r.filled room h k)

@@ -1,13 +1,34 @@
 -- A submission as text: nine sections, each a header `NAME COUNT` and COUNT lines of words. What one more line adds to what was read. Bytes are ASCII.
 -- Assumes nothing.
-use Rattle.std.specs.Prelude.{◌≡◌, Bool, true, false, cond, not, ◌&&◌, List, [], ◌∷◌, ◌++◌, ℕ, zero, suc, ◌+◌, ◌-◌, ◌*◌, leb, ltb, eqb, length, take, get_or, Float}
+use Rattle.std.specs.Prelude.{◌≡◌, Option, Some, None, Result, Ok, Err, Bool, true, false, cond, not, ◌&&◌, List, [], ◌∷◌, ◌++◌, ℕ, zero, suc, ◌+◌, ◌-◌, ◌*◌, leb, ltb, eqb, length, take, get_or, Float}
 use Rattle.std.specs.Float.{binary64}
 use Rattle.std.specs.Float.Ieee.{of_bits}
-use Rattle.laws.specs.Checks.{all}
+use Rattle.std.specs.List.{list_all}
 use Rattle.hexadecimal.specs.Digits.{is_digit, word_at, decimal_at, part, is_word, bits_of, float_at}
-use Rattle.hexadecimal.specs.declared.Parsed.{Parsed}
-use Rattle.hexadecimal.specs.declared.Parsed.TheVariants.{Value, Malformed}
+use Rattle.submission_text.specs.declared.Fault.{Fault}
+use Rattle.submission_text.specs.declared.Fault.TheVariants.{Degree, Bounds, Format}
 use Rattle.submission_text.specs.declared.Reading.{Reading}
+
+-- ---- refusals
+
+-- the number of a fault among the answers: of the degree and the bounds as the other calls have them
+abbrev pub number_of : Fault → ℕ
+number_of Degree = 1
+number_of Bounds = 2
+number_of Format = 11
+
+abbrev pub Verdict : Type 0
+Verdict = Result Unit Fault
+
+-- a fault where a test fails
+abbrev pub unless : Bool → Fault → Verdict
+unless true f = Ok tt
+unless false f = Err f
+
+-- the first fault of two
+abbrev pub first : Verdict → Verdict → Verdict
+first (Ok u) v = v
+first (Err f) v = Err f
 
 -- ---- words
 
@@ -19,13 +40,13 @@ column text at (suc k) = float_at text at ∷ column text (at + 17) k
 -- ---- headers
 
 -- a count of more than 18 digits, however many, is above every bound: 10^18 stands for it
-abbrev pub long_count : Bool → Parsed
-long_count true = Value 1000000000000000000
-long_count false = Malformed
+abbrev pub long_count : Bool → Option ℕ
+long_count true = Some 1000000000000000000
+long_count false = None
 
 -- decimal digits without a zero in front; 0 alone is zero
-unfoldable pub count_in : List ℕ → Parsed
-count_in digits = cond (ltb (length digits) 19) (decimal_at digits 0 (length digits)) (long_count (not (eqb (get_or digits 0 0) 48) && all (is_digit 10) digits))
+unfoldable pub count_in : List ℕ → Option ℕ
+count_in digits = cond (ltb (length digits) 19) (decimal_at digits 0 (length digits)) (long_count (not (eqb (get_or digits 0 0) 48) && list_all (is_digit 10) digits))
 
 unfoldable pub begins_with : List ℕ → List ℕ → Bool
 begins_with [] line = true
@@ -33,10 +54,10 @@ begins_with (n ∷ name) [] = false
 begins_with (n ∷ name) (b ∷ line) = eqb b n && begins_with name line
 
 -- the count of a line that is a name (with the space after it), a count and a line feed
-unfoldable pub header_with : List ℕ → List ℕ → Parsed
+unfoldable pub header_with : List ℕ → List ℕ → Option ℕ
 header_with name line =
-    cond (ltb (length line) (length name + 2)) Malformed
-    (cond (eqb (get_or line (length line - 1) 0) 10 && begins_with name line) (count_in (part line (length name) (length line - 1 - length name))) Malformed)
+    cond (ltb (length line) (length name + 2)) None
+    (cond (eqb (get_or line (length line - 1) 0) 10 && begins_with name line) (count_in (part line (length name) (length line - 1 - length name))) None)
 
 -- degree, static, fields, states_c, acc_c, states_d, acc_d, nodes, observations
 abbrev pub names : List (List ℕ)
@@ -47,12 +68,12 @@ names =
     ∷ (111 ∷ 98 ∷ 115 ∷ 101 ∷ 114 ∷ 118 ∷ 97 ∷ 116 ∷ 105 ∷ 111 ∷ 110 ∷ 115 ∷ 32 ∷ []) ∷ []
 
 -- the count of a section's header
-unfoldable pub header_of : ℕ → List ℕ → Parsed
-header_of section line = cond (ltb section 9) (header_with (get_or names section []) line) Malformed
+unfoldable pub header_of : ℕ → List ℕ → Option ℕ
+header_of section line = cond (ltb section 9) (header_with (get_or names section []) line) None
 
--- degree and static have one line, which is part of the format: any other count is 11; a count beyond the bounds of another section, however long, is 2
-unfoldable pub outside : ℕ → ℕ
-outside section = cond (ltb section 2) 11 2
+-- degree and static have one line, which is part of the format; a count beyond the bounds of another section, however long, is beyond them
+unfoldable pub outside : ℕ → Fault
+outside section = cond (ltb section 2) Format Bounds
 
 abbrev pub least_counts : List ℕ
 least_counts = 1 ∷ 1 ∷ 2 ∷ 0 ∷ 0 ∷ 0 ∷ 0 ∷ 0 ∷ 0 ∷ []
@@ -60,9 +81,9 @@ least_counts = 1 ∷ 1 ∷ 2 ∷ 0 ∷ 0 ∷ 0 ∷ 0 ∷ 0 ∷ 0 ∷ []
 abbrev pub most_counts : List ℕ
 most_counts = 1 ∷ 1 ∷ 8 ∷ 12000 ∷ 12000 ∷ 12000 ∷ 12000 ∷ 4 ∷ 12000 ∷ []
 
--- the refusal of a section's count, 0 for none
-unfoldable pub count_refusal : ℕ → ℕ → ℕ
-count_refusal section n = cond (leb (get_or least_counts section 0) n && leb n (get_or most_counts section 0)) 0 (outside section)
+-- the refusal of a section's count
+unfoldable pub count_refusal : ℕ → ℕ → Verdict
+count_refusal section n = unless (leb (get_or least_counts section 0) n && leb n (get_or most_counts section 0)) (outside section)
 
 -- ---- rows
 
@@ -86,14 +107,14 @@ unfoldable pub is_row : List ℕ → ℕ → ℕ → Bool
 is_row line at zero = eqb at (length line)
 is_row line at (suc k) = is_term line at (suc k) && is_row line (at + 17) k
 
--- 1 for a degree that is none, 2 for one above the program's bound
-unfoldable pub degree_refusal : ℕ → ℕ
-degree_refusal n = cond (leb 2 n && leb n 180) (cond (leb n 12) 0 2) 1
+-- a degree that is none, and one above the program's bound
+unfoldable pub degree_refusal : ℕ → Verdict
+degree_refusal n = first (unless (leb 2 n && leb n 180) Degree) (unless (leb n 12) Bounds)
 
 -- the degree and the good byte are numbers of their own bounds
-unfoldable pub row_refusal : ℕ → List ℕ → ℕ
+unfoldable pub row_refusal : ℕ → List ℕ → Verdict
 row_refusal section line =
-    cond (eqb section 0) (degree_refusal (bits_of (word_at line 0))) (cond (eqb section 8) (cond (leb (bits_of (word_at line 34)) 255) 0 11) 0)
+    cond (eqb section 0) (degree_refusal (bits_of (word_at line 0))) (cond (eqb section 8) (unless (leb (bits_of (word_at line 34)) 255) Format) (Ok tt))
 
 unfoldable pub degree_after : ℕ → List ℕ → ℕ → ℕ
 degree_after section line degree = cond (eqb section 0) (bits_of (word_at line 0)) degree
@@ -106,75 +127,82 @@ pub record Taken : Type 0 where
   pub numbers : List Float
 
 abbrev pub begun : Reading
-begun = record { section = 0; left = 0; filled = 0; degree = 0; fault = 0 }
-
-abbrev pub refused_by : ℕ → Reading → Reading
-refused_by n r = record { section = r.section; left = r.left; filled = r.filled; degree = r.degree; fault = n }
+begun = record { section = 0; left = 0; filled = 0; degree = 0 }
 
 -- a section with no lines left gives way to the next
 unfoldable pub goes_on : ℕ → ℕ → ℕ → ℕ → Reading
-goes_on section left filled degree = record { section = cond (eqb left 0) (section + 1) section; left = left; filled = filled; degree = degree; fault = 0 }
+goes_on section left filled degree = record { section = cond (eqb left 0) (section + 1) section; left = left; filled = filled; degree = degree }
 
 -- nothing added
 abbrev pub only : Reading → Taken
 only r = record { reading = r; numbers = [] }
 
-abbrev pub unless_fault : ℕ → Reading → Taken → Taken
-unless_fault zero r t = t
-unless_fault (suc n) r t = only (refused_by (suc n) r)
+abbrev pub accepted : Verdict → Taken → Result Taken Fault
+accepted (Ok u) t = Ok t
+accepted (Err f) t = Err f
 
 -- the refusal of a count, with room for so many numbers
-unfoldable pub header_fault : ℕ → ℕ → ℕ → ℕ → ℕ
-header_fault section n filled room = cond (leb (filled + 1) room) (count_refusal section n) 2
+unfoldable pub header_fault : ℕ → ℕ → ℕ → ℕ → Verdict
+header_fault section n filled room = first (unless (leb (filled + 1) room) Bounds) (count_refusal section n)
 
-unfoldable pub announced : ℕ → Reading → ℕ → Taken
+unfoldable pub announced : ℕ → Reading → ℕ → Result Taken Fault
 announced room r n =
-    unless_fault (header_fault r.section n r.filled room) r
+    accepted (header_fault r.section n r.filled room)
     (record { reading = goes_on r.section n (r.filled + 1) r.degree; numbers = of_bits binary64 n ∷ [] })
 
-abbrev pub headed : ℕ → Reading → Parsed → Taken
-headed room r (Value n) = announced room r n
-headed room r Malformed = only (refused_by 11 r)
+abbrev pub headed : ℕ → Reading → Option ℕ → Result Taken Fault
+headed room r (Some n) = announced room r n
+headed room r None = Err Format
 
-unfoldable pub taken_header : ℕ → List ℕ → Reading → Taken
+unfoldable pub taken_header : ℕ → List ℕ → Reading → Result Taken Fault
 taken_header room line r = headed room r (header_of r.section line)
 
-unfoldable pub row_fault : ℕ → ℕ → ℕ → ℕ → List ℕ → ℕ
-row_fault section words filled room line = cond (is_row line 0 words) (cond (leb (filled + words) room) (row_refusal section line) 2) 11
+unfoldable pub row_fault : ℕ → ℕ → ℕ → ℕ → List ℕ → Verdict
+row_fault section words filled room line =
+    first (unless (is_row line 0 words) Format) (first (unless (leb (filled + words) room) Bounds) (row_refusal section line))
 
-unfoldable pub row_taken : ℕ → ℕ → List ℕ → Reading → Taken
+unfoldable pub row_taken : ℕ → ℕ → List ℕ → Reading → Result Taken Fault
 row_taken room words line r =
-    unless_fault (row_fault r.section words r.filled room line) r
+    accepted (row_fault r.section words r.filled room line)
     (record { reading = goes_on r.section (r.left - 1) (r.filled + words) (degree_after r.section line r.degree); numbers = column line 0 words })
 
-unfoldable pub taken_row : ℕ → List ℕ → Reading → Taken
+unfoldable pub taken_row : ℕ → List ℕ → Reading → Result Taken Fault
 taken_row room line r = row_taken room (words_in r.section r.degree) line r
 
-unfoldable pub taken_end : List ℕ → Reading → Reading
+unfoldable pub taken_end : List ℕ → Reading → Result Reading Fault
 taken_end line r =
-    cond (eqb r.section 9 && eqb (length line) 0) (record { section = 10; left = r.left; filled = r.filled; degree = r.degree; fault = 0 })
-    (refused_by 11 r)
+    cond (eqb r.section 9 && eqb (length line) 0) (Ok (record { section = 10; left = r.left; filled = r.filled; degree = r.degree })) (Err Format)
 
--- one more line, with room for so many numbers; the empty line is the end of the text, and after a refusal nothing is taken
-unfoldable pub taken : ℕ → List ℕ → Reading → Taken
-taken room line r =
-    cond (eqb r.fault 0)
-    (cond (ltb 8 r.section) (only (taken_end line r)) (cond (eqb r.left 0) (taken_header room line r) (taken_row room line r)))
-    (only r)
+abbrev pub ended : Result Reading Fault → Result Taken Fault
+ended (Ok r) = Ok (only r)
+ended (Err f) = Err f
 
--- one line after another
-unfoldable pub read_of : ℕ → List (List ℕ) → Reading → Taken
-read_of room [] r = only r
-read_of room (line ∷ lines) r =
-    record {
-      reading = (read_of room lines (taken room line r).reading).reading;
-      numbers = (taken room line r).numbers ++ (read_of room lines (taken room line r).reading).numbers;
-    }
+-- one more line, with room for so many numbers; the empty line is the end of the text
+unfoldable pub taken : ℕ → List ℕ → Reading → Result Taken Fault
+taken room line r = cond (ltb 8 r.section) (ended (taken_end line r)) (cond (eqb r.left 0) (taken_header room line r) (taken_row room line r))
 
--- the numbers go behind those read before
-pub record Fed (t : Taken) (filled : ℕ) (before : List Float) (r : Reading) (after : List Float) : Type 0 where
-  pub reading : r ≡ t.reading
-  pub numbers : take r.filled after ≡ take filled before ++ t.numbers
+-- what was read, behind the numbers read before
+abbrev pub behind : List Float → Result Taken Fault → Result Taken Fault
+behind numbers (Ok t) = Ok (record { reading = t.reading; numbers = numbers ++ t.numbers })
+behind numbers (Err f) = Err f
+
+-- one line after another, to the first that is refused
+unfoldable pub read_of : ℕ → List (List ℕ) → Reading → Result Taken Fault
+read_of room [] r = Ok (only r)
+read_of room (line ∷ lines) r = elim (taken room line r) [ Ok t ↦ behind t.numbers (read_of room lines t.reading) | Err f ↦ Err f ]
+
+abbrev pub reading_of : Result Taken Fault → Result Reading Fault
+reading_of (Ok t) = Ok t.reading
+reading_of (Err f) = Err f
+
+-- the numbers go behind those read before; a refusal leaves all as they were
+abbrev pub Added : Result Taken Fault → ℕ → List Float → List Float → Type 0
+Added (Ok t) filled before after = take t.reading.filled after ≡ take filled before ++ t.numbers
+Added (Err f) filled before after = after ≡ before
+
+pub record Fed (t : Result Taken Fault) (filled : ℕ) (before : List Float) (r : Result Reading Fault) (after : List Float) : Type 0 where
+  pub reading : r ≡ reading_of t
+  pub numbers : Added t filled before after
 
 -- the bytes of the next line, 0 for a header; 1 after the last section, where a byte that is still there makes the text malformed
 unfoldable pub line_length : Reading → ℕ

@@ -2,49 +2,59 @@
 // the numbers of the lines in order: of each section its count, and then its words as the doubles of those bits.
 #![tactic(auto)]
 
-ghost use Rattle.std.specs.Prelude.{◌≡◌, ◌+◌, ◌*◌, ◌≤◌, ◌<◌, length, leb};
-ghost use Rattle.hexadecimal.specs.Digits.{is_digit, word_at, is_word, bits_of, float_at};
-ghost use Rattle.laws.specs.Checks.{all};
-ghost use Rattle.submission_text.specs.Text.{column, long_count, count_in, begins_with, header_with, header_of, coefficients, words_in, outside};
-ghost use Rattle.submission_text.specs.Text.{count_refusal, separator, is_term, is_row, degree_refusal, row_refusal, degree_after, row_fault};
-ghost use Rattle.submission_text.specs.Text.{header_fault, begun, refused_by, goes_on, announced, taken_header, taken_row, taken_end, taken};
+ghost use Rattle.std.specs.Prelude.{◌≡◌, ◌+◌, ◌≤◌, ◌<◌, length, leb};
+ghost use Rattle.hexadecimal.specs.Digits.{is_digit, word_at, bits_of, float_at};
+ghost use Rattle.std.specs.List.{list_all};
+ghost use Rattle.submission_text.specs.Text.{column, count_in, header_with, header_of, coefficients, words_in, outside};
+ghost use Rattle.submission_text.specs.Text.{unless as unless_of, count_refusal, separator, is_term, is_row, degree_refusal, row_refusal, degree_after, row_fault};
+ghost use Rattle.submission_text.specs.Text.{number_of, header_fault, begun, goes_on, announced, taken_header, taken_row, taken_end, taken};
 ghost use Rattle.submission_text.specs.Text.{line_length, Fed};
 
 use hexadecimal;
-use slices;
+
+// Why a text is refused.
+#[derive(Clone, Copy, Debug, PartialEq, Eq)]
+pub enum Fault {
+    // The degree is not from 2 to 180.
+    Degree,
+    // There is no room for so much.
+    Bounds,
+    // The text is not in the format of a submission.
+    Format,
+}
+
+// The number that is answered.
+impl From<Fault> for u8 {
+    ghost from_gives = { λ f n. n ≡ number_of f };
+
+    fn from(fault: Fault) -> u8 {
+        match fault {
+            Fault::Degree => 1,
+            Fault::Bounds => 2,
+            Fault::Format => 11,
+        }
+    }
+}
 
 // How far a text has been read: in which section (9 where all are read, 10 where the text then ended), how many of its lines are still to come (none: its
-// header), how many numbers were read, the degree, and the refusal, 0 for none.
+// header), how many numbers were read, and the degree.
+// A section is a number, as the sections follow one another and their tables are indexed by it.
 #[derive(Clone, Copy)]
 pub struct Reading {
     pub section: usize,
     pub left: usize,
     pub filled: usize,
     pub degree: usize,
-    pub fault: u8,
 }
 
 // The number that stands at `at`, 0 where none does.
 fn number_at(text: &[u8], at: usize) -> u64
     ensures { result ≡ bits_of (word_at text.now at) }
 {
-    let word = hexadecimal::word(text, at);
-    match word {
-        hexadecimal::Parsed::Value(n) => n,
-        hexadecimal::Parsed::Malformed => 0,
-    }
+    hexadecimal::word(text, at).unwrap_or(0)
 }
 
-fn is_word(text: &[u8], at: usize) -> bool
-    ensures { result ≡ is_word (word_at text.now at) }
-{
-    let word = hexadecimal::word(text, at);
-    match word {
-        hexadecimal::Parsed::Value(_) => true,
-        hexadecimal::Parsed::Malformed => false,
-    }
-}
-
+#[tactic(auto, unfolding(hexadecimal::specs::Digits::float_at))]
 fn float_at(text: &[u8], at: usize) -> f64
     ensures { result ≡ float_at text.now at }
 {
@@ -53,78 +63,50 @@ fn float_at(text: &[u8], at: usize) -> f64
 
 // ---- headers
 
-fn is_decimal(b: u8) -> bool
-    ensures { result ≡ is_digit 10 b }
-{
-    hexadecimal::digit(b) < 10
-}
-
+#[tactic(auto, using(std::proofs::lemmas::Bool::Decides::nat_tests), unfolding(hexadecimal::specs::Digits::is_digit, hexadecimal::specs::Digits::digit_of))]
 fn digits_only(text: &[u8]) -> bool
-    ensures { result ≡ all (is_digit 10) text.now }
+    ensures { result ≡ list_all (is_digit 10) text.now }
 {
-    let mut i = 0;
-    while i < text.len() {
-        if !is_decimal(text[i]) {
-            return false;
-        }
-        i += 1;
-    }
-    true
+    text.iter().all(|b| b.is_ascii_digit())
 }
 
-// A count of more digits than any bound has.
-fn long_count(ok: bool) -> hexadecimal::Parsed
-    ensures { result ≡ long_count ok }
-{
-    if ok {
-        hexadecimal::Parsed::Value(1000000000000000000)
-    } else {
-        hexadecimal::Parsed::Malformed
-    }
-}
-
-fn count_in(digits: &[u8]) -> hexadecimal::Parsed
+#[tactic(auto, using(std::proofs::lemmas::Bool::Decides::nat_tests), unfolding(crate::specs::Text::count_in))]
+fn count_in(digits: &[u8]) -> Option<u64>
     ensures { result ≡ count_in digits.now }
 {
     let n = digits.len();
     if n < 19 {
         return hexadecimal::decimal(digits, 0, n);
     }
-    long_count(slices::both(digits[0] != 48, digits_only(digits)))
-}
-
-fn begins(line: &[u8], name: &[u8]) -> bool
-    requires { length name.now ≤ length line.now }
-    ensures { result ≡ begins_with name.now line.now }
-{
-    let mut i = 0;
-    while i < name.len() {
-        if line[i] != name[i] {
-            return false;
-        }
-        i += 1;
+    // More digits than any bound has.
+    if digits[0] != b'0' && digits_only(digits) {
+        Some(1000000000000000000)
+    } else {
+        None
     }
-    true
 }
 
 // The count of a header whose name, with the space after it, is given.
-fn header(line: &[u8], name: &[u8]) -> hexadecimal::Parsed
+#[tactic(auto, using(std::proofs::lemmas::Bool::Decides::nat_tests, crate::proofs::ReadLines::begins_is), unfolding(crate::specs::Text::header_with))]
+fn header(line: &[u8], name: &[u8]) -> Option<u64>
     requires { length name.now < 100 }
     ensures { result ≡ header_with name.now line.now }
 {
     let at = name.len();
     if line.len() < at + 2 {
-        return hexadecimal::Parsed::Malformed;
+        return None;
     }
     let last = line.len() - 1;
-    if slices::both(line[last] == 10, begins(line, name)) {
-        return count_in(&line[at..last]);
+    if line[last] == b'\n' && line.starts_with(name) {
+        count_in(&line[at..last])
+    } else {
+        None
     }
-    hexadecimal::Parsed::Malformed
 }
 
 // The count of the header of a section.
-fn header_of(section: usize, line: &[u8]) -> hexadecimal::Parsed
+#[tactic(auto, using(std::proofs::lemmas::Bool::Decides::nat_tests), unfolding(crate::specs::Text::header_of))]
+fn header_of(section: usize, line: &[u8]) -> Option<u64>
     ensures { result ≡ header_of section line.now }
 {
     match section {
@@ -137,30 +119,42 @@ fn header_of(section: usize, line: &[u8]) -> hexadecimal::Parsed
         6 => header(line, b"acc_d "),
         7 => header(line, b"nodes "),
         8 => header(line, b"observations "),
-        _ => hexadecimal::Parsed::Malformed,
+        _ => None,
     }
 }
 
-fn outside(section: usize) -> u8
+#[tactic(auto, using(std::proofs::lemmas::Bool::Decides::nat_tests), unfolding(crate::specs::Text::outside))]
+fn outside(section: usize) -> Fault
     ensures { result ≡ outside section }
 {
-    if section < 2 { 11 } else { 2 }
+    if section < 2 {
+        Fault::Format
+    } else {
+        Fault::Bounds
+    }
+}
+
+fn unless(passes: bool, fault: Fault) -> Result<(), Fault>
+    ensures { result ≡ unless_of passes fault }
+{
+    if passes { Ok(()) } else { Err(fault) }
 }
 
 // The refusal of a section's count.
-fn count_refusal(section: usize, n: u64) -> u8
+#[tactic(auto, using(std::proofs::lemmas::Bool::Decides::nat_tests), unfolding(crate::specs::Text::count_refusal))]
+fn count_refusal(section: usize, n: u64) -> Result<(), Fault>
     requires { section < 9 }
     ensures { result ≡ count_refusal section n }
 {
     let least: [u64; 9] = [1, 1, 2, 0, 0, 0, 0, 0, 0];
     let most: [u64; 9] = [1, 1, 8, 12000, 12000, 12000, 12000, 4, 12000];
-    let fits = slices::both(least[section] <= n, n <= most[section]);
-    slices::unless(fits, outside(section), 0)
+    unless(least[section] <= n && n <= most[section], outside(section))
 }
 
 // ---- rows
 
 // How many coefficients a field has, all C and all S.
+#[tactic(auto, using(std::proofs::lemmas::Bool::Decides::nat_tests), unfolding(crate::specs::Text::coefficients))]
 pub fn coefficients(degree: usize) -> usize
     ensures { (result ≡ coefficients degree) × (result ≤ 182) }
 {
@@ -172,6 +166,7 @@ pub fn coefficients(degree: usize) -> usize
 }
 
 // How many words a line of a section has.
+#[tactic(auto, using(std::proofs::lemmas::Bool::Decides::nat_tests), unfolding(crate::specs::Text::words_in))]
 fn words_in(section: usize, degree: usize) -> usize
     requires { section < 9 }
     ensures { (result ≡ words_in section degree) × (result ≤ 185) }
@@ -182,74 +177,67 @@ fn words_in(section: usize, degree: usize) -> usize
 }
 
 // What stands behind a word when so many words are left, itself among them.
+#[tactic(auto, using(std::proofs::lemmas::Bool::Decides::nat_tests), unfolding(crate::specs::Text::separator))]
 fn separator(left: usize) -> u8
     ensures { result ≡ separator left }
 {
-    if left == 1 { 10 } else { 32 }
+    if left == 1 { b'\n' } else { b' ' }
 }
 
+#[tactic(auto, using(std::proofs::lemmas::Bool::Decides::nat_tests), unfolding(crate::specs::Text::is_term, crate::specs::Text::separator))]
 fn is_term(line: &[u8], at: usize, left: usize) -> bool
     requires { at < 1000000 }
     ensures { result ≡ is_term line.now at left }
 {
     let end = at + 16;
-    if line.len() <= end {
-        return false;
-    }
-    slices::both(is_word(line, at), line[end] == separator(left))
+    end < line.len() && hexadecimal::word(line, at).is_some() && line[end] == separator(left)
 }
 
 // Whether a line is so many words with single spaces between them, and a line feed.
+#[tactic(auto, using(crate::proofs::ReadLines::row_bad, crate::proofs::ReadLines::row_goes), unfolding(crate::specs::Text::is_row))]
 fn is_row(line: &[u8], words: usize) -> bool
     requires { words ≤ 185 }
     ensures { result ≡ is_row line.now 0 words }
 {
-    let mut left = words;
-    let mut at: usize = 0;
-    while 0 < left {
-        if !is_term(line, at, left) {
+    for k in 0..words {
+        if !is_term(line, 17 * k, words - k) {
             return false;
         }
-        left -= 1;
-        at += 17;
     }
-    at == line.len()
+    17 * words == line.len()
 }
 
+#[tactic(auto, using(crate::proofs::ReadLines::column_turn, crate::proofs::ReadLines::column_done))]
 fn fill_row(line: &[u8], out: &mut [f64])
     requires { length out.old ≤ 185 }
     ensures { out.new ≡ column line.now 0 (length out.old) }
 {
-    let mut k = 0;
-    while k < out.len() {
+    for k in 0..out.len() {
         out[k] = float_at(line, 17 * k);
-        k += 1;
     }
 }
 
-fn degree_refusal(n: u64) -> u8
+#[tactic(auto, using(std::proofs::lemmas::Bool::Decides::nat_tests), unfolding(crate::specs::Text::degree_refusal))]
+fn degree_refusal(n: u64) -> Result<(), Fault>
     ensures { result ≡ degree_refusal n }
 {
-    slices::unless(
-        slices::both(2 <= n, n <= 180),
-        1,
-        slices::unless(n <= 12, 2, 0),
-    )
+    unless(2 <= n && n <= 180, Fault::Degree)?;
+    unless(n <= 12, Fault::Bounds)
 }
 
 // What a row's words must be beside words: the degree, and the good byte of an observation.
-fn row_refusal(section: usize, line: &[u8]) -> u8
+#[tactic(auto, using(std::proofs::lemmas::Bool::Decides::nat_tests), unfolding(crate::specs::Text::row_refusal))]
+fn row_refusal(section: usize, line: &[u8]) -> Result<(), Fault>
     ensures { result ≡ row_refusal section line.now }
 {
-    if section == 0 {
-        return degree_refusal(number_at(line, 0));
+    match section {
+        0 => degree_refusal(number_at(line, 0)),
+        8 => unless(number_at(line, 34) <= 255, Fault::Format),
+        _ => Ok(()),
     }
-    if section == 8 {
-        return slices::unless(number_at(line, 34) <= 255, 11, 0);
-    }
-    0
 }
 
+#[tactic(auto, using(std::proofs::lemmas::Bool::Decides::nat_tests), unfolding(crate::specs::Text::degree_after))]
 fn degree_after(section: usize, line: &[u8], degree: usize) -> usize
     ensures { result ≡ degree_after section line.now degree }
 {
@@ -262,28 +250,32 @@ fn degree_after(section: usize, line: &[u8], degree: usize) -> usize
 fn has_room(filled: usize, more: usize, room: usize) -> bool
     ensures { result ≡ leb (filled + more) room }
 {
-    if room < more {
-        return false;
-    }
-    filled <= room - more
+    more <= room && filled <= room - more
 }
 
-fn row_fault(section: usize, words: usize, filled: usize, room: usize, line: &[u8]) -> u8
+#[tactic(auto, using(std::proofs::lemmas::Bool::Decides::nat_tests), unfolding(crate::specs::Text::row_fault))]
+fn row_fault(
+    section: usize,
+    words: usize,
+    filled: usize,
+    room: usize,
+    line: &[u8],
+) -> Result<(), Fault>
     requires { words ≤ 185 }
     ensures { result ≡ row_fault section words filled room line.now }
 {
-    slices::unless(
-        is_row(line, words),
-        11,
-        slices::unless(has_room(filled, words, room), 2, row_refusal(section, line)),
-    )
+    unless(is_row(line, words), Fault::Format)?;
+    unless(has_room(filled, words, room), Fault::Bounds)?;
+    row_refusal(section, line)
 }
 
-fn header_fault(section: usize, n: u64, filled: usize, room: usize) -> u8
+#[tactic(auto, using(std::proofs::lemmas::Bool::Decides::nat_tests), unfolding(crate::specs::Text::header_fault))]
+fn header_fault(section: usize, n: u64, filled: usize, room: usize) -> Result<(), Fault>
     requires { section < 9 }
     ensures { result ≡ header_fault section n filled room }
 {
-    slices::unless(has_room(filled, 1, room), 2, count_refusal(section, n))
+    unless(has_room(filled, 1, room), Fault::Bounds)?;
+    count_refusal(section, n)
 }
 
 // ---- lines
@@ -297,127 +289,86 @@ pub fn start() -> Reading
         left: 0,
         filled: 0,
         degree: 0,
-        fault: 0,
-    }
-}
-
-fn refused(reading: Reading, n: u8) -> Reading
-    ensures { result ≡ refused_by n reading }
-{
-    Reading {
-        section: reading.section,
-        left: reading.left,
-        filled: reading.filled,
-        degree: reading.degree,
-        fault: n,
     }
 }
 
 // A section with no lines left gives way to the next.
+#[tactic(auto, using(std::proofs::lemmas::Bool::Decides::nat_tests), unfolding(crate::specs::Text::goes_on))]
 fn goes_on(section: usize, left: usize, filled: usize, degree: usize) -> Reading
     requires { section < 9 }
     ensures { result ≡ goes_on section left filled degree }
 {
-    if left == 0 {
-        Reading {
-            section: section + 1,
-            left,
-            filled,
-            degree,
-            fault: 0,
-        }
-    } else {
-        Reading {
-            section,
-            left,
-            filled,
-            degree,
-            fault: 0,
-        }
+    Reading {
+        section: if left == 0 { section + 1 } else { section },
+        left,
+        filled,
+        degree,
     }
 }
 
-fn take_count(n: u64, reading: Reading, numbers: &mut [f64]) -> Reading
+#[tactic(auto, using(crate::proofs::ReadLines::count_room, crate::proofs::ReadLines::count_refused, crate::proofs::ReadLines::count_taken))]
+fn take_count(n: u64, reading: Reading, numbers: &mut [f64]) -> Result<Reading, Fault>
     requires { reading.section < 9 }
     ensures { Fed (announced (length numbers.old) reading n) reading.filled numbers.old result numbers.new }
 {
-    let section = reading.section;
     let at = reading.filled;
-    let degree = reading.degree;
-    let fault = header_fault(section, n, at, numbers.len());
-    if fault != 0 {
-        return refused(reading, fault);
-    }
+    header_fault(reading.section, n, at, numbers.len())?;
     numbers[at] = hexadecimal::float(n);
-    goes_on(section, n as usize, at + 1, degree)
+    Ok(goes_on(reading.section, n as usize, at + 1, reading.degree))
 }
 
-fn take_header(line: &[u8], reading: Reading, numbers: &mut [f64]) -> Reading
+#[tactic(auto, unfolding(crate::specs::Text::taken_header))]
+fn take_header(line: &[u8], reading: Reading, numbers: &mut [f64]) -> Result<Reading, Fault>
     requires { reading.section < 9 }
     ensures { Fed (taken_header (length numbers.old) line.now reading) reading.filled numbers.old result
         numbers.new }
 {
-    let section = reading.section;
-    let head = header_of(section, line);
-    match head {
-        hexadecimal::Parsed::Value(n) => take_count(n, reading, numbers),
-        hexadecimal::Parsed::Malformed => refused(reading, 11),
+    match header_of(reading.section, line) {
+        Some(n) => take_count(n, reading, numbers),
+        None => Err(Fault::Format),
     }
 }
 
-fn take_row(line: &[u8], reading: Reading, numbers: &mut [f64]) -> Reading
+#[tactic(auto, using(crate::proofs::ReadLines::row_room, crate::proofs::ReadLines::row_refused, crate::proofs::ReadLines::row_added))]
+fn take_row(line: &[u8], reading: Reading, numbers: &mut [f64]) -> Result<Reading, Fault>
     requires { (reading.section < 9) × (0 < reading.left) }
     ensures { Fed (taken_row (length numbers.old) line.now reading) reading.filled numbers.old result
         numbers.new }
 {
     let section = reading.section;
-    let left = reading.left;
     let at = reading.filled;
-    let degree = reading.degree;
-    let k = words_in(section, degree);
-    let fault = row_fault(section, k, at, numbers.len(), line);
-    if fault != 0 {
-        return refused(reading, fault);
-    }
-    let end = at + k;
+    let words = words_in(section, reading.degree);
+    row_fault(section, words, at, numbers.len(), line)?;
+    let end = at + words;
     fill_row(line, &mut numbers[at..end]);
-    goes_on(section, left - 1, end, degree_after(section, line, degree))
+    let degree = degree_after(section, line, reading.degree);
+    Ok(goes_on(section, reading.left - 1, end, degree))
 }
 
 // Behind the last section the text must end.
-fn take_end(line: &[u8], reading: Reading) -> Reading
+#[tactic(auto, using(std::proofs::lemmas::Bool::Decides::nat_tests), unfolding(crate::specs::Text::taken_end))]
+fn take_end(line: &[u8], reading: Reading) -> Result<Reading, Fault>
     ensures { result ≡ taken_end line.now reading }
 {
-    let section = reading.section;
-    if section != 9 {
-        return refused(reading, 11);
-    }
-    if line.len() != 0 {
-        return refused(reading, 11);
-    }
-    Reading {
-        section: 10,
-        left: reading.left,
-        filled: reading.filled,
-        degree: reading.degree,
-        fault: 0,
+    if reading.section == 9 && line.is_empty() {
+        Ok(Reading {
+            section: 10,
+            ..reading
+        })
+    } else {
+        Err(Fault::Format)
     }
 }
 
-// Takes one line, the empty one at the end of the text. After a refusal nothing is taken.
-pub fn feed(line: &[u8], reading: Reading, numbers: &mut [f64]) -> Reading
+// Takes one line, the empty one at the end of the text. A refusal leaves the numbers as they were.
+#[tactic(auto, using(std::proofs::lemmas::Bool::Decides::nat_tests, crate::proofs::ReadLines::end_taken), unfolding(crate::specs::Text::taken))]
+pub fn feed(line: &[u8], reading: Reading, numbers: &mut [f64]) -> Result<Reading, Fault>
     ensures { Fed (taken (length numbers.old) line.now reading) reading.filled numbers.old result numbers.new }
 {
-    let section = reading.section;
-    let left = reading.left;
-    let fault = reading.fault;
-    if fault != 0 {
-        return reading;
-    }
-    if 8 < section {
+    if 8 < reading.section {
         return take_end(line, reading);
     }
-    if left == 0 {
+    if reading.left == 0 {
         return take_header(line, reading, numbers);
     }
     take_row(line, reading, numbers)
@@ -425,17 +376,15 @@ pub fn feed(line: &[u8], reading: Reading, numbers: &mut [f64]) -> Reading
 
 // How many bytes the next line has if it is in the format; 0 for a header, which ends with its line feed; 1 after the last
 // section, so that the caller tries for one more byte and sees whether the text has ended.
+#[tactic(auto, using(std::proofs::lemmas::Bool::Decides::nat_tests), unfolding(crate::specs::Text::line_length))]
 pub fn line_length(reading: Reading) -> usize
     ensures { (result ≡ line_length reading) × (result ≤ 3145) }
 {
-    let section = reading.section;
-    let left = reading.left;
-    let degree = reading.degree;
-    if 8 < section {
+    if 8 < reading.section {
         return 1;
     }
-    if left == 0 {
+    if reading.left == 0 {
         return 0;
     }
-    17 * words_in(section, degree)
+    17 * words_in(reading.section, reading.degree)
 }

@@ -42,14 +42,10 @@ term amplitude l lp f d = amplitude ∷ l ∷ lp ∷ f ∷ d ∷ []
 unfoldable pub angle : Arguments → List Float → Float
 angle a r = get_or r 1 nan ⊗ a.l ⊕ get_or r 2 nan ⊗ a.lp ⊕ get_or r 3 nan ⊗ a.f ⊕ get_or r 4 nan ⊗ a.d
 
--- a start, and amplitude · sin (angle) of each term added in order
-unfoldable pub sine_terms : Arguments → Float → List (List Float) → Float
-sine_terms a start [] = start
-sine_terms a start (r ∷ rs) = sine_terms a (start ⊕ get_or r 0 nan ⊗ sine (angle a r)) rs
-
-unfoldable pub cosine_terms : Arguments → Float → List (List Float) → Float
-cosine_terms a start [] = start
-cosine_terms a start (r ∷ rs) = cosine_terms a (start ⊕ get_or r 0 nan ⊗ cosine (angle a r)) rs
+-- a start, and amplitude · wave (angle) of each term added in order
+unfoldable pub series : (Float → Float) → Arguments → Float → List (List Float) → Float
+series wave a start [] = start
+series wave a start (r ∷ rs) = series wave a (start ⊕ get_or r 0 nan ⊗ wave (angle a r)) rs
 
 -- arcseconds; the first term, 22640 · sin l, stands before the table
 unfoldable pub longitude_terms : List (List Float)
@@ -70,7 +66,7 @@ longitude_terms =
     ∷ []
 
 unfoldable pub longitude : Arguments → Float
-longitude a = a.l0 ⊕ sine_terms a (number 22640 ⊗ sine a.l) longitude_terms ⊗ arcsecond
+longitude a = a.l0 ⊕ series sine a (number 22640 ⊗ sine a.l) longitude_terms ⊗ arcsecond
 
 -- arcseconds, after the first term
 unfoldable pub latitude_terms : List (List Float)
@@ -88,7 +84,7 @@ latitude_terms =
 unfoldable pub latitude : Arguments → Float → Float
 latitude a lambda =
     let inner = (number 412 ⊗ sine (number 2 ⊗ a.f) ⊕ number 541 ⊗ sine a.lp) ⊗ arcsecond in
-    sine_terms a (number 18520 ⊗ sine (a.f ⊕ lambda ⊖ a.l0 ⊕ inner)) latitude_terms ⊗ arcsecond
+    series sine a (number 18520 ⊗ sine (a.f ⊕ lambda ⊖ a.l0 ⊕ inner)) latitude_terms ⊗ arcsecond
 
 -- kilometres, after 385000
 unfoldable pub distance_terms : List (List Float)
@@ -104,7 +100,7 @@ distance_terms =
     ∷ []
 
 unfoldable pub distance : Arguments → Float
-distance a = cosine_terms a (number 385000) distance_terms ⊗ number 1000
+distance a = series cosine a (number 385000) distance_terms ⊗ number 1000
 
 -- ---- axes
 

@@ -1,12 +1,11 @@
 // Where the Sun and the Moon are: the low-precision series of Montenbruck and Gill (2000, §3.3.2).
-ghost use Rattle.std.specs.Prelude.{◌≡◌, ◌<◌, length};
-ghost use Rattle.sun_moon.specs.SunMoon.{centuries, arguments, angle, sine_terms, cosine_terms, longitude, latitude, distance, equatorial, sun};
+ghost use Rattle.std.specs.Prelude.{◌≡◌, Float};
+ghost use Rattle.sun_moon.specs.SunMoon.{centuries, arguments, angle, series, longitude, latitude, distance, equatorial, sun};
 ghost use Rattle.sun_moon.specs.SunMoon.{moon, sidereal, turned, sun_moon};
 
 use numbers;
+use std::f64::consts::PI;
 use vectors;
-
-const PI: f64 = 3.141592653589793;
 
 // A term of a series: its amplitude, and the multiples of l, l', F and D in its angle.
 const LONGITUDE: [[f64; 5]; 13] = [
@@ -75,35 +74,21 @@ fn arguments_at(tc: f64) -> Arguments
     }
 }
 
+#[tactic(auto, unfolding(crate::specs::SunMoon::angle))]
 fn angle(a: Arguments, term: [f64; 5]) -> f64
     ensures { result ≡ angle a term }
 {
     term[1] * a.l + term[2] * a.lp + term[3] * a.f + term[4] * a.d
 }
 
-// `start`, with amplitude times sine of the angle of each term added in order.
-fn sine_terms(a: Arguments, start: f64, terms: &[[f64; 5]]) -> f64
-    ensures { result ≡ sine_terms a start terms.now }
+// `start`, with amplitude times sine or cosine (`wave`) of the angle of each term added in order.
+fn series<F: Fn(f64) -> f64>(a: Arguments, start: f64, terms: &[[f64; 5]], wave: F) -> f64
+    requires { F.IsAlwaysCallable wave }
+    ensures { (g : Float → Float) → ((x y : Float) → F.post wave x y → y ≡ g x) → result ≡ series g a start terms.now }
 {
     let mut sum = start;
-    let mut i = 0;
-    while i < terms.len() {
-        let term = terms[i];
-        sum += term[0] * numbers::sine(angle(a, term));
-        i += 1;
-    }
-    sum
-}
-
-fn cosine_terms(a: Arguments, start: f64, terms: &[[f64; 5]]) -> f64
-    ensures { result ≡ cosine_terms a start terms.now }
-{
-    let mut sum = start;
-    let mut i = 0;
-    while i < terms.len() {
-        let term = terms[i];
-        sum += term[0] * numbers::cosine(angle(a, term));
-        i += 1;
+    for term in terms {
+        sum += term[0] * wave(angle(a, *term));
     }
     sum
 }
@@ -112,7 +97,7 @@ fn longitude(a: Arguments) -> f64
     ensures { result ≡ longitude a }
 {
     let second = PI / (180.0 * 3600.0);
-    a.l0 + sine_terms(a, 22640.0 * numbers::sine(a.l), &LONGITUDE) * second
+    a.l0 + series(a, 22640.0 * numbers::sine(a.l), &LONGITUDE, numbers::sine) * second
 }
 
 fn latitude(a: Arguments, lambda: f64) -> f64
@@ -120,17 +105,18 @@ fn latitude(a: Arguments, lambda: f64) -> f64
 {
     let second = PI / (180.0 * 3600.0);
     let flattened = (412.0 * numbers::sine(2.0 * a.f) + 541.0 * numbers::sine(a.lp)) * second;
-    sine_terms(
+    series(
         a,
         18520.0 * numbers::sine(a.f + lambda - a.l0 + flattened),
         &LATITUDE,
+        numbers::sine,
     ) * second
 }
 
 fn distance(a: Arguments) -> f64
     ensures { result ≡ distance a }
 {
-    cosine_terms(a, 385000.0, &DISTANCE) * 1e3
+    series(a, 385000.0, &DISTANCE, numbers::cosine) * 1e3
 }
 
 // From ecliptic longitude, latitude and distance to equatorial axes.
@@ -165,6 +151,7 @@ fn sun(tc: f64) -> vectors::Vector
     )
 }
 
+#[tactic(auto, unfolding(crate::specs::SunMoon::moon))]
 fn moon(tc: f64) -> vectors::Vector
     ensures { result ≡ moon tc }
 {
@@ -181,6 +168,7 @@ fn sidereal(t: f64) -> f64
 }
 
 // The axes turned by an angle of the given sine and cosine.
+#[tactic(auto, unfolding(crate::specs::SunMoon::turned))]
 fn turned(v: vectors::Vector, g: numbers::SineCosine) -> vectors::Vector
     ensures { result ≡ turned v g }
 {
@@ -191,6 +179,7 @@ fn turned(v: vectors::Vector, g: numbers::SineCosine) -> vectors::Vector
     }
 }
 
+#[tactic(auto, unfolding(crate::specs::SunMoon::sun_moon))]
 pub fn sun_moon(t: f64) -> crate::SunMoon
     ensures { result ≡ sun_moon t }
 {

@@ -1,13 +1,16 @@
 -- Laws of the windows' slots: what one window leaves, and that the slots before it stay. Assumes nothing.
+use Rattle.slices.specs.declared.refusal.Refusal.{Refusal}
+use Rattle.std.specs.Prelude.{Err, Ok, Option}
 use Rattle.std.proofs.Common.{◌≡◌, ℕ, zero, suc, ◌+◌, ◌-◌, ◌*◌, ◌/◌, ◌<◌, ◌≤◌, Bool, true, false, ◌&&◌, T, eqb, leb, List, [], ◌∷◌, length, get_or, set, ℤ, sym, refl, ap, ◌∙◌, subst, arith, eqb→eq, leb→le, get_or-set_other, get_or-set_same, eq-eqb, eqb-true, le-leb}
 use mathlib.Core.Bool.{false≢true}
 use lib.Ieee.{Float, nan, lt}
 use lib.Ieee.Fits.{and_l, and_r}
 use lib.Ieee.Bits.{is_true}
-use borrow.Author.Tests.{lt-leb, eqb-false}
+use borrow.Author.Tests.{eqb-false}
 use Rattle.inputs.specs.Inputs.{window_room, slot_room, fit_room, front_size}
 use Rattle.laws.specs.Floats.{◌⊖◌}
-use Rattle.laws.specs.Checks.{all, is_time, rising, rising_seconds, time_says}
+use Rattle.std.specs.List.{list_all}
+use Rattle.laws.specs.Checks.{is_time, rising, rising_seconds, time_says}
 use Rattle.laws.specs.Order.{lt→le}
 use Rattle.laws.specs.WholeNumbers.{number}
 use Rattle.laws.specs.Bools.{by}
@@ -19,11 +22,8 @@ use Rattle.vectors.specs.declared.Vector.{Vector}
 use Rattle.integrate.specs.Room.{Run, Holds3, Orbit}
 use Rattle.integrate.specs.declared.kernel.State.{State}
 use Rattle.integrate.specs.declared.kernel.Arc.{Arc as ArcStruct}
-use Rattle.fit.specs.Fit.{fit_of, orbit_of}
+use Rattle.fit.specs.Fit.{Fit, fit_of, orbit_of}
 use Rattle.fit.specs.WorkLeaves.{arc_serves, Fits, ArcFit}
-use Rattle.fit.specs.declared.kernel.Held.{Held}
-use Rattle.fit.specs.declared.kernel.Fitted.{Fitted}
-use Rattle.fit.specs.declared.kernel.Fitted.TheVariants.{Fitted as Rms, Refused}
 use Rattle.windows.specs.Stage.{arc_struct, states_of}
 use Rattle.windows.specs.Slots.{nth, Entries, Slot, Keeps}
 use Rattle.windows.specs.Windows.{window_by, room_for, windows_serve, Leaves, Windowed, Ends, Filled, WindowsFit}
@@ -68,7 +68,7 @@ inside_few a b e short t0 n et en run =
     subst (λ (t : Float). length (inside t a b 0 (row run (n + 1))) ≤ 3500) (sym et)
     (states_short a b e.from e.to (lt→le a b e.order) short 0 (row run (n + 1)) (let h = row_length run (n + 1) in omega (arith, h, en)))
 
-module _ (covered : Float → Bool) (full : Float → Vector → Vector) (look : Float → Held) (a b : Float) (ends : Ends a b) where
+module _ (covered : Float → Bool) (full : Float → Vector → Vector) (look : Float → Option State) (a b : Float) (ends : Ends a b) where
   abbrev arc : ArcStruct
   arc = arc_struct (arc_of a b)
 
@@ -88,11 +88,11 @@ module _ (covered : Float → Bool) (full : Float → Vector → Vector) (look :
       none : window_by covered full look a b ≡ []
       none = rw e refl
 
-  short_table : T (lt (b ⊖ a) longest) → (answer : Fitted) → answer ≡ fit_of covered full look arc → table ≡ inside (start a) a b 0 (states_of answer (orbit_of full look arc) (steps a b))
+  short_table : T (lt (b ⊖ a) longest) → (answer : Fit) → answer ≡ fit_of covered full look arc → table ≡ inside (start a) a b 0 (states_of answer (orbit_of full look arc) (steps a b))
   unfolding window_by
-  short_table short answer e = rw (is_true (lt (b ⊖ a) longest) short) (ap (λ (x : Fitted). inside (start a) a b 0 (states_of x (orbit_of full look arc) (steps a b))) (sym e))
+  short_table short answer e = rw (is_true (lt (b ⊖ a) longest) short) (ap (λ (x : Fit). inside (start a) a b 0 (states_of x (orbit_of full look arc) (steps a b))) (sym e))
 
-  pub fits_of : (N n : ℕ) (keys : List ℤ) (states : ℕ) (s s₁ : List Float) (base : ℕ) (t0 : Float) (answer : Fitted) → t0 ≡ start a → n ≡ steps a b →
+  pub fits_of : (N n : ℕ) (keys : List ℤ) (states : ℕ) (s s₁ : List Float) (base : ℕ) (t0 : Float) (answer : Fit) → t0 ≡ start a → n ≡ steps a b →
       N ≤ 180 → n ≤ 5302 → states ≡ 6 * length keys → base ≡ front_size N → base + work_size ≤ length s → rising_seconds keys ≡ true →
       ArcFit (arc_serves N n keys states (length s)) covered full look (record { t0 = t0; steps = n; node = a; period = b ⊖ a }) s s₁ (front_size N) answer → Fits covered full look arc s s₁ base answer
   fits_of N n keys states s s₁ base t0 answer et en dn ln es eb room rise f =
@@ -101,7 +101,7 @@ module _ (covered : Float → Bool) (full : Float → Vector → Vector) (look :
       (f.fits (serves_arc N n keys states (length s) dn ln es (omega (arith, eb)) rise)))
 
   -- a fit that is refused leaves none
-  pub refused_leaves : T (lt (b ⊖ a) longest) → (s s₁ : List Float) (base at : ℕ) (answer : Fitted) (code : ℕ) → answer ≡ Refused code → base + work_size ≤ at
+  pub refused_leaves : T (lt (b ⊖ a) longest) → (s s₁ : List Float) (base at : ℕ) (answer : Fit) (code : Refusal) → answer ≡ Err code → base + work_size ≤ at
       → Fits covered full look arc s s₁ base answer → Leaves table s s₁ base at 0
   unfolding inside
   refused_leaves short s s₁ base at answer code e l f = subst (λ (t : Table State). Leaves t s s₁ base at 0) (sym none) (record {
@@ -112,10 +112,10 @@ module _ (covered : Float → Bool) (full : Float → Vector → Vector) (look :
   })
     where
       none : table ≡ []
-      none = short_table short (Refused code) (sym e ∙ f.said)
+      none = short_table short (Err code) (sym e ∙ f.said)
 
   -- else those of its states that lie inside
-  pub fitted_leaves : T (lt (b ⊖ a) longest) → (s s₁ s₂ : List Float) (base at n r : ℕ) (t0 : Float) (answer : Fitted) (x : Float) → answer ≡ Rms x → t0 ≡ start a → n ≡ steps a b
+  pub fitted_leaves : T (lt (b ⊖ a) longest) → (s s₁ s₂ : List Float) (base at n r : ℕ) (t0 : Float) (answer : Fit) (x : Float) → answer ≡ Ok x → t0 ≡ start a → n ≡ steps a b
       → base + work_size ≤ at →
       Fits covered full look arc s s₁ base answer → Keeps t0 a b n s₁ s₂ base at r → Leaves table s s₂ base at r
   fitted_leaves short s s₁ s₂ base at n r t0 answer x e et en l f k = subst (λ (t : Table State). Leaves t s s₂ base at r) (sym is) (record {
@@ -133,7 +133,7 @@ module _ (covered : Float → Bool) (full : Float → Vector → Vector) (look :
 
       is : table ≡ inside t0 a b 0 (row run (n + 1))
       is =
-          short_table short (Rms x) (sym e ∙ f.said)
+          short_table short (Ok x) (sym e ∙ f.said)
           ∙ ap (λ (t : Float). inside t a b 0 (row run (suc (steps a b)))) (sym et)
           ∙ ap (λ (m : ℕ). inside t0 a b 0 (row run m)) (let q = en in omega (arith, q))
 
@@ -180,17 +180,17 @@ filled_more window nodes w s s₁ s₂ base first l f g = record {
 
 -- ---- the guard
 
-pub ends_at : (nodes : List Float) → T (all is_time nodes) → T (rising nodes) → (w : ℕ) → w + 1 < length nodes → Ends (get_or nodes w nan) (get_or nodes (w + 1) nan)
+pub ends_at : (nodes : List Float) → T (list_all is_time nodes) → T (rising nodes) → (w : ℕ) → w + 1 < length nodes → Ends (get_or nodes w nan) (get_or nodes (w + 1) nan)
 ends_at [] t r w h = absurd (omega arith)
 ends_at (a ∷ []) t r w h = absurd (omega arith)
 ends_at (a ∷ b ∷ ns) t r zero h = record {
-  from = time_says a (and_l (is_time a) (all is_time (b ∷ ns)) t);
-  to = time_says b (and_l (is_time b) (all is_time ns) (and_r (is_time a) (all is_time (b ∷ ns)) t));
+  from = time_says a (and_l (is_time a) (list_all is_time (b ∷ ns)) t);
+  to = time_says b (and_l (is_time b) (list_all is_time ns) (and_r (is_time a) (list_all is_time (b ∷ ns)) t));
   order = and_l (lt a b) (rising (b ∷ ns)) r;
 }
 ends_at (a ∷ b ∷ ns) t r (suc w) h =
     subst (λ (i : ℕ). Ends (get_or (b ∷ ns) w nan) (get_or (a ∷ b ∷ ns) i nan)) (let e : suc (w + 1) ≡ suc w + 1 = omega arith in e)
-    (ends_at (b ∷ ns) (and_r (is_time a) (all is_time (b ∷ ns)) t) (and_r (lt a b) (rising (b ∷ ns)) r) w (omega arith))
+    (ends_at (b ∷ ns) (and_r (is_time a) (list_all is_time (b ∷ ns)) t) (and_r (lt a b) (rising (b ∷ ns)) r) w (omega arith))
 
 pub record Served (N : ℕ) (keys : List ℤ) (states : ℕ) (nodes : List Float) (satellite room : ℕ) : Type 0 where
   pub degree : N ≤ 180
@@ -211,7 +211,7 @@ served N keys states nodes satellite room e =
     let s1 = leb satellite 1 in
     let s2 = eqb states (6 * length keys) in
     let o1 = rising_seconds keys in
-    let o2 = all is_time nodes && rising nodes in
+    let o2 = list_all is_time nodes && rising nodes in
     let shape = and_l ((r1 && (r2 && r3)) && (s1 && s2)) (o1 && o2) t in
     let order = and_r ((r1 && (r2 && r3)) && (s1 && s2)) (o1 && o2) t in
     let rooms = and_l (r1 && (r2 && r3)) (s1 && s2) shape in
@@ -228,41 +228,14 @@ served N keys states nodes satellite room e =
       one_of_two = hs;
       each = eqb→eq states (6 * length keys) (and_r s1 s2 rest);
       rises = is_true o1 (and_l o1 o2 order);
-      ends = ends_at nodes (and_l (all is_time nodes) (rising nodes) times) (and_r (all is_time nodes) (rising nodes) times);
+      ends = ends_at nodes (and_l (list_all is_time nodes) (rising nodes) times) (and_r (list_all is_time nodes) (rising nodes) times);
     }
 
-pub room_degree : (N nodes room : ℕ) → 180 < N → false ≡ room_for N nodes room
-unfolding room_for
-room_degree N nodes room h = sym (simp (lt-leb N 180 h))
-
-pub room_none : (N nodes room base : ℕ) → N ≤ 180 → base ≡ front_size N → room < base + fit_room → false ≡ room_for N nodes room
-unfolding room_for
-room_none N nodes room base h e l = sym (simp (le-leb N 180 h, lt-leb (front_size N + fit_room) room (omega (arith, e))))
-
-pub room_all : (N nodes room base : ℕ) → N ≤ 180 → base ≡ front_size N → base + fit_room ≤ room → leb nodes ((room - (base + fit_room)) / window_room + 1) ≡ room_for N nodes room
-unfolding room_for
-room_all N nodes room base h e l = ap (λ (m : ℕ). leb nodes ((room - (m + fit_room)) / window_room + 1)) e ∙ sym (simp (le-leb N 180 h, le-leb (front_size N + fit_room) room (omega (arith, e))))
-
-pub serves_all : (N : ℕ) (keys : List ℤ) (states : ℕ) (nodes : List Float) (satellite room : ℕ) (r x y o p q z u v : Bool) → r ≡ room_for N (length nodes) room
-    → x ≡ leb satellite 1 && eqb states (6 * length keys) → y ≡ r && x →
-    o ≡ rising_seconds keys → p ≡ all is_time nodes → q ≡ rising nodes → z ≡ p && q → u ≡ o && z → v ≡ y && u → v ≡ windows_serve N keys states nodes satellite room
-unfolding windows_serve
-serves_all N keys states nodes satellite room r x y o p q z u v er ex ey eo ep eq ez eu ev = ev ∙ (λ i. ey i && eu i) ∙ (λ i. (er i && ex i) && (eo i && ez i))
-    ∙ (λ i. (room_for N (length nodes) room && (leb satellite 1 && eqb states (6 * length keys))) && (rising_seconds keys && (ep i && eq i)))
-
 pub fit_filled : (window : Float → Float → Table State) (nodes s s' : List Float) (N satellite base : ℕ) (serves answer : Bool) → answer ≡ serves → answer ≡ true → base ≡ front_size N →
-    Filled window nodes (length nodes - 1) s s' base (base + fit_room + slot_room * satellite) → WindowsFit serves window nodes s s' (front_size N) satellite true
+    Filled window nodes (length nodes - 1) s s' base (base + fit_room + slot_room * satellite) → WindowsFit serves window nodes s s' (front_size N) satellite answer
 fit_filled window nodes s s' N satellite base serves answer e t eb f = record {
-  says = sym t ∙ e;
+  says = e;
   filled = λ h. subst (λ (m : ℕ). Filled window nodes (length nodes - 1) s s' (front_size N) m) (omega arith)
       (subst (λ (m : ℕ). Filled window nodes (length nodes - 1) s s' m (m + fit_room + slot_room * satellite)) eb f);
   unfit = λ h. absurd (false≢true (sym h ∙ sym e ∙ t));
-}
-
-pub fit_unfit : (window : Float → Float → Table State) (nodes s : List Float) (N satellite : ℕ) (serves answer : Bool) → answer ≡ serves → answer ≡ false
-    → WindowsFit serves window nodes s s (front_size N) satellite false
-fit_unfit window nodes s N satellite serves answer e f = record {
-  says = sym f ∙ e;
-  filled = λ h. absurd (false≢true (sym f ∙ e ∙ h));
-  unfit = λ h. refl;
 }

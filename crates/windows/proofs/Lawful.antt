@@ -1,6 +1,6 @@
 -- The fit obeys the law that the theorem on final entries asks of it: at most one state a step, and nothing read but at the arc's own times. Assumes nothing.
 use Rattle.std.proofs.Common.{◌≡◌, ℕ, suc, ◌*◌, ◌<◌, ◌≤◌, Bool, true, false, cond, T, leb, List, [], length, ℤ, sym, refl, ap, ◌∙◌, le_of_eq, le_refl, arith, leb→le}
-use mathlib.Core.Option.{Option}
+use Rattle.std.specs.Prelude.{Option, Err, Ok}
 use lib.Ieee.{Float, div, of_bits}
 use Rattle.inputs.specs.Inputs.{Fixed}
 use Rattle.laws.specs.Floats.{◌⊕◌, ◌⊘◌, two64}
@@ -13,24 +13,22 @@ use Rattle.vectors.specs.declared.Vector.{Vector}
 use Rattle.forces.specs.Forces.{tides_of}
 use Rattle.integrate.specs.Room.{Run}
 use Rattle.integrate.specs.declared.kernel.State.{State}
-use Rattle.fit.specs.Fit.{fit_of, orbit_of}
-use Rattle.fit.specs.declared.kernel.Fitted.{Fitted}
-use Rattle.fit.specs.declared.kernel.Fitted.TheVariants.{Fitted as Rms, Refused}
+use Rattle.fit.specs.Fit.{Fit, fit_of, orbit_of}
 use Rattle.fit.proofs.Locality.{Agree, SameReads, fit_same, orbit_same}
-use Rattle.windows.specs.Stage.{field_gravity, full_of, arc_struct, held_of, look_of, states_of, fit_from, fit_stage}
+use Rattle.windows.specs.Stage.{field_gravity, full_of, arc_struct, look_of, states_of, fit_from, fit_stage}
 
 -- ---- lists of states
 
-states_length : (r : Fitted) (run : Run) (n : ℕ) → length (states_of r run n) ≤ suc n
-states_length (Rms rms) run n = le_of_eq (row_length run (suc n))
-states_length (Refused k) run n = omega arith
+states_length : (r : Fit) (run : Run) (n : ℕ) → length (states_of r run n) ≤ suc n
+states_length (Ok rms) run n = le_of_eq (row_length run (suc n))
+states_length (Err k) run n = omega arith
 
-pub states_same : (r r' : Fitted) (run run' : Run) (n : ℕ) → r ≡ r' → ((k : ℕ) → k < suc n → run k ≡ run' k) → states_of r run n ≡ states_of r' run' n
-states_same r r' run run' n e h = each r ∙ ap (λ (q : Fitted). states_of q run' n) e
+pub states_same : (r r' : Fit) (run run' : Run) (n : ℕ) → r ≡ r' → ((k : ℕ) → k < suc n → run k ≡ run' k) → states_of r run n ≡ states_of r' run' n
+states_same r r' run run' n e h = each r ∙ ap (λ (q : Fit). states_of q run' n) e
   where
-    each : (q : Fitted) → states_of q run n ≡ states_of q run' n
-    each (Rms rms) = row_same run run' (suc n) h
-    each (Refused k) = refl
+    each : (q : Fit) → states_of q run n ≡ states_of q run' n
+    each (Ok rms) = row_same run run' (suc n) h
+    each (Err k) = refl
 
 -- ---- what a fit reads
 
@@ -62,7 +60,7 @@ module _ (S : Fixed) (c c' : Float → Bool) (m m' : Float → List Float) (g g'
   }
 
   held_same : (t : Float) → g (second t) ≡ g' (second t) → look_of g t ≡ look_of g' t
-  held_same t e = ap held_of e
+  held_same t e = e
 
   same_reads : SameReads c c' (full_of S m) (full_of S m') (look_of g) (look_of g') (arc_struct arc)
   same_reads = record {

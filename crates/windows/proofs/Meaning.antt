@@ -1,5 +1,5 @@
 -- The code's full attraction and look-up of states are those of the stage: the gravity of the field at a time, and the first row at a whole second. Assumes nothing.
-use Rattle.std.proofs.Common.{◌≡◌, ℕ, ◌+◌, ◌*◌, true, List, ◌++◌, length, take, drop, ℤ, sym, refl, ap, ◌∙◌, take_at, drop_at}
+use Rattle.std.proofs.Common.{◌≡◌, ℕ, ◌+◌, true, List, ◌++◌, length, take, drop, ℤ, sym, ap, ◌∙◌, take_at, drop_at}
 use lib.Ieee.{Float}
 use Rattle.inputs.specs.Inputs.{Model, kind, Fixed, Keyed}
 use Rattle.laws.specs.Tables.{rows}
@@ -16,15 +16,10 @@ use Rattle.model.specs.Model.{kind_at, field_at}
 use Rattle.model.proofs.Checks.{kind_long}
 use Rattle.integrate.specs.Force.{gravity_at, full_force}
 use Rattle.integrate.proofs.Published.{Sized, gravity_lent_law}
-use Rattle.integrate.specs.Room.{state_in}
 use Rattle.integrate.specs.RowsBySecond.{states_in}
-use Rattle.integrate.proofs.RowsBySecond.{row_at, find_row}
 use Rattle.finality.specs.Tables.{find}
-use Rattle.slices.specs.Slices.{lookup}
-use Rattle.slices.specs.declared.Found.{Found}
-use Rattle.slices.specs.declared.Found.TheVariants.{At, Nothing}
-use Rattle.fit.specs.Fit.{held_at, state_for}
-use Rattle.windows.specs.Stage.{field_gravity, full_of, held_of, look_of}
+use Rattle.fit.specs.Fit.{state_for}
+use Rattle.windows.specs.Stage.{field_gravity, full_of, look_of}
 
 -- ---- the gravity of a field
 
@@ -59,10 +54,6 @@ stage_published N static field x = lent_gravity N (gm static) (radius static) (t
 
 -- ---- the look-up of states
 
-held_row : (states : List Float) (f : Found) → held_at states f ≡ held_of (row_at (λ (i : ℕ). state_in states (6 * i)) f)
-held_row states (At i) = refl
-held_row states Nothing = refl
-
-pub look_is : (l : Keyed) (t : Float) → is_held t ≡ true → state_for l.keys l.values t ≡ look_of (λ (k : ℤ). find k (states_in l)) t
-unfolding state_for whole_second states_in
-look_is l t e = rw e (held_row l.values (lookup l.keys (second t)) ∙ ap held_of (sym (find_row (λ (i : ℕ). state_in l.values (6 * i)) l.keys (second t))))
+pub look_is : (l : Keyed) (t : Float) → is_held t ≡ true → state_for l t ≡ look_of (λ (k : ℤ). find k (states_in l)) t
+unfolding state_for whole_second
+look_is l t e = rw e

@@ -1,4 +1,5 @@
 -- What a window leaves by the code's force and look-up is what the stage's window leaves. Assumes nothing.
+use Rattle.std.specs.Prelude.{Option}
 use Rattle.std.proofs.Common.{◌≡◌, ℕ, ◌*◌, ◌≤◌, Bool, true, false, ◌&&◌, T, leb, List, ℤ, pos, sym, refl, ap, ◌∙◌, subst, arith, le-leb}
 use lib.Ieee.{Float, fin, le, lt}
 use lib.Ieee.Bits.{is_true}
@@ -20,9 +21,7 @@ use Rattle.integrate.specs.Force.{full_force}
 use Rattle.integrate.specs.RowsBySecond.{states_in}
 use Rattle.integrate.proofs.Published.{Sized}
 use Rattle.integrate.specs.declared.kernel.State.{State}
-use Rattle.integrate.specs.declared.kernel.Arc.{Arc as ArcStruct}
 use Rattle.fit.specs.Fit.{fit_of, orbit_of, state_for}
-use Rattle.fit.specs.declared.kernel.Held.{Held}
 use Rattle.fit.proofs.Locality.{SameReads, fit_same, orbit_same}
 use Rattle.windows.specs.Stage.{full_of, arc_struct, look_of, states_of, fit_from, fit_stage}
 use Rattle.windows.specs.Windows.{window_by, Ends}
@@ -65,7 +64,7 @@ module _ (a b : Float) (e : Ends a b) where
       both_hold (le (fin true 1 (pos 63)) (start a)) (lt (start a) (fin false 1 (pos 63))) (is_le (fin true 1 (pos 63)) (start a) 0 9223372036854775808 _ _ lower_is s (omega (arith, n)))
       (is_lt (start a) (fin false 1 (pos 63)) _ _ 9223372036854775808 0 s upper_is (omega (arith, p, n, kk)))
 
-  module _ (covered : Float → Bool) (full : Float → Vector → Vector) (look look' : Float → Held) (same : (i : ℕ) → i ≤ steps a b → look (step_time (start a) i) ≡ look' (step_time (start a) i))
+  module _ (covered : Float → Bool) (full : Float → Vector → Vector) (look look' : Float → Option State) (same : (i : ℕ) → i ≤ steps a b → look (step_time (start a) i) ≡ look' (step_time (start a) i))
       (first : look (start a) ≡ look' (start a)) where
     reads : SameReads covered covered full full look look' (arc_struct (arc_of a b))
     reads = record {
@@ -83,7 +82,7 @@ module _ (a b : Float) (e : Ends a b) where
         (λ i h. orbit_same covered covered full full look look' (arc_struct (arc_of a b)) l reads i (omega arith))
 
 pub window_is : (M : Model) (l : Keyed) → Sized M → (a b : Float) → Ends a b →
-    window_by (covers M.fields.field_times) (full_force M) (state_for l.keys l.values) a b
+    window_by (covers M.fields.field_times) (full_force M) (state_for l) a b
     ≡ window_of (fit_stage M.fixed) (covers M.fields.field_times) (field_at M) (λ (key : ℤ). find key (states_in l)) a b
 unfolding window_by window_of fit_from
 window_is M l fit a b e =
@@ -93,10 +92,10 @@ window_is M l fit a b e =
     let few : steps a b ≤ 5302 = let h = steps_short a b e.from e.to (lt→le a b e.order) short in omega (arith, h) in
     let within : leb (steps a b) 5302 ≡ true = le-leb (steps a b) 5302 few in
     let full : Float → Vector → Vector = full_of M.fixed (field_at M) in
-    let look' : Float → Held = look_of (λ (key : ℤ). find key (states_in l)) in
+    let look' : Float → Option State = look_of (λ (key : ℤ). find key (states_in l)) in
     rw (t, within) (ap (λ (l : List State). inside (start a) a b 0 l)
-    ((λ i. states_of (fit_of (covers M.fields.field_times) (λ u x. full_is M fit u x i) (state_for l.keys l.values) (arc_struct (arc_of a b)))
-    (orbit_of (λ u x. full_is M fit u x i) (state_for l.keys l.values) (arc_struct (arc_of a b))) (steps a b))
-    ∙ look_same a b e (covers M.fields.field_times) full (state_for l.keys l.values) look' (λ i h. look_is l (step_time (start a) i) (held_step a b e i h))
+    ((λ i. states_of (fit_of (covers M.fields.field_times) (λ u x. full_is M fit u x i) (state_for l) (arc_struct (arc_of a b)))
+    (orbit_of (λ u x. full_is M fit u x i) (state_for l) (arc_struct (arc_of a b))) (steps a b))
+    ∙ look_same a b e (covers M.fields.field_times) full (state_for l) look' (λ i h. look_is l (step_time (start a) i) (held_step a b e i h))
     (look_is l (start a) (held_start a b e)) few)))
     (λ t. rw t refl)

@@ -1,7 +1,7 @@
 -- The fit of one arc as a stage of crate `finality` (document 01, module 4): from covered times, the field at a time and the look-up of states, for a degree,
 -- a static field and Legendre tables, which are fixed for a call and no part of a submission's lists. Assumes nothing.
-use Rattle.std.specs.Prelude.{ℕ, suc, cond, List, [], take, drop, ℤ, nat_le, Float}
-use Rattle.std.proofs.Math.Option.{Option, none, some}
+use Rattle.std.specs.Prelude.{ℕ, suc, cond, List, [], take, drop, ℤ, nat_le, Float, Err, Ok}
+use Rattle.std.specs.Prelude.{Option}
 use Rattle.inputs.specs.Inputs.{Fixed, kind}
 use Rattle.laws.specs.Tables.{row}
 use Rattle.laws.specs.Times.{second}
@@ -13,11 +13,7 @@ use Rattle.integrate.specs.Force.{full_by}
 use Rattle.integrate.specs.Room.{Run}
 use Rattle.integrate.specs.declared.kernel.State.{State}
 use Rattle.integrate.specs.declared.kernel.Arc.{Arc as ArcStruct}
-use Rattle.fit.specs.Fit.{fit_of, orbit_of}
-use Rattle.fit.specs.declared.kernel.Held.{Held}
-use Rattle.fit.specs.declared.kernel.Held.TheVariants.{Known, Missing}
-use Rattle.fit.specs.declared.kernel.Fitted.{Fitted}
-use Rattle.fit.specs.declared.kernel.Fitted.TheVariants.{Fitted as Rms, Refused}
+use Rattle.fit.specs.Fit.{Fit as Fitted, fit_of, orbit_of}
 
 -- the gravity of a field of both kinds of coefficients, cosines and then sines, from the lent tables
 unfoldable pub field_gravity : Fixed → List Float → Vector → Vector
@@ -36,18 +32,14 @@ full_of S = full_from (field_gravity S)
 abbrev pub arc_struct : Arc → ArcStruct
 arc_struct arc = record { t0 = arc.t0; steps = arc.steps; node = arc.node; period = arc.period }
 
-abbrev pub held_of : Option State → Held
-held_of none = Missing
-held_of (some s) = Known s
-
 -- the state at the whole second of a time
-abbrev pub look_of : (ℤ → Option State) → Float → Held
-look_of look t = held_of (look (second t))
+abbrev pub look_of : (ℤ → Option State) → Float → Option State
+look_of look t = (look (second t))
 
 -- the states of an orbit, one a step, where its fit is not refused
 abbrev pub states_of : Fitted → Run → ℕ → List State
-states_of (Rms rms) run steps = row run (suc steps)
-states_of (Refused n) run steps = []
+states_of (Ok rms) run steps = row run (suc steps)
+states_of (Err n) run steps = []
 
 -- an arc of more than 5,302 steps has no fit; no window gives one
 unfoldable pub fit_from : (List Float → Vector → Vector) → Fit (List Float) State

@@ -1,29 +1,35 @@
 -- The fitted orbits of one satellite (document 01, module 4; the source's `fitted_orbits`): what each window of neighbouring nodes leaves in its slot, in the
 -- lent numbers behind those of one fit. The force and the states are functions of the time. Assumes nothing.
-use Rattle.std.specs.Prelude.{◌≡◌, ℕ, ◌+◌, ◌-◌, ◌*◌, ◌/◌, ◌<◌, ◌≤◌, Bool, true, false, cond, ◌&&◌, T, List, [], length, ℤ, ◌==◌, nat_le, slice_index_or, Float}
+use Rattle.std.specs.Prelude.{◌≡◌, ℕ, ◌+◌, ◌-◌, ◌*◌, ◌/◌, ◌<◌, ◌≤◌, Bool, true, false, cond, ◌&&◌, T, List, [], length, ℤ, ◌==◌, nat_le, slice_index_or, Float, Option}
 use Rattle.std.specs.Float.{nan}
 use Rattle.std.specs.Float.Ieee.{lt}
-use Rattle.inputs.specs.Inputs.{window_room, slot_room, fit_room, front_size}
+use Rattle.inputs.specs.Inputs.{Model, Keyed, window_room, slot_room, fit_room, front_size}
 use Rattle.laws.specs.Floats.{zero64, ◌⊖◌}
-use Rattle.laws.specs.Checks.{all, is_time, rising, rising_seconds}
+use Rattle.std.specs.List.{list_all}
+use Rattle.laws.specs.Checks.{is_time, rising, rising_seconds}
 use Rattle.laws.specs.Times.{Time}
+use Rattle.finality.specs.Brackets.{covers}
 use Rattle.finality.specs.Tables.{Table}
 use Rattle.finality.specs.Arcs.{longest, start, steps, arc_of, inside}
 use Rattle.vectors.specs.declared.Vector.{Vector}
 use Rattle.integrate.specs.declared.kernel.State.{State}
 use Rattle.integrate.specs.declared.kernel.Arc.{Arc as ArcStruct}
-use Rattle.fit.specs.Fit.{fit_of, orbit_of}
-use Rattle.fit.specs.declared.kernel.Held.{Held}
+use Rattle.integrate.specs.Force.{full_force}
+use Rattle.fit.specs.Fit.{fit_of, orbit_of, state_for}
 use Rattle.windows.specs.Stage.{arc_struct, states_of}
 use Rattle.windows.specs.Slots.{entries_room, Entries, Slot}
 use Rattle.fit.specs.Room.{work_size}
 
 -- what a window leaves
-unfoldable pub window_by : (Float → Bool) → (Float → Vector → Vector) → (Float → Held) → Float → Float → Table State
+unfoldable pub window_by : (Float → Bool) → (Float → Vector → Vector) → (Float → Option State) → Float → Float → Table State
 window_by covered full look a b =
     cond (lt (b ⊖ a) longest)
     (inside (start a) a b 0 (states_of (fit_of covered full look (arc_struct (arc_of a b))) (orbit_of full look (arc_struct (arc_of a b))) (steps a b)))
     []
+
+-- the same of a model and of the states that are known
+abbrev pub window_of : Model → Keyed → Float → Float → Table State
+window_of M states = window_by (covers M.fields.field_times) (full_force M) (state_for states)
 
 -- two times, the first before the second, less than 7,000 s apart
 unfoldable pub window_fine : Float → Float → Bool
@@ -46,7 +52,7 @@ room_for N nodes room = nat_le N 180 && (nat_le (front_size N + fit_room) room &
 -- one of two satellites, a state for each key, keys that rise, nodes that are times and rise
 unfoldable pub windows_serve : ℕ → List ℤ → ℕ → List Float → ℕ → ℕ → Bool
 windows_serve N keys states nodes satellite room =
-    (room_for N (length nodes) room && (nat_le satellite 1 && states == 6 * length keys)) && (rising_seconds keys && (all is_time nodes && rising nodes))
+    (room_for N (length nodes) room && (nat_le satellite 1 && states == 6 * length keys)) && (rising_seconds keys && (list_all is_time nodes && rising nodes))
 
 -- ---- what the work leaves
 

@@ -9,12 +9,10 @@ ghost use Rattle.laws.specs.Times.{step_time, Time, second_time};
 ghost use Rattle.numbers.specs.Seconds.{whole_second};
 ghost use Rattle.finality.specs.Arcs.{start, steps, longest, inside};
 ghost use Rattle.laws.specs.Tables.{row};
-ghost use Rattle.finality.specs.Brackets.{covers};
-ghost use Rattle.inputs.specs.Inputs.{model_of, window_room, slot_room, fit_room, front_size};
-ghost use Rattle.integrate.specs.Force.{full_force};
+ghost use Rattle.inputs.specs.Inputs.{window_room, slot_room, fit_room, front_size};
+ghost use Rattle.inputs.specs.Lent.{model_of, keyed_of};
 ghost use Rattle.integrate.specs.Room.{run_size, Run, state_in};
-ghost use Rattle.fit.specs.Fit.{state_for};
-ghost use Rattle.windows.specs.Windows.{window_by, window_fine, arc_between, room_for, windows_serve, Leaves, Windowed, Ends, Filled, WindowsFit};
+ghost use Rattle.windows.specs.Windows.{window_of, window_fine, arc_between, room_for, windows_serve, Leaves, Windowed, Ends, Filled, WindowsFit};
 ghost use Rattle.windows.specs.Slots.{entries_room, lowest, highest, within, Entered, Keeping, Keeps};
 
 // The least whole number that is not below x.
@@ -60,13 +58,11 @@ fn steps(a: f64, b: f64) -> usize
 }
 
 // Whether two nodes have a window between them that is shorter than 7,000 s.
+#[tactic(auto, unfolding(crate::specs::Windows::window_fine))]
 fn window_fine(from: f64, to: f64) -> bool
     ensures { result ≡ window_fine from to }
 {
-    slices::both(
-        slices::both(slices::is_time(from), slices::is_time(to)),
-        slices::both(from < to, to - from < 7000.0),
-    )
+    (slices::is_time(from) && slices::is_time(to)) && (from < to && to - from < 7000.0)
 }
 
 // The arc of such a window; of other nodes an arc of no steps.
@@ -90,6 +86,7 @@ pub fn arc_between(from: f64, to: f64) -> integrate::kernel::Arc
 }
 
 // Whether a time lies in a window.
+#[tactic(auto, unfolding(crate::specs::Slots::within))]
 pub fn within(from: f64, to: f64, t: f64) -> bool
     ensures { result ≡ within from to t }
 {
@@ -150,118 +147,73 @@ fn keep(t0: f64, from: f64, to: f64, steps: usize, s: &mut [f64], base: usize, a
     n
 }
 
+// What the windows of one satellite share: the model, the states that are known, and where those of a run begin.
+#[derive(Clone, Copy)]
+pub struct Track<'a> {
+    pub model: inputs::Model<'a>,
+    pub states: inputs::Keyed<'a>,
+    pub base: usize,
+    pub ghost within: { model.degree ≤ 180 },
+    pub ghost placed: { base ≡ front_size model.degree },
+    pub ghost rising: { rising_seconds states.keys.now ≡ true },
+    pub ghost six_each: { length states.values.now ≡ 6 * length states.keys.now },
+}
+
 // The fit of a window shorter than 7,000 s: its states from a place on. Returns how many there are.
-fn fit_between<'a>(
-    degree: usize,
-    model: inputs::Model<'a>,
-    keys: &[i64],
-    states: &[f64],
-    from: f64,
-    to: f64,
-    s: &mut [f64],
-    base: usize,
-    at: usize,
-) -> usize
-    requires { (degree ≤ 180) × (base ≡ front_size degree) × (rising_seconds keys.now ≡ true) × (length states.now ≡ 6 * length keys.now) × Ends from to
-        × T (lt (to ⊖ from) longest) × (base + fit_room ≤ at) × (at + entries_room ≤ length s.old) }
-    ensures { Leaves (window_by (covers (model_of degree model.entry).fields.field_times) (full_force (model_of degree model.entry))
-        (state_for keys.now states.now) from to) s.old s.new base at result }
+fn fit_between(track: Track<'_>, from: f64, to: f64, s: &mut [f64], at: usize) -> usize
+    requires { Ends from to × T (lt (to ⊖ from) longest) × (track.base + fit_room ≤ at) × (at + entries_room ≤ length s.old) }
+    ensures { Leaves (window_of (model_of track.entry.model) (keyed_of track.entry.states) from to) s.old s.new track.entry.base at result }
 {
     let t0 = start(from);
     let n = steps(from, to);
     let arc = integrate::kernel::Arc {
-        t0: t0,
+        t0,
         steps: n,
         node: from,
         period: to - from,
     };
-    let fitted = fit::kernel::fit_arc(degree, model, keys, states, arc, s);
-    match fitted {
-        fit::kernel::Fitted::Fitted(_) => keep(t0, from, to, n, s, base, at),
-        fit::kernel::Fitted::Refused(_) => 0,
+    match fit::kernel::fit_arc(track.model, track.states, arc, s) {
+        Ok(_) => keep(t0, from, to, n, s, track.base, at),
+        Err(_) => 0,
     }
 }
 
 // The states of a window, none where it is 7,000 s or longer.
-fn leave<'a>(
-    degree: usize,
-    model: inputs::Model<'a>,
-    keys: &[i64],
-    states: &[f64],
-    from: f64,
-    to: f64,
-    s: &mut [f64],
-    base: usize,
-    at: usize,
-) -> usize
-    requires { (degree ≤ 180) × (base ≡ front_size degree) × (rising_seconds keys.now ≡ true) × (length states.now ≡ 6 * length keys.now) × Ends from to
-        × (base + fit_room ≤ at) × (at + entries_room ≤ length s.old) }
-    ensures { Leaves (window_by (covers (model_of degree model.entry).fields.field_times) (full_force (model_of degree model.entry))
-        (state_for keys.now states.now) from to) s.old s.new base at result }
+fn leave(track: Track<'_>, from: f64, to: f64, s: &mut [f64], at: usize) -> usize
+    requires { Ends from to × (track.base + fit_room ≤ at) × (at + entries_room ≤ length s.old) }
+    ensures { Leaves (window_of (model_of track.entry.model) (keyed_of track.entry.states) from to) s.old s.new track.entry.base at result }
 {
     if to - from < 7000.0 {
-        return fit_between(degree, model, keys, states, from, to, s, base, at);
+        return fit_between(track, from, to, s, at);
     }
     0
 }
 
 // One window's slot.
-fn window<'a>(
-    degree: usize,
-    model: inputs::Model<'a>,
-    keys: &[i64],
-    states: &[f64],
-    from: f64,
-    to: f64,
-    s: &mut [f64],
-    base: usize,
-    at: usize,
-)
-    requires { (degree ≤ 180) × (base ≡ front_size degree) × (rising_seconds keys.now ≡ true) × (length states.now ≡ 6 * length keys.now) × Ends from to
-        × (base + fit_room ≤ at) × (at + slot_room ≤ length s.old) }
-    ensures { Windowed (window_by (covers (model_of degree model.entry).fields.field_times) (full_force (model_of degree model.entry))
-        (state_for keys.now states.now) from to) s.old s.new base at }
+fn window(track: Track<'_>, from: f64, to: f64, s: &mut [f64], at: usize)
+    requires { Ends from to × (track.base + fit_room ≤ at) × (at + slot_room ≤ length s.old) }
+    ensures { Windowed (window_of (model_of track.entry.model) (keyed_of track.entry.states) from to) s.old s.new track.entry.base at }
 {
-    let n = leave(degree, model, keys, states, from, to, s, base, at + 1);
+    let n = leave(track, from, to, s, at + 1);
     s[at] = std::num::nearest_u64_to_f64(n as u64);
 }
 
 // The windows between neighbouring nodes, a slot at every 49,200 numbers.
-fn fit_each<'a>(
-    degree: usize,
-    model: inputs::Model<'a>,
-    keys: &[i64],
-    states: &[f64],
-    nodes: &[f64],
-    s: &mut [f64],
-    base: usize,
-    first: usize,
-)
-    requires { (degree ≤ 180) × (base ≡ front_size degree) × (rising_seconds keys.now ≡ true) × (length states.now ≡ 6 * length keys.now)
-        × ((w : ℕ) → w + 1 < length nodes.now → Ends (slice_index_or nodes.now w nan) (slice_index_or nodes.now (w + 1) nan)) × (base + fit_room ≤ first)
+fn fit_each(track: Track<'_>, nodes: &[f64], s: &mut [f64], first: usize)
+    requires { ((w : ℕ) → w + 1 < length nodes.now → Ends (slice_index_or nodes.now w nan) (slice_index_or nodes.now (w + 1) nan))
+        × (track.base + fit_room ≤ first)
         × (first + window_room * length nodes.now ≤ length s.old + (window_room + slot_room)) }
-    ensures { Filled (window_by (covers (model_of degree model.entry).fields.field_times) (full_force (model_of degree model.entry))
-        (state_for keys.now states.now)) nodes.now (length nodes.now - 1) s.old s.new base
-        first }
+    ensures { Filled (window_of (model_of track.entry.model) (keyed_of track.entry.states)) nodes.now (length nodes.now - 1)
+        s.old s.new track.entry.base first }
 {
-    let mut w: usize = 0;
-    while w + 1 < nodes.len() {
-        window(
-            degree,
-            model,
-            keys,
-            states,
-            nodes[w],
-            nodes[w + 1],
-            s,
-            base,
-            first + inputs::WINDOW_ROOM * w,
-        );
-        w += 1;
+    for w in 0..nodes.len().saturating_sub(1) {
+        let at = first + inputs::WINDOW_ROOM * w;
+        window(track, nodes[w], nodes[w + 1], s, at);
     }
 }
 
 // Whether there is room for a fit and for all slots.
+#[tactic(auto, unfolding(crate::specs::Windows::room_for))]
 fn room_for(degree: usize, nodes: usize, room: usize) -> bool
     ensures { result ≡ room_for degree nodes room }
 {
@@ -269,60 +221,52 @@ fn room_for(degree: usize, nodes: usize, room: usize) -> bool
         return false;
     }
     let base = inputs::front_size(degree) + inputs::FIT_ROOM;
-    if base > room {
-        return false;
-    }
-    nodes <= (room - base) / inputs::WINDOW_ROOM + 1
+    base <= room && nodes <= (room - base) / inputs::WINDOW_ROOM + 1
 }
 
+#[tactic(auto, unfolding(crate::specs::Windows::windows_serve))]
 fn windows_serve(
     degree: usize,
-    keys: &[i64],
-    states: usize,
+    states: inputs::Keyed<'_>,
     nodes: &[f64],
     satellite: usize,
     room: usize,
 ) -> bool
-    ensures { result ≡ windows_serve degree keys.now states nodes.now satellite room }
+    ensures { result ≡ windows_serve degree states.entry.keys.now (length states.entry.values.now) nodes.now satellite room }
 {
-    let shape = slices::both(
-        room_for(degree, nodes.len(), room),
-        slices::both(satellite <= 1, states == 6 * keys.len()),
-    );
-    let order = slices::both(
-        slices::rising_keys(keys),
-        slices::both(slices::all_times(nodes), slices::rising(nodes)),
-    );
-    slices::both(shape, order)
+    let shape = room_for(degree, nodes.len(), room)
+        && (satellite <= 1 && states.values.len() == 6 * states.keys.len());
+    let order = slices::rising_keys(states.keys)
+        && (slices::all_times(nodes) && slices::rising(nodes));
+    shape && order
 }
 
 // The fitted states of every window of one satellite, each in its slot. False, and nothing is done, where the slices do not serve.
-pub fn fit_windows<'a>(
-    degree: usize,
-    model: inputs::Model<'a>,
-    keys: &[i64],
-    states: &[f64],
+pub fn fit_windows(
+    model: inputs::Model<'_>,
+    states: inputs::Keyed<'_>,
     nodes: &[f64],
     satellite: usize,
     s: &mut [f64],
 ) -> bool
-    ensures { WindowsFit (windows_serve degree keys.now (length states.now) nodes.now satellite
-        (length s.old)) (window_by (covers (model_of degree model.entry).fields.field_times) (full_force (model_of degree model.entry))
-        (state_for keys.now states.now)) nodes.now s.old s.new (front_size degree) satellite result }
+    ensures { WindowsFit
+        (windows_serve model.entry.degree states.entry.keys.now (length states.entry.values.now) nodes.now satellite (length s.old))
+        (window_of (model_of model.entry) (keyed_of states.entry)) nodes.now s.old s.new (front_size model.entry.degree) satellite result }
 {
-    if windows_serve(degree, keys, states.len(), nodes, satellite, s.len()) {
-        let base = inputs::front_size(degree);
+    let serves = windows_serve(model.degree, states, nodes, satellite, s.len());
+    if serves {
+        let base = inputs::front_size(model.degree);
+        let first = base + inputs::FIT_ROOM + inputs::SLOT_ROOM * satellite;
         fit_each(
-            degree,
-            model,
-            keys,
-            states,
+            Track {
+                model,
+                states,
+                base,
+            },
             nodes,
             s,
-            base,
-            base + inputs::FIT_ROOM + inputs::SLOT_ROOM * satellite,
+            first,
         );
-        return true;
     }
-    false
+    serves
 }

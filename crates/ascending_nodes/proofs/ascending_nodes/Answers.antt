@@ -1,15 +1,9 @@
-use Rattle.std.proofs.Common.{rules}
-use Rattle.ascending_nodes.proofs.Calls.{call_refused, call_found, call_unfit, fine_states, fine_places}
+use Rattle.std.proofs.Common.{◌∙◌, sym}
+use Rattle.ascending_nodes.proofs.Calls.{fits}
 use Rattle.ascending_nodes.proofs.ascending_nodes.Goals as goal
 
-pub returns-then-refused-ne0 : goal.returns-then-refused-ne0
-returns-then-refused-ne0 c = search (rules, call_refused)
+pub invariant_of-fill_nodes : goal.invariant_of-fill_nodes
+invariant_of-fill_nodes c = record { full = (fits _ _ _ (sym c.nodes_refusal.ensures ∙ c.in_ok-nodes_refusal.was)).0 }
 
 pub fill_nodes-count-requires : goal.fill_nodes-count-requires
-fill_nodes-count-requires c = (search (rules, fine_states), search (rules, fine_places))
-
-pub returns-then-all_finite : goal.returns-then-all_finite
-returns-then-all_finite c = search (rules, call_found)
-
-pub returns : goal.returns
-returns c = search (rules, call_unfit)
+fill_nodes-count-requires c = (fits _ _ _ (sym c.nodes_refusal.ensures ∙ c.in_ok-nodes_refusal.was)).1

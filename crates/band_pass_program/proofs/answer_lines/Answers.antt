@@ -1,5 +1,6 @@
+-- Assumes nothing.
+use Rattle.std.proofs.Common.{rules}
 use Rattle.band_pass_program.proofs.ProgramText.{lines_print}
-use borrow.Author.Rules.{rules}
 use Rattle.band_pass_program.proofs.answer_lines.Goals as goal
 
 pub returns : goal.returns

@@ -1,4 +1,5 @@
-use borrow.Author.Rules.{rules}
+-- Assumes nothing.
+use Rattle.std.proofs.Common.{rules}
 use Rattle.band_pass_program.proofs.ProgramText.{text_lines}
 use Rattle.band_pass_program.proofs.count_lines.Goals as goal
 

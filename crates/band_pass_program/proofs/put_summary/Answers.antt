@@ -1,5 +1,6 @@
+-- Assumes nothing.
+use Rattle.std.proofs.Common.{rules}
 use Rattle.band_pass_program.proofs.ProgramText.{summary_prints}
-use borrow.Author.Rules.{rules}
 use Rattle.band_pass_program.proofs.put_summary.Goals as goal
 
 pub returns : goal.returns

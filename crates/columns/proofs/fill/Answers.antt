@@ -10,25 +10,25 @@ use Rattle.columns.proofs.fill.Goals as goal
 pub detrend_column-requires : goal.detrend_column-requires
 detrend_column-requires c =
     let a = c.args in
-    let g = served a.n (length a.times.now) (map length (a.raws.now ∷ a.detrended.now ∷ a.passed.now ∷ [])) (length a.s.now) _ c.serve.ensures c.if-serve.true in
+    let g = served a.n (length a.times.now) (map length (a.raws.now ∷ a.detrended.now ∷ a.passed.now ∷ [])) (length a.s.now) _ c.serve-served.ensures c.if-served.true in
     (g.count, g.long.0, g.long.1.0, g.enough)
 
 pub pass_column-requires : goal.pass_column-requires
 pass_column-requires c =
     let a = c.args in
-    let g = served a.n (length a.times.now) (map length (a.raws.now ∷ a.detrended.now ∷ a.passed.now ∷ [])) (length a.s.now) _ c.serve.ensures c.if-serve.true in
+    let g = served a.n (length a.times.now) (map length (a.raws.now ∷ a.detrended.now ∷ a.passed.now ∷ [])) (length a.s.now) _ c.serve-served.ensures c.if-served.true in
     (g.count, omega (arith, g.long.1.0), g.long.1.1.0, omega (arith, g.enough))
 
-pub returns-then-serve : goal.returns-then-serve
-returns-then-serve c =
+pub returns-then-served : goal.returns-then-served
+returns-then-served c =
     let a = c.args in
-    let g = served a.n (length a.times.now) (map length (a.raws.now ∷ a.detrended.now ∷ a.passed.now ∷ [])) (length a.s.now) _ c.serve.ensures c.if-serve.true in
+    let g = served a.n (length a.times.now) (map length (a.raws.now ∷ a.detrended.now ∷ a.passed.now ∷ [])) (length a.s.now) _ c.serve-served.ensures c.if-served.true in
     columns_filled (columns_serve a.n (length a.times.now) (map length (a.raws.now ∷ a.detrended.now ∷ a.passed.now ∷ [])) (length a.s.now)) a.nodes.now a.n a.times.now
-    a.raws.now a.detrended.now _ a.passed.now _ a.s.now _ _ c.serve.ensures c.if-serve.true g.count g.long.0 (search rules)
+    a.raws.now a.detrended.now _ a.passed.now _ a.s.now _ _ c.serve-served.ensures c.if-served.true g.count g.long.0 (search rules)
     c.detrend_column.ensures c.pass_column.ensures
 
-pub returns : goal.returns
-returns c =
+pub returns-else-served : goal.returns-else-served
+returns-else-served c =
     let a = c.args in
     columns_unfit (columns_serve a.n (length a.times.now) (map length (a.raws.now ∷ a.detrended.now ∷ a.passed.now ∷ [])) (length a.s.now)) a.nodes.now a.n a.times.now
-    a.raws.now (a.detrended.now ∷ a.passed.now ∷ []) a.s.now _ c.serve.ensures c.if-serve.false
+    a.raws.now (a.detrended.now ∷ a.passed.now ∷ []) a.s.now _ c.serve-served.ensures c.if-served.false

@@ -1,7 +1,6 @@
 -- `epoch::open`: with room the front is cleared and prepared, without it nothing is done; each by its law of proofs/Making.antt. Assumes nothing.
 use native.Mathlib.Omega.{arith}
 use Rattle.epoch.proofs.Making.{opened, not_opened}
-use borrow.Author.Rules.{rules}
 use Rattle.epoch.proofs.open.Goals as goal
 
 pub returns-then-base-w : goal.returns-then-base-w

@@ -1,10 +1,6 @@
--- `exports::pozsmeteg_residuals`: refused without a place for the count, else the call's answer told. Assumes nothing.
-use Rattle.exports.proofs.CallsTold.{residuals_unplaced, residuals_told_law}
-use borrow.Author.Rules.{rules}
+-- `exports::pozsmeteg_residuals`: refused without a place for the count. Assumes nothing.
+use Rattle.exports.proofs.CallsTold.{residuals_unplaced}
 use Rattle.exports.proofs.pozsmeteg_residuals.Goals as goal
 
 pub returns-then-counts-ne1 : goal.returns-then-counts-ne1
-returns-then-counts-ne1 c = search (rules, residuals_unplaced)
-
-pub returns : goal.returns
-returns c = search (rules, residuals_told_law)
+returns-then-counts-ne1 c = residuals_unplaced _ _ _ c.args.counts.now c.args.scratch.now _ _ c.if-counts-ne1.true c.residuals.ensures c.number.ensures

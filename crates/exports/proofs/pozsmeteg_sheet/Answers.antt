@@ -1,12 +1,6 @@
--- `exports::pozsmeteg_sheet`: refused without places for the counts, else the call's answer told. Assumes nothing.
-use Rattle.sheet.specs.Calls.{lists_counted}
-use Rattle.exports.proofs.CallsTold.{sheet_unplaced, sheet_told_law}
-use borrow.Author.Rules.{rules}
+-- `exports::pozsmeteg_sheet`: refused without two places for the counts. Assumes nothing.
+use Rattle.exports.proofs.CallsTold.{sheet_unplaced}
 use Rattle.exports.proofs.pozsmeteg_sheet.Goals as goal
 
 pub returns-then-counts-ne2 : goal.returns-then-counts-ne2
-unfolding lists_counted
-returns-then-counts-ne2 c = search (rules, sheet_unplaced)
-
-pub returns : goal.returns
-returns c = search (rules, sheet_told_law)
+returns-then-counts-ne2 c = sheet_unplaced _ _ _ c.args.counts.now c.args.scratch.now _ _ c.if-counts-ne2.true c.sheet.ensures c.number.ensures

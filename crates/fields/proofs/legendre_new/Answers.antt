@@ -1,9 +1,9 @@
-use borrow.Author.Rules.{rules}
-use Rattle.fields.proofs.Answers.{new_refused, new_answered}
+use Rattle.legendre.specs.Legendre.{a_of, b_of}
+use Rattle.fields.proofs.Answers.{new_answered}
 use Rattle.fields.proofs.legendre_new.Goals as goal
 
-pub returns-then-n-ne0 : goal.returns-then-n-ne0
-returns-then-n-ne0 c = search (rules, new_refused)
-
 pub returns : goal.returns
-returns c = search (rules, new_answered)
+returns c =
+    let a = c.args in
+    new_answered a.degree a.a.now a.b.now a.scratch.now _ _ _ _ _ _ c.in_ok-tables_refusal.ensures (c.tabulate.ensures a_of (λ n m x l h e. e))
+    (c.tabulate-2.ensures b_of (λ n m x l h e. e)) c.clear.ensures c.hand_two.ensures

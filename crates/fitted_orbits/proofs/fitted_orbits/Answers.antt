@@ -1,54 +1,48 @@
 -- `fitted_orbits::fitted_orbits`: refused, counted and handed out, or not finite and cleared, each by its law of proofs/Answers.antt. Assumes nothing.
-use mathlib.Core.Path.{◌∙◌}
+use mathlib.Core.Path.{sym, refl, ap, ◌∙◌}
 use Prim.Native.Nat.{◌-◌}
 use lib.ListN.{length}
-use Rattle.fitted_orbits.specs.Calls.{given, outputs}
-use Rattle.fitted_orbits.proofs.Answers.{fit_is, usable, ends, long, orbits_refused, orbits_handed, orbits_unfit, so_far_given}
-use Rattle.inputs.specs.Inputs.{model_of}
-use borrow.Author.Rules.{rules}
+use Rattle.std.specs.Prelude.{Result}
+use Rattle.slices.specs.declared.refusal.Refusal.{Refusal}
+use Rattle.slices.proofs.Calls.{handed_on}
+use Rattle.inputs.specs.Lent.{model_of, keyed_of}
+use Rattle.fitted_orbits.specs.declared.work.Done.{Done}
+use Rattle.fitted_orbits.specs.Calls.{given, outputs, left}
+use Rattle.fitted_orbits.proofs.Answers.{fit_is, usable, ends, long, orbits_refused, orbits_unfit}
 use Rattle.fitted_orbits.proofs.fitted_orbits.Goals as goal
+use Rattle.fitted_orbits.proofs.fitted_orbits.Goals.{else-all_finite-via-then-all_finite+else-all_finite-2, else-all_finite-via-else-all_finite}
 
-pub returns-then-refused-ne0 : goal.returns-then-refused-ne0
-returns-then-refused-ne0 c =
+pub returns-in_err-refusal : goal.returns-in_err-refusal
+returns-in_err-refusal c =
     let s = c.args in
-    orbits_refused (given (model_of s.degree s.model) s.keys.now s.states.now s.nodes.now) (outputs s.outkeys.now s.outstates.now s.rms.now) s.scratch.now _ _
-    (fit_is (given (model_of s.degree s.model) s.keys.now s.states.now s.nodes.now) (outputs s.outkeys.now s.outstates.now s.rms.now) (length s.scratch.now) _ _
-    c.places_fit-places.ensures c.lengths_fit-fit.ensures) c.refusal-refused.ensures c.if-refused-ne0.true
+    let g = given (model_of s.model) (keyed_of s.states) s.nodes.now in
+    let o = outputs s.outkeys.now s.outstates.now s.rms.now in
+    ap (λ (r : Result Done Refusal). left r o s.scratch.now) (handed_on _ _ c.from_residual.ensures)
+    ∙ orbits_refused g o s.scratch.now _ (fit_is g o (length s.scratch.now) _ _ c.places_fit-places.ensures c.lengths_fit-fit.ensures) _
+    (sym c.refusal.ensures ∙ c.in_err-refusal.was)
 
 pub fill-done-requires : goal.fill-done-requires
 fill-done-requires c =
     let s = c.args in
-    let ef = (fit_is (given (model_of s.degree s.model) s.keys.now s.states.now s.nodes.now) (outputs s.outkeys.now s.outstates.now s.rms.now) (length s.scratch.now) _
-    _ c.places_fit-places.ensures c.lengths_fit-fit.ensures) in
-    let l = long (given (model_of s.degree s.model) s.keys.now s.states.now s.nodes.now) (outputs s.outkeys.now s.outstates.now s.rms.now) (length s.scratch.now) _ _
-    ef c.refusal-refused.ensures c.if-refused-ne0.false in (
-      usable (given (model_of s.degree s.model) s.keys.now s.states.now s.nodes.now) (outputs s.outkeys.now s.outstates.now s.rms.now) (length s.scratch.now) _ _ ef
-          c.refusal-refused.ensures c.if-refused-ne0.false,
-      ends (given (model_of s.degree s.model) s.keys.now s.states.now s.nodes.now) (outputs s.outkeys.now s.outstates.now s.rms.now) (length s.scratch.now) _ _ ef
-          c.refusal-refused.ensures c.if-refused-ne0.false,
-      l.keys,
-      l.states,
-      l.rms,
-    )
-
-pub returns-then-both : goal.returns-then-both
-returns-then-both c =
-    let s = c.args in
-    orbits_handed (given (model_of s.degree s.model) s.keys.now s.states.now s.nodes.now) (outputs s.outkeys.now s.outstates.now s.rms.now) s.scratch.now _ _
-    (fit_is (given (model_of s.degree s.model) s.keys.now s.states.now s.nodes.now) (outputs s.outkeys.now s.outstates.now s.rms.now) (length s.scratch.now) _ _
-    c.places_fit-places.ensures c.lengths_fit-fit.ensures) c.refusal-refused.ensures c.if-refused-ne0.false _ _
-    (so_far_given (given (model_of s.degree s.model) s.keys.now s.states.now s.nodes.now) _ _ c.fill-done.ensures) _ _ _ c.all_finite.ensures
-    c.all_finite-2.ensures c.both.ensures _ _ c.fill-done.auto.s c.clear.ensures c.if-both.true
+    let g = given (model_of s.model) (keyed_of s.states) s.nodes.now in
+    let o = outputs s.outkeys.now s.outstates.now s.rms.now in
+    let ef = fit_is g o (length s.scratch.now) _ _ c.places_fit-places.ensures c.lengths_fit-fit.ensures in
+    let z = sym c.refusal.ensures ∙ c.in_ok-refusal.was in
+    let l = long g o (length s.scratch.now) _ ef z in
+    (usable g o (length s.scratch.now) _ ef z, ends g o (length s.scratch.now) _ ef z, l.keys, l.states, l.rms)
 
 pub returns : goal.returns
 returns c =
     let s = c.args in
-    let ef = (fit_is (given (model_of s.degree s.model) s.keys.now s.states.now s.nodes.now) (outputs s.outkeys.now s.outstates.now s.rms.now) (length s.scratch.now) _
-    _ c.places_fit-places.ensures c.lengths_fit-fit.ensures) in
-    let l = long (given (model_of s.degree s.model) s.keys.now s.states.now s.nodes.now) (outputs s.outkeys.now s.outstates.now s.rms.now) (length s.scratch.now) _ _
-    ef c.refusal-refused.ensures c.if-refused-ne0.false in
+    let g = given (model_of s.model) (keyed_of s.states) s.nodes.now in
+    let o = outputs s.outkeys.now s.outstates.now s.rms.now in
+    let ef = fit_is g o (length s.scratch.now) _ _ c.places_fit-places.ensures c.lengths_fit-fit.ensures in
+    let z = sym c.refusal.ensures ∙ c.in_ok-refusal.was in
+    let l = long g o (length s.scratch.now) _ ef z in
     let k = c.fill-done.auto in
-    orbits_unfit (given (model_of s.degree s.model) s.keys.now s.states.now s.nodes.now) (outputs s.outkeys.now s.outstates.now s.rms.now) s.scratch.now _ _ ef
-    c.refusal-refused.ensures c.if-refused-ne0.false _ _ (so_far_given (given (model_of s.degree s.model) s.keys.now s.states.now s.nodes.now) _ _ c.fill-done.ensures) _ _
-    _ c.all_finite.ensures c.all_finite-2.ensures c.both.ensures _ _ c.fill-done.auto.s c.clear.ensures _
-    (c.clear_outputs.ensures (length s.nodes.now - 1) (k.outkeys ∙ l.keys) (k.outstates ∙ l.states) (k.rms ∙ l.rms)) c.if-both.false
+    orbits_unfit g o s.scratch.now _ ef z _ _ c.fill-done.ensures _ _ c.clear.ensures k.s _
+    (c.clear_outputs.ensures (length s.nodes.now - 1) (k.outkeys ∙ l.keys) (k.outstates ∙ l.states) (k.rms ∙ l.rms))
+    (elim c.else-all_finite.branch [
+      | else-all_finite-via-then-all_finite+else-all_finite-2 w ↦ rw (sym c.all_finite.ensures ∙ w.if-all_finite.true) (sym w.all_finite-then-all_finite.ensures ∙ w.if-all_finite-2.false)
+      | else-all_finite-via-else-all_finite w ↦ rw (sym c.all_finite.ensures ∙ w.if-all_finite.false) refl
+    ])

@@ -1,14 +1,9 @@
--- `hexadecimal::spell` meets its contract. The loop's invariant: the digits still to come, and those that stand there, are all. Assumes nothing.
+-- The digits still to come, and those that stand there, are all. Assumes nothing.
 use mathlib.Core.Path.{◌≡◌}
 use mathlib.Core.List.{◌++◌}
-use Prim.Native.Nat.{◌≤◌}
 use lib.ListN.{length, drop}
 use Rattle.hexadecimal.specs.Digits.{digits_of}
 use Rattle.hexadecimal.proofs.spell.Given as goal
 
 abbrev pub invariant-loop-i : goal.invariant-loop-i
-invariant-loop-i l =
-    (length l.out ≡ length l.initial.out) × (l.i ≤ length l.out) × (digits_of l.base l.i l.rest ++ drop l.i l.out ≡ digits_of l.base (length l.initial.out) l.value)
-
-abbrev pub decreases-loop-i : goal.decreases-loop-i
-decreases-loop-i l = l.i
+invariant-loop-i l = digits_of l.base l.i l.rest ++ drop l.i l.out ≡ digits_of l.base (length l.initial.out) l.value

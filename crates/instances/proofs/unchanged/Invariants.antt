@@ -1,9 +1,6 @@
--- No more values are the same than were looked at: the loop's invariant. Assumes nothing.
-use Prim.Native.Nat.{◌-◌, ◌≤◌}
+-- No more values are the same than were looked at. Assumes nothing.
+use Prim.Native.Nat.{◌≤◌}
 use Rattle.instances.proofs.unchanged.Given as goal
 
-abbrev pub invariant-loop-i : goal.invariant-loop-i
-invariant-loop-i l = (l.i ≤ l.n) × (l.same ≤ l.i)
-
-abbrev pub decreases-loop-i : goal.decreases-loop-i
-decreases-loop-i l = l.n - l.i
+abbrev pub invariant-loop-x : goal.invariant-loop-x
+invariant-loop-x l = l.same ≤ l.x-index

@@ -1,13 +1,13 @@
+-- `kept_epochs::add`: what was made is stored at its place and counted, or nothing changes; each by its law of proofs/Turns.antt. Assumes nothing.
 use Rattle.kept_epochs.proofs.Turns.{added_kept, added_not}
-use borrow.Author.Rules.{rules}
 use Rattle.kept_epochs.proofs.add.Goals as goal
 
-pub returns-then-made : goal.returns-then-made
-returns-then-made c =
+pub returns-in-Some : goal.returns-in-Some
+returns-in-Some c =
     let s = c.args in
-    added_kept s.made s.count s.outtimes.now s.outraws.now c.if-made.true
+    added_kept s.made c.in-Some.e s.count s.outtimes.now s.outraws.now c.in-Some.is
 
-pub returns : goal.returns
-returns c =
+pub returns-in-None : goal.returns-in-None
+returns-in-None c =
     let s = c.args in
-    added_not s.made s.count s.outtimes.now s.outraws.now c.if-made.false
+    added_not s.made s.count s.outtimes.now s.outraws.now c.in-None.is

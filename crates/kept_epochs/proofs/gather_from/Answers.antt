@@ -1,11 +1,8 @@
 -- `kept_epochs::gather_from`: after i observations the kept ones among them are listed and counted, and only the front of the work slice has changed. Assumes nothing.
 use mathlib.Core.Path.{sym, ◌∙◌}
-use Prim.Native.Nat.{◌≤◌, ◌-◌}
+use Prim.Native.Nat.{◌-◌}
 use native.Mathlib.Omega.{arith}
-use lib.ListN.{length}
-use Rattle.inputs.specs.Inputs.{model_of, pair_of, observed_of}
-use Rattle.kept_epochs.specs.KeptEpochs.{given}
-use Rattle.kept_epochs.specs.KeptEpochs.{SoFar}
+use Rattle.kept_epochs.specs.Lent.{given_of}
 use Rattle.kept_epochs.proofs.Turns.{ends}
 use Rattle.kept_epochs.proofs.gather_from.Goals as goal
 
@@ -14,11 +11,11 @@ loop-i-init c = (omega arith, c.requires)
 
 pub turn-count-requires : goal.turn-count-requires
 turn-count-requires c =
-    (c.loop-i.invariant.1.able, c.loop-i-test.true, c.loop-i.invariant.1.few)
+    (c.loop-i.invariant.1.able, omega arith, c.loop-i.invariant.1.few)
 
 pub loop-i-preserved : goal.loop-i-preserved
 loop-i-preserved c =
-    (omega (arith, c.loop-i-test.true), c.turn-count.ensures _ c.loop-i.invariant.1)
+    (omega arith, c.turn-count.ensures _ c.loop-i.invariant.1)
 
 pub shape_of-outtimes : goal.shape_of-outtimes
 shape_of-outtimes c = c.loop-i.invariant.1.able.outtimes ∙ sym c.requires.able.outtimes
@@ -33,5 +30,5 @@ pub returns : goal.returns
 returns c =
     let s = c.args in
     let l = c.loop-i in
-    ends (given (model_of s.degree s.model) (pair_of s.acckeys s.accs) s.windows (observed_of s.obstimes.now s.obsvalues.now s.good.now)) s.base l.i s.s.now
-    l.outtimes l.outraws l.s l.count l.invariant.0 c.loop-i-test.false l.invariant.1
+    ends (given_of s.given) s.base l.i s.s.now
+    l.outtimes l.outraws l.s l.count l.invariant.0 (omega arith) l.invariant.1

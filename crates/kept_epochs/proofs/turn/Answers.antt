@@ -1,24 +1,21 @@
 -- `kept_epochs::turn`: one observation looked up, tried and added takes the list from i observations to i + 1, by `turned` of proofs/Turns.antt. Assumes nothing.
 use mathlib.Core.Path.{refl}
-use native.Mathlib.Omega.{arith}
 use lib.ListN.{get_or}
-use Rattle.kept_epochs.specs.KeptEpochs.{given}
+use Rattle.kept_epochs.specs.Lent.{given_of}
 use Rattle.kept_epochs.proofs.Turns.{room_left, turned}
-use Rattle.inputs.specs.Inputs.{model_of, pair_of, observed_of}
-use borrow.Author.Rules.{rules}
 use Rattle.kept_epochs.proofs.turn.Goals as goal
 
 pub add-requires : goal.add-requires
 add-requires c =
     let s = c.args in
     let p = c.requires in
-    room_left (given (model_of s.degree s.model) (pair_of s.acckeys s.accs) s.windows (observed_of s.obstimes.now s.obsvalues.now s.good.now)) s.base s.i s.count
+    room_left (given_of s.given) s.base s.i s.count
     s.outtimes.now s.outraws.now s.s.now p.0 p.1 p.2
 
 pub returns : goal.returns
 returns c s₀ so =
     let s = c.args in
     let p = c.requires in
-    turned (given (model_of s.degree s.model) (pair_of s.acckeys s.accs) s.windows (observed_of s.obstimes.now s.obsvalues.now s.good.now)) s.base s.i s.count
-    s.outtimes.now s.outraws.now s.s.now p.1 _ _ (get_or s.good.now s.i 0) c.element-t.ensures c.element-observed.ensures refl _
+    turned (given_of s.given) s.base s.i s.count
+    s.outtimes.now s.outraws.now s.s.now p.1 _ _ (get_or s.given.observed.good.now s.i 0) c.element-t.ensures c.element-value.ensures refl _
     c.look-found.ensures _ _ c.try_seen-made.ensures p.0.room _ _ _ c.add.ensures s₀ so

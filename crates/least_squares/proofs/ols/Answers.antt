@@ -1,30 +1,25 @@
--- `least_squares::ols`: refused, without a solution, accepted, or unfit for a float, each by its law of proofs/Calls.antt. Assumes nothing.
-use Rattle.least_squares.proofs.Calls.{ols_refused, ols_failed, ols_full, ols_room, ols_count, ols_accepted, ols_unfit}
-use mathlib.Core.Path.{ap}
-use mathlib.Core.Bool.{not}
-use borrow.Author.Rules.{rules}
+use Rattle.std.proofs.Common.{rules, sym, ◌∙◌}
+use Rattle.least_squares.proofs.Calls.{ols_failed, ols_room, ols_accepted, ols_unfit}
 use Rattle.least_squares.proofs.ols.Goals as goal
-
-pub returns-then-refused-ne0 : goal.returns-then-refused-ne0
-returns-then-refused-ne0 c = search (rules, ols_refused)
+use Rattle.least_squares.proofs.ols.Goals.{else-all_finite-via-then-all_finite+else-all_finite-2, else-all_finite-via-else-all_finite}
 
 pub returns-then-not-coefficients : goal.returns-then-not-coefficients
-returns-then-not-coefficients c = search (rules, ols_failed)
+returns-then-not-coefficients c =
+    ols_failed _ _ _ _ _ (sym c.refusal.ensures ∙ c.in_ok-refusal.was) _ c.coefficients.ensures.0 _ c.coefficients.ensures.1 (search rules) _ _ c.clear.ensures c.clear-then-not-coefficients.ensures
 
 pub residuals_of-requires : goal.residuals_of-requires
-residuals_of-requires c = (search (rules, ols_full), search (rules, ols_room), search (rules, ols_count))
+residuals_of-requires c = ols_room _ _ _ _ _ (sym c.refusal.ensures ∙ c.in_ok-refusal.was) _ c.coefficients.ensures.0 _ c.coefficients.ensures.1 (search rules)
 
-pub returns-then-both : goal.returns-then-both
-returns-then-both c =
-    let s = c.args in
-    ols_accepted s.rows.now s.y.now s.columns s.beta.now s.residuals.now _ c.refusal-refused.ensures c.if-refused-ne0.false _ c.coefficients.ensures.0 _
-    c.coefficients.ensures.1 (ap not c.if-not-coefficients.false) _ c.residuals_of.ensures _ _ _ c.all_finite.ensures c.all_finite-2.ensures
-    c.both.ensures c.if-both.true
+pub returns-then-all_finite-2 : goal.returns-then-all_finite-2
+returns-then-all_finite-2 c =
+    ols_accepted _ _ _ _ _ (sym c.refusal.ensures ∙ c.in_ok-refusal.was) _ c.coefficients.ensures.0 _ c.coefficients.ensures.1 (search rules) _ c.residuals_of.ensures
+    (simp (sym c.all_finite.ensures ∙ c.if-all_finite.true) (sym c.all_finite-then-all_finite.ensures ∙ c.if-all_finite-2.true))
 
 pub returns : goal.returns
 returns c =
-    let s = c.args in
-    ols_unfit s.rows.now s.y.now s.columns s.beta.now s.residuals.now _ c.refusal-refused.ensures c.if-refused-ne0.false _ c.coefficients.ensures.0 _
-    c.coefficients.ensures.1 (ap not c.if-not-coefficients.false) _ c.residuals_of.ensures _ _ _ c.all_finite.ensures c.all_finite-2.ensures
-    c.both.ensures c.if-both.false
+    ols_unfit _ _ _ _ _ (sym c.refusal.ensures ∙ c.in_ok-refusal.was) _ c.coefficients.ensures.0 _ c.coefficients.ensures.1 (search rules) _ c.residuals_of.ensures
+    (elim c.else-all_finite.branch [
+      | else-all_finite-via-then-all_finite+else-all_finite-2 w ↦ simp (sym c.all_finite.ensures ∙ w.if-all_finite.true) (sym w.all_finite-then-all_finite.ensures ∙ w.if-all_finite-2.false)
+      | else-all_finite-via-else-all_finite w ↦ simp (sym c.all_finite.ensures ∙ w.if-all_finite.false)
+    ])
     _ _ c.clear-2.ensures c.clear-3.ensures

@@ -1,12 +1,10 @@
-use Rattle.least_squares.proofs.Calls.{few_columns, refusal_later, refusal_first}
-use borrow.Author.Rules.{rules}
+use Rattle.std.proofs.Common.{mul-le-mul, le_refl, length, arith, sym, ◌∙◌}
+use Rattle.slices.specs.declared.refusal.Refusal.TheVariants.{Count}
+use Rattle.slices.specs.Calls.{accepted}
+use Rattle.slices.proofs.Calls.{cond_passes}
+use Rattle.least_squares.proofs.Calls.{few_columns}
 use Rattle.least_squares.proofs.refusal.Goals as goal
 
-pub later_refusal-requires : goal.later_refusal-requires
-later_refusal-requires c = search (rules, few_columns)
-
-pub returns-then-up_to : goal.returns-then-up_to
-returns-then-up_to c = search (rules, refusal_later)
-
-pub returns-else-up_to : goal.returns-else-up_to
-returns-else-up_to c = search (rules, refusal_first)
+-- a slice of f64 has fewer than 2 ^ 60 places
+pub overflow_mul-y : goal.overflow_mul-y
+overflow_mul-y c = omega (arith, mul-le-mul (le_refl (length c.args.y.now)) (few_columns c.args.p _ c.up_to.ensures (cond_passes _ accepted Count (sym c.tested.ensures ∙ c.in_ok-tested.was)).0))

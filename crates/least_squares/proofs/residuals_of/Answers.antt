@@ -1,9 +1,7 @@
 -- `least_squares::residuals_of`: the first r places hold the first r residuals of the definition. Assumes nothing.
-use mathlib.Core.Path.{◌≡◌, refl}
-use Prim.Native.Nat.{◌-◌, ◌≤◌}
+use mathlib.Core.Path.{refl}
 use native.Mathlib.Omega.{arith}
-use lib.ListN.{length, take, length-set}
-use borrow.Author.Rules.{rules}
+use lib.ListN.{length, length-set}
 use Rattle.least_squares.proofs.MatrixLoops.{row_more, row_whole, row_end}
 use Rattle.laws.specs.Tables.{row}
 use Rattle.least_squares.specs.LeastSquares.{residual_at, residuals_of}

@@ -55,10 +55,6 @@ one_row-sum-requires-in-loop-n c =
       has_less c.args.degree (c.loop-n.n + 1) c.requires.9 l,
     )
 
-pub overflow_add-n-in-loop-n : goal.overflow_add-n-in-loop-n
-overflow_add-n-in-loop-n c =
-    omega (arith, c.loop-n-test.true, c.requires.0)
-
 pub loop-n-smaller : goal.loop-n-smaller
 loop-n-smaller c =
     omega (arith, c.loop-n-test.true)

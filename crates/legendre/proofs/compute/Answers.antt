@@ -1,16 +1,15 @@
 -- `legendre::compute`: the work is done where the lengths fit, and nothing changes otherwise. Assumes nothing.
-use lib.ListN.{length}
-use Rattle.legendre.proofs.RowsOfTables.{compute_fits, computed_not}
+use Rattle.std.proofs.Common.{◌≡◌, false}
+use Rattle.legendre.specs.Tables.{both_fit}
+use Rattle.legendre.proofs.RowsOfTables.{computed_not}
+use Rattle.legendre.proofs.compute.Goals.{else-fits-via-then-fits+else-fits-2, else-fits-via-else-fits}
 use Rattle.legendre.proofs.compute.Goals as goal
 
-pub compute_in-requires : goal.compute_in-requires
-compute_in-requires c =
+pub returns-else-fits : goal.returns-else-fits
+returns-else-fits c =
     let a = c.args in
-    compute_fits a.degree (length a.a.now) (length a.b.now) (length a.p.now) (length a.dp.now) (length a.work.now) _ _ _ c.fits.ensures
-    c.fits-2.ensures c.both.ensures c.if-both.true
-
-pub returns-else-both : goal.returns-else-both
-returns-else-both c =
-    let a = c.args in
-    computed_not a.degree a.a.now a.b.now a.work.now a.lat a.p.now a.dp.now _ _ _ c.fits.ensures c.fits-2.ensures c.both.ensures
-    c.if-both.false
+    let unfit : both_fit a.degree a.a.now a.b.now a.work.now a.p.now a.dp.now ≡ false = elim c.else-fits.branch [
+      | else-fits-via-then-fits+else-fits-2 w ↦ rw (← c.fits.ensures, ← w.fits-then-fits.ensures, w.if-fits.true, w.if-fits-2.false)
+      | else-fits-via-else-fits w ↦ rw (← c.fits.ensures, w.if-fits.false)
+    ] in
+    computed_not a.degree a.a.now a.b.now a.work.now a.lat a.p.now a.dp.now unfit

@@ -4,7 +4,7 @@ use mathlib.Core.List.{List, ◌++◌}
 use lib.ListN.{take}
 use lib.Ieee.{Float}
 use Rattle.laws.specs.Tables.{tri}
-use Rattle.legendre.specs.Rows.{Tables, tables_of}
+use Rattle.legendre.specs.Rows.{Tables, lent}
 use Rattle.legendre.proofs.Recur.{p_is, d_is, holds_next}
 use Rattle.legendre.proofs.RowsOfTables.{row_has}
 use Rattle.legendre.proofs.compute_one.Goals as goal
@@ -12,8 +12,8 @@ use Rattle.legendre.proofs.compute_one.Goals as goal
 pub returns : goal.returns
 returns c =
     let a = c.args in
-    let e = c.tri_of-k.ensures.0 in
-    let T : Tables = tables_of a.a.now a.b.now a.lower.now a.upper.now a.heads.now in
+    let e = c.triangle-k.ensures.0 in
+    let T : Tables = lent a.tables in
     let lr = c.legendre_row.ensures in
     let hp = p_is T a.t a.n a.q1.now a.q2.now c.requires.3 c.requires.4 c.requires.0 a.u c.requires.2 (rw e at lr.has) in
     let hd = d_is T a.t a.u a.n hp (rw e at c.derived_row.ensures) in (

@@ -5,7 +5,7 @@ use mathlib.Core.Path.{◌≡◌, refl}
 use native.Mathlib.Omega.{arith}
 use lib.Ieee.{Float}
 use Rattle.laws.specs.Tables.{tri, tri_next, tri_mono}
-use Rattle.legendre.specs.Rows.{Tables, tables_of, legendre_by, derived_by}
+use Rattle.legendre.specs.Rows.{Tables, lent, legendre_by, derived_by}
 use Rattle.legendre.proofs.Recur.{holds_at, room_less, has_less}
 use Rattle.legendre.proofs.Filling.{rows_none, rows_more, rows_full, rows_to}
 use Rattle.legendre.proofs.compute_rows.Goals as goal
@@ -29,7 +29,7 @@ returns-then-n-degree c =
     let h = c.loop-n in
     let a = c.args in
     let o = c.compute_one.ensures in
-    let T : Tables = tables_of a.a.now a.b.now a.lower.now a.upper.now a.heads.now in
+    let T : Tables = lent a.tables in
     let P : ℕ → ℕ → Float = legendre_by T a.t a.u in
     let D : ℕ → ℕ → Float = derived_by T a.t a.u in
     let e : h.n ≡ a.degree = c.if-n-degree.true in (
@@ -61,10 +61,6 @@ compute_one-requires-in-loop-n c =
       omega arith,
     )
 
-pub overflow_add-n-in-loop-n : goal.overflow_add-n-in-loop-n
-overflow_add-n-in-loop-n c =
-    omega (arith, c.loop-n-test.true, c.requires.0)
-
 pub loop-n-smaller : goal.loop-n-smaller
 loop-n-smaller c =
     omega (arith, c.loop-n-test.true)
@@ -75,7 +71,7 @@ loop-n-preserved c =
     let a = c.args in
     let o = c.compute_one.ensures in
     let q = c.compute_one-in-loop-n.ensures in
-    let T : Tables = tables_of a.a.now a.b.now a.lower.now a.upper.now a.heads.now in
+    let T : Tables = lent a.tables in
     let P : ℕ → ℕ → Float = legendre_by T a.t a.u in
     let D : ℕ → ℕ → Float = derived_by T a.t a.u in
     let l : h.n + 1 ≤ a.degree = omega (arith, c.loop-n-test.true, c.if-n-degree.false) in (
@@ -100,6 +96,20 @@ pub returns : goal.returns
 returns c =
     let h = c.loop-n in
     let a = c.args in
-    let T : Tables = tables_of a.a.now a.b.now a.lower.now a.upper.now a.heads.now in
+    let T : Tables = lent a.tables in
     let e : h.n ≡ a.degree + 1 = omega (arith, c.loop-n-test.false, h.invariant.0) in
     (rows_full (legendre_by T a.t a.u) h.p h.n a.degree h.invariant.7 e (omega arith), rows_full (derived_by T a.t a.u) h.dp h.n a.degree h.invariant.8 e (omega arith))
+
+pub returns-else-n-degree : goal.returns-else-n-degree
+returns-else-n-degree c =
+    let h = c.loop-n in
+    let a = c.args in
+    let o = c.compute_one.ensures in
+    let q = c.compute_one-in-loop-n.ensures in
+    let T : Tables = lent a.tables in
+    let P : ℕ → ℕ → Float = legendre_by T a.t a.u in
+    let D : ℕ → ℕ → Float = derived_by T a.t a.u in
+    let e : h.n + 1 ≡ a.degree = omega (arith, c.loop-n-test.true, c.if-n-degree.false) in (
+      rows_full P _ (h.n + 1 + 1) a.degree (rows_more P _ _ (tri (h.n + 1)) (h.n + 1) refl (rows_more P h.p _ (tri h.n) h.n refl h.invariant.7 o.3) q.3) (omega arith) (search rules),
+      rows_full D _ (h.n + 1 + 1) a.degree (rows_more D _ _ (tri (h.n + 1)) (h.n + 1) refl (rows_more D h.dp _ (tri h.n) h.n refl h.invariant.8 o.4) q.4) (omega arith) (search rules),
+    )

@@ -3,13 +3,13 @@ use Prim.Native.Nat.{suc, ◌+◌, ◌-◌, ◌≤◌}
 use mathlib.Core.Path.{◌≡◌}
 use lib.ListN.{length, take}
 use Rattle.laws.specs.Tables.{tri, rows}
-use Rattle.legendre.specs.Rows.{tables_of, legendre_by, derived_by, Holds}
+use Rattle.legendre.specs.Rows.{lent, legendre_by, derived_by, Holds}
 use Rattle.legendre.proofs.compute_rows.Given as goal
 
 abbrev pub invariant-loop-n : goal.invariant-loop-n
 invariant-loop-n l =
-    (l.n ≤ l.degree + 1) × Holds (tables_of l.a l.b l.lower l.upper l.heads) l.t l.n l.qa × Holds (tables_of l.a l.b l.lower l.upper l.heads) l.t (suc l.n) l.qb × (length l.x ≡ 184) × (length l.d ≡ 184) × (length l.p ≡ length l.initial.p)
-    × (length l.dp ≡ length l.initial.dp) × (take (tri l.n) l.p ≡ rows (legendre_by (tables_of l.a l.b l.lower l.upper l.heads) l.t l.u) l.n) × (take (tri l.n) l.dp ≡ rows (derived_by (tables_of l.a l.b l.lower l.upper l.heads) l.t l.u) l.n)
+    (l.n ≤ l.degree + 1) × Holds (lent l.tables) l.t l.n l.qa × Holds (lent l.tables) l.t (suc l.n) l.qb × (length l.x ≡ 184) × (length l.d ≡ 184) × (length l.p ≡ length l.initial.p)
+    × (length l.dp ≡ length l.initial.dp) × (take (tri l.n) l.p ≡ rows (legendre_by (lent l.tables) l.t l.u) l.n) × (take (tri l.n) l.dp ≡ rows (derived_by (lent l.tables) l.t l.u) l.n)
 
 abbrev pub decreases-loop-n : goal.decreases-loop-n
 decreases-loop-n l = l.degree + 1 - l.n

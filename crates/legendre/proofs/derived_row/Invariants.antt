@@ -1,11 +1,7 @@
 -- `legendre::derived_row`: the first m places hold the row of the definition, whose first, middle and last places differ. Assumes nothing.
 use Rattle.legendre.specs.Legendre.{derived_row}
 use Rattle.legendre.specs.Arrays.{from, at, Has}
-use Prim.Native.Nat.{◌-◌, ◌≤◌}
 use Rattle.legendre.proofs.derived_row.Given as goal
 
 abbrev pub invariant-loop-m : goal.invariant-loop-m
-invariant-loop-m l = (1 ≤ l.m) × (l.m ≤ l.n) × Has l.m (derived_row l.n (from l.lower l.k) (from l.upper l.k) (at l.p)) l.d
-
-abbrev pub decreases-loop-m : goal.decreases-loop-m
-decreases-loop-m l = l.n - l.m
+invariant-loop-m l = Has l.m (derived_row l.n (from l.lower l.k) (from l.upper l.k) (at l.p)) l.d

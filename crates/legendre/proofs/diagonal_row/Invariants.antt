@@ -1,5 +1,4 @@
 -- `legendre::diagonal_row`: the first m places hold the diagonal, and pmm is its next number. Assumes nothing.
-use Prim.Native.Nat.{◌+◌, ◌-◌, ◌≤◌}
 use mathlib.Core.Path.{◌≡◌}
 use lib.ListN.{length, take}
 use Rattle.laws.specs.Tables.{row}
@@ -7,7 +6,4 @@ use Rattle.legendre.specs.Legendre.{diagonal}
 use Rattle.legendre.proofs.diagonal_row.Given as goal
 
 abbrev pub invariant-loop-m : goal.invariant-loop-m
-invariant-loop-m l = (l.m ≤ l.degree + 1) × (length l.out ≡ length l.initial.out) × (take l.m l.out ≡ row diagonal l.m) × (l.pmm ≡ diagonal l.m)
-
-abbrev pub decreases-loop-m : goal.decreases-loop-m
-decreases-loop-m l = l.degree + 1 - l.m
+invariant-loop-m l = (length l.out ≡ length l.initial.out) × (take l.m l.out ≡ row diagonal l.m) × (l.pmm ≡ diagonal l.m)

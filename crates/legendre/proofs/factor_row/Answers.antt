@@ -4,24 +4,13 @@ use mathlib.Core.Path.{refl}
 use native.Mathlib.Omega.{arith}
 use lib.ListN.{take}
 use Rattle.laws.specs.Tables.{row_turn, row_none}
-use Rattle.legendre.specs.Prepared.{factor_of}
-use Rattle.legendre.proofs.Filling.{row_full}
 use Rattle.legendre.proofs.factor_row.Goals as goal
 
 pub loop-m-init : goal.loop-m-init
-loop-m-init c = (omega arith, refl, search row_none)
+loop-m-init g c = (refl, λ f h. search row_none)
 
 pub loop-m-preserved : goal.loop-m-preserved
-loop-m-preserved c =
+loop-m-preserved g c =
     let s = c.args in
     let h = c.loop-m in
-    (omega arith, search rules, row_turn (factor_of s.f s.n) (take s.k s.out.now) h.out s.k h.m _ h.invariant.2 (omega arith) c.factor_at.ensures)
-
-pub shape_of-out : goal.shape_of-out
-shape_of-out c = c.loop-m.invariant.1
-
-pub returns : goal.returns
-returns c =
-    let s = c.args in
-    let h = c.loop-m in
-    row_full (factor_of s.f s.n) (take s.k s.out.now) h.out s.k h.m s.n h.invariant.2 (omega arith)
+    (search rules, λ f e. row_turn (f s.n) (take s.k s.out.now) h.out s.k h.m _ (h.invariant.1 f e) (omega arith) (e _ _ _ (omega arith) (omega arith) c.factor.ensures))

@@ -1,29 +1,15 @@
 -- `legendre::legendre_row`: the first m places are the next row in the place of the row before last, and p has its products with r. Assumes nothing.
 use Rattle.laws.specs.Floats.{◌⊗◌}
-use Rattle.legendre.specs.Arrays.{at}
-use Rattle.legendre.proofs.Rows.{next_mid, next_last}
-use mathlib.Core.Path.{◌≡◌, ap}
+use Rattle.legendre.proofs.Rows.{next_mid}
+use mathlib.Core.Path.{ap}
 use native.Mathlib.Omega.{arith}
 use lib.ListN.{get_or}
 use lib.Ieee.{Float, nan}
-use Rattle.legendre.proofs.FilledArrays.{pre_none, pre_more, has_none, has_more}
+use Rattle.legendre.proofs.FilledArrays.{pre_more, has_more}
 use Rattle.legendre.proofs.legendre_row.Goals as goal
-
-pub loop-m-init : goal.loop-m-init
-loop-m-init c = (omega arith, pre_none, has_none (omega arith))
 
 pub loop-m-preserved : goal.loop-m-preserved
 loop-m-preserved c =
     let s = c.args in
-    let v = next_mid s.n s.k s.t s.head s.a.now s.b.now s.q1.now s.q2.now c.loop-m.invariant.1 (omega arith) in
-    (omega arith, pre_more _ c.loop-m.invariant.1 (omega arith) v, has_more _ c.loop-m.invariant.2 (omega arith) (ap (λ (x : Float). x ⊗ get_or s.r.now c.loop-m.m nan) v))
-
-pub returns : goal.returns
-returns c =
-    let s = c.args in
-    let e : c.loop-m.m ≡ s.n = omega arith in
-    let v = next_last s.n s.k s.t s.head s.a.now s.b.now (at s.q1.now) (at s.q2.now) in
-    record {
-      begins = pre_more _ (rw e at c.loop-m.invariant.1) (omega arith) v;
-      has = has_more _ (rw e at c.loop-m.invariant.2) (omega arith) (ap (λ (x : Float). x ⊗ get_or s.r.now s.n nan) v);
-    }
+    let v = next_mid s.n s.k s.t s.head s.a.now s.b.now s.q1.now s.q2.now c.loop-m.invariant.0 (omega arith) in
+    (pre_more _ c.loop-m.invariant.0 (omega arith) v, has_more _ c.loop-m.invariant.1 (omega arith) (ap (λ (x : Float). x ⊗ get_or s.r.now c.loop-m.m nan) v))

@@ -2,11 +2,8 @@
 use Rattle.laws.specs.Floats.{◌⊗◌}
 use Rattle.legendre.specs.Rows.{next_row}
 use Rattle.legendre.specs.Arrays.{at, Begins, Has}
-use Prim.Native.Nat.{ℕ, ◌-◌, ◌≤◌}
+use Prim.Native.Nat.{ℕ}
 use Rattle.legendre.proofs.legendre_row.Given as goal
 
 abbrev pub invariant-loop-m : goal.invariant-loop-m
-invariant-loop-m l = (l.m ≤ l.n) × Begins l.m (next_row l.n l.k l.t l.head l.a l.b (at l.q1) (at l.initial.q2)) l.initial.q2 l.q2 × Has l.m (λ (i : ℕ). next_row l.n l.k l.t l.head l.a l.b (at l.q1) (at l.initial.q2) i ⊗ at l.r i) l.p
-
-abbrev pub decreases-loop-m : goal.decreases-loop-m
-decreases-loop-m l = l.n - l.m
+invariant-loop-m l = Begins l.m (next_row l.n l.k l.t l.head l.a l.b (at l.q1) (at l.initial.q2)) l.initial.q2 l.q2 × Has l.m (λ (i : ℕ). next_row l.n l.k l.t l.head l.a l.b (at l.q1) (at l.initial.q2) i ⊗ at l.r i) l.p

@@ -1,16 +1,12 @@
 -- `legendre::order_rows`: the first m places hold cosine and sine of the multiples of the longitude. Assumes nothing.
-use Prim.Native.Nat.{◌+◌}
-use mathlib.Core.Path.{◌≡◌, ap, ◌∙◌}
+use mathlib.Core.Path.{ap, ◌∙◌}
 use native.Mathlib.Omega.{arith}
 use lib.Ieee.{Float}
 use Rattle.laws.specs.Floats.{◌⊗◌}
 use Rattle.numbers.specs.declared.SineCosine.{SineCosine}
 use Rattle.numbers.specs.Numbers.{sine, cosine, sine_cosine}
-use Rattle.legendre.proofs.FilledArrays.{has_none, has_more}
+use Rattle.legendre.proofs.FilledArrays.{has_more}
 use Rattle.legendre.proofs.order_rows.Goals as goal
-
-pub loop-m-init : goal.loop-m-init
-loop-m-init c = (omega arith, has_none (omega arith), has_none (omega arith))
 
 pub loop-m-preserved : goal.loop-m-preserved
 unfolding sine_cosine
@@ -19,11 +15,6 @@ loop-m-preserved c =
     let e = c.float_of.ensures in
     let lon = c.args.lon in
     let both = c.sine_cosine-z.ensures in (
-      omega arith,
-      has_more _ h.invariant.1 (omega arith) (ap (λ (z : SineCosine). z.cosine) both ∙ ap (λ (k : Float). cosine (k ⊗ lon)) e),
-      has_more _ h.invariant.2 (omega arith) (ap (λ (z : SineCosine). z.sine) both ∙ ap (λ (k : Float). sine (k ⊗ lon)) e),
+      has_more _ h.invariant.0 (omega arith) (ap (λ (z : SineCosine). z.cosine) both ∙ ap (λ (k : Float). cosine (k ⊗ lon)) e),
+      has_more _ h.invariant.1 (omega arith) (ap (λ (z : SineCosine). z.sine) both ∙ ap (λ (k : Float). sine (k ⊗ lon)) e),
     )
-
-pub returns : goal.returns
-returns c =
-    let e : c.loop-m.m ≡ c.args.degree + 1 = omega arith in rw (← e) (c.loop-m.invariant.1, c.loop-m.invariant.2)

@@ -2,20 +2,16 @@
 use Rattle.laws.specs.Floats.{◌⊕◌, one64}
 use Rattle.laws.specs.Sums.{sum_to}
 use Rattle.legendre.proofs.Added.{sums_more, number_first, number_next}
-use Prim.Native.Nat.{◌+◌}
-use mathlib.Core.Path.{◌≡◌, refl, ap, ◌∙◌}
+use mathlib.Core.Path.{refl, ap, ◌∙◌}
 use native.Mathlib.Omega.{arith}
 use lib.Ieee.{Float}
 use Rattle.legendre.proofs.row_sums.Goals as goal
 
 pub loop-m-init : goal.loop-m-init
 unfolding sum_to
-loop-m-init c = (omega arith, number_first, record { sv = refl; slat = refl; slon = refl })
+loop-m-init c = (number_first, record { sv = refl; slat = refl; slon = refl })
 
 pub loop-m-preserved : goal.loop-m-preserved
 loop-m-preserved c =
     let h = c.loop-m in
-    (omega arith, ap (λ (x : Float). x ⊕ one64) h.invariant.1 ∙ number_next h.m (omega arith), sums_more h.invariant.2 h.invariant.1)
-
-pub returns : goal.returns
-returns c = let e : c.loop-m.m ≡ c.args.n + 1 = omega arith in rw (← e) c.loop-m.invariant.2
+    (ap (λ (x : Float). x ⊕ one64) h.invariant.0 ∙ number_next h.m (omega arith), sums_more h.invariant.1 h.invariant.0)

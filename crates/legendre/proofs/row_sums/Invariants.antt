@@ -2,13 +2,9 @@
 use Rattle.legendre.specs.Arrays.{at, from}
 use Rattle.legendre.specs.Sums.{RowSums, degree_of}
 use Rattle.laws.specs.WholeNumbers.{number}
-use Prim.Native.Nat.{◌+◌, ◌-◌, ◌≤◌}
 use mathlib.Core.Path.{◌≡◌}
 use Rattle.legendre.proofs.row_sums.Given as goal
 
 abbrev pub invariant-loop-m : goal.invariant-loop-m
 invariant-loop-m l =
-    (l.m ≤ l.n + 1) × (l.order ≡ number l.m) × RowSums (degree_of (from l.c l.k) (from l.s l.k) (at l.x) (at l.y) (at l.p) (at l.d)) l.m l.v l.lat l.lon
-
-abbrev pub decreases-loop-m : goal.decreases-loop-m
-decreases-loop-m l = l.n + 1 - l.m
+    (l.order ≡ number l.m) × RowSums (degree_of (from l.c l.k) (from l.s l.k) (at l.x) (at l.y) (at l.p) (at l.d)) l.m l.v l.lat l.lon

@@ -5,23 +5,13 @@ use native.Mathlib.Omega.{arith}
 use lib.ListN.{take}
 use Rattle.laws.specs.Tables.{row_turn, row_none}
 use Rattle.legendre.specs.Arrays.{at}
-use Rattle.legendre.proofs.Filling.{row_full}
 use Rattle.legendre.proofs.store_row.Goals as goal
 
 pub loop-m-init : goal.loop-m-init
-loop-m-init c = (omega arith, refl, search row_none)
+loop-m-init c = (refl, search row_none)
 
 pub loop-m-preserved : goal.loop-m-preserved
 loop-m-preserved c =
     let s = c.args in
     let h = c.loop-m in
-    (omega arith, search rules, row_turn (at s.x.now) (take s.k s.out.now) h.out s.k h.m _ h.invariant.2 (omega arith) refl)
-
-pub shape_of-out : goal.shape_of-out
-shape_of-out c = c.loop-m.invariant.1
-
-pub returns : goal.returns
-returns c =
-    let s = c.args in
-    let h = c.loop-m in
-    row_full (at s.x.now) (take s.k s.out.now) h.out s.k h.m s.n h.invariant.2 (omega arith)
+    (search rules, row_turn (at s.x.now) (take s.k s.out.now) h.out s.k h.m _ h.invariant.1 (omega arith) refl)

@@ -1,7 +1,6 @@
 -- `legendre::unscale_row`: the first m places hold the powers of the cosine over the scale, and x is the next. Assumes nothing.
 use Rattle.legendre.specs.Legendre.{unscale}
-use Prim.Native.Nat.{◌+◌}
-use mathlib.Core.Path.{◌≡◌, refl}
+use mathlib.Core.Path.{refl}
 use native.Mathlib.Omega.{arith}
 use native.Mathlib.Numerals.{add-one}
 use Rattle.legendre.proofs.FilledArrays.{has_none, has_more}
@@ -9,11 +8,8 @@ use Rattle.legendre.proofs.unscale_row.Goals as goal
 
 pub loop-m-init : goal.loop-m-init
 unfolding unscale
-loop-m-init c = (omega arith, refl, has_none (omega arith))
+loop-m-init c = (refl, has_none (omega arith))
 
 pub loop-m-preserved : goal.loop-m-preserved
 unfolding unscale
-loop-m-preserved c = (omega arith, rw (add-one, c.loop-m.invariant.1), has_more _ c.loop-m.invariant.2 (omega arith) c.loop-m.invariant.1)
-
-pub returns : goal.returns
-returns c = let e : c.loop-m.m ≡ c.args.degree + 1 = omega arith in rw (← e) c.loop-m.invariant.2
+loop-m-preserved c = (rw (add-one, c.loop-m.invariant.0), has_more _ c.loop-m.invariant.1 (omega arith) c.loop-m.invariant.0)

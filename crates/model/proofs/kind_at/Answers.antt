@@ -7,14 +7,15 @@ use borrow.Author.Rules.{rules}
 use Rattle.model.proofs.kind_at.Goals as goal
 
 pub blend_kind-requires : goal.blend_kind-requires
-blend_kind-requires c = (
-  c.requires.0,
-  c.requires.1,
-  c.requires.2,
-  c.requires.3,
-  bracket_fields c.args.times.now c.args.t c.bracket-j.result _ _ c.bracket-j.ensures c.requires.4 (le_of_eq (sym c.requires.5)),
-  c.requires.6,
-)
+blend_kind-requires c =
+    let m = c.requires.model_sized in (
+      m.degree,
+      c.requires.after_two,
+      c.requires.kind_starts,
+      m.static,
+      bracket_fields c.args.model.field_times.now c.args.t c.bracket-j.result _ _ c.bracket-j.ensures m.count (le_of_eq (sym m.fields)),
+      c.requires.room,
+    )
 
 pub returns : goal.returns
 returns c = search (rules, kind_is_at)

@@ -4,5 +4,5 @@ use Rattle.record_detrending.proofs.remove_in.Goals as goal
 
 pub returns : goal.returns
 returns c =
-    remove_leaves c.args.epochs.now c.args.nodes.now c.args.scratch.now c.requires c.read.new.work c.settle-o.new.work c.clear.new.a c.put_back.new.epochs c.settle-o.result
-    c.read.ensures c.settle-o.ensures.0 c.settle-o.ensures.1 c.put_back.ensures c.clear.ensures
+    remove_leaves c.args.epochs.now c.args.nodes.now c.args.scratch.now c.requires c.read.new.work c.settle-answer.new.work c.clear.new.a c.put_back.new.epochs c.settle-answer.result
+    c.read.ensures c.settle-answer.ensures.0 c.settle-answer.ensures.1 c.put_back.ensures c.clear.ensures

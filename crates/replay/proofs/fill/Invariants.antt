@@ -1,11 +1,7 @@
--- `replay::fill` meets its contract. Assumes nothing.
+-- What stands after the places that are filled is kept. Assumes nothing.
 use mathlib.Core.Path.{◌≡◌}
-use Prim.Native.Nat.{◌-◌}
-use lib.ListN.{length, drop}
+use lib.ListN.{drop}
 use Rattle.replay.proofs.fill.Given as goal
 
 abbrev pub invariant-loop-i : goal.invariant-loop-i
-invariant-loop-i l = (length l.out ≡ length l.initial.out) × (drop l.count l.out ≡ drop l.count l.initial.out)
-
-abbrev pub decreases-loop-i : goal.decreases-loop-i
-decreases-loop-i l = l.count - l.i
+invariant-loop-i g l = drop l.count l.out ≡ drop l.count l.initial.out

@@ -1,5 +1,4 @@
 use mathlib.Core.List.{[], ◌∷◌}
-use borrow.Author.Rules.{rules}
 use Rattle.sheet.proofs.clear_columns.Goals as goal
 
 pub returns : goal.returns

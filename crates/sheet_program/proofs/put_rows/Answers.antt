@@ -1,18 +1,13 @@
--- What is printed, followed by the text of the rows that are left, is the text of all: the loop's invariant. Assumes nothing.
-use Rattle.sheet_program.proofs.ReadAndPrinted.{rows_start, rows_turn, rows_done, rows_count}
-use mathlib.Core.Path.{◌≡◌, refl}
-use mathlib.Core.List.{◌++◌}
-use Prim.Native.Nat.{◌+◌, ◌-◌, ◌*◌, ◌≤◌}
-use lib.ListN.{length, take}
-use Rattle.sheet_program.specs.Text.{rows_text}
-use borrow.Author.Rules.{rules}
+-- Assumes nothing.
+use Rattle.std.proofs.Common.{arith}
+use Rattle.sheet_program.proofs.ReadAndPrinted.{rows_turn, rows_done, rows_count}
 use Rattle.sheet_program.proofs.put_rows.Goals as goal
 
-pub loop-k-init : goal.loop-k-init
-loop-k-init c = (refl, search rules, search (rules, rows_start))
-
 pub loop-k-preserved : goal.loop-k-preserved
-loop-k-preserved c = (search rules, search rules, search (rules, rows_turn))
+loop-k-preserved c = rows_turn _ _ _ _ _ _ _ _ _ _ c.loop-k-test.true c.put_row.ensures c.loop-k.invariant
 
 pub returns : goal.returns
-returns c = (search (rules, rows_done), search (rules, rows_count))
+returns c = (
+  rows_done _ _ _ _ _ _ _ _ _ c.loop-k-test.false c.loop-k.auto.k-end c.loop-k.invariant,
+  rows_count _ _ (omega (arith, c.loop-k.auto.out, c.requires.2)) c.requires.1,
+)

@@ -1,5 +1,4 @@
 use Rattle.slots.proofs.Looking.{slot_searched}
-use Rattle.std.proofs.Common.{rules}
 use Rattle.slots.proofs.in_slot.Goals as goal
 
 pub returns : goal.returns

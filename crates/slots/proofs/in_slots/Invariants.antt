@@ -1,6 +1,6 @@
 -- `slots::in_slots`: no slot before w has the second, so the first that has it gives the answer. Assumes nothing.
-use Rattle.std.proofs.Common.{◌-◌, ◌≤◌, arith, rules}
-use Rattle.slots.proofs.Looking.{Empty, empty_none, empty_next, slot_found, none_found}
+use Rattle.std.proofs.Common.{◌-◌, ◌≤◌}
+use Rattle.slots.proofs.Looking.{Empty}
 use Rattle.slots.proofs.in_slots.Given as goal
 
 abbrev pub invariant-loop-w : goal.invariant-loop-w

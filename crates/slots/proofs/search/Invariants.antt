@@ -1,6 +1,6 @@
 -- `slots::search`, by halving: all before lo lies below the key and all from hi on above it. Assumes nothing.
-use Rattle.std.proofs.Common.{◌+◌, ◌-◌, ◌/◌, ◌<◌, refl, arith, rules}
-use Rattle.slots.proofs.Looking.{Bracket, start, higher, lower, met, missed}
+use Rattle.std.proofs.Common.{◌-◌}
+use Rattle.slots.proofs.Looking.{Bracket}
 use Rattle.slots.proofs.search.Given as goal
 
 abbrev pub invariant-loop-lo : goal.invariant-loop-lo

@@ -1,11 +1,10 @@
--- The bytes read so far fit the buffer, which keeps its length: the loop's invariant. Assumes nothing.
-use mathlib.Core.Path.{◌≡◌}
+-- The bytes read so far fit the buffer: the loop's invariant. Assumes nothing.
 use Prim.Native.Nat.{◌-◌, ◌≤◌}
 use lib.ListN.{length}
 use Rattle.streams.proofs.read.Given as goal
 
 abbrev pub invariant-loop-done : goal.invariant-loop-done
-invariant-loop-done g l = (length l.buf ≡ l.end) × (l.done ≤ length l.buf)
+invariant-loop-done g l = l.done ≤ length l.buf
 
 abbrev pub decreases-loop-done : goal.decreases-loop-done
-decreases-loop-done g l = l.end - l.done
+decreases-loop-done g l = length l.initial.buf - l.done

@@ -1,13 +1,7 @@
 -- `detrend::work::detrend_all`: the ranges from k on, applied to what stands there, give what all ranges give. Assumes nothing.
 use borrow.Author.Rules.{rules}
-use mathlib.Core.Path.{◌≡◌, refl}
-use mathlib.Core.Bool.{true}
-use Prim.Native.Nat.{◌-◌, ◌≤◌}
+use mathlib.Core.Path.{refl}
 use native.Mathlib.Omega.{arith}
-use borrow.Rule.Slice.PartMut.{mid_of}
-use lib.ListN.{length, take, drop}
-use Rattle.detrend.specs.Revolutions.{detrended_of}
-use Rattle.detrend.specs.Ranges.{ranges_fit}
 use Rattle.detrend.proofs.Ranges.{range_low, range_sum, range_next, ranges_turn, ranges_times, ranges_all}
 use Rattle.detrend.proofs.work.detrend_all.Goals as goal
 

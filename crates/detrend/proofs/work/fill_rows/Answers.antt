@@ -1,11 +1,7 @@
 -- `detrend::work::fill_rows`: after i times the work area has their rows from `to` on and is unchanged elsewhere. Assumes nothing.
-use mathlib.Core.Path.{◌≡◌, refl}
-use Prim.Native.Nat.{◌-◌, ◌*◌, ◌≤◌}
+use mathlib.Core.Path.{refl}
 use native.Mathlib.Omega.{arith}
 use borrow.Author.Rules.{rules}
-use borrow.Rule.Slice.PartMut.{mid_of, put_mid}
-use lib.ListN.{length}
-use Rattle.detrend.specs.Fit.{rows_of}
 use Rattle.detrend.proofs.DesignRows.{rows_none, rows_turn, rows_done}
 use Rattle.laws.specs.Lists.{put_length}
 use Rattle.detrend.proofs.work.fill_rows.Goals as goal

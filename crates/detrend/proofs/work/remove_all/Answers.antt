@@ -1,13 +1,7 @@
 -- `detrend::work::remove_all`: what is done, with the revolutions left on the rest, is the removal over all nodes. Assumes nothing.
-use mathlib.Core.Path.{◌≡◌, refl}
-use mathlib.Core.List.{◌++◌}
-use Prim.Native.Nat.{◌+◌, ◌-◌, ◌<◌, ◌≤◌}
+use mathlib.Core.Path.{refl}
 use native.Mathlib.Omega.{arith}
 use borrow.Author.Rules.{rules}
-use borrow.Rule.Slice.PartMut.{mid_of}
-use lib.Ieee.{nan}
-use lib.ListN.{length, take, drop, get_or}
-use Rattle.detrend.specs.Revolutions.{windows_of, removed_of}
 use Rattle.detrend.proofs.RevolutionWalk.{removed_starts, removed_turn, removed_done, starts_inside, ends_inside, times_kept}
 use Rattle.detrend.proofs.work.remove_all.Goals as goal
 

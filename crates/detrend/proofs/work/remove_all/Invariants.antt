@@ -1,20 +1,14 @@
 -- `detrend::work::remove_all`: what is done, with the revolutions left on the rest, is the removal over all nodes. Assumes nothing.
-use mathlib.Core.Path.{◌≡◌, refl}
+use mathlib.Core.Path.{◌≡◌}
 use mathlib.Core.List.{◌++◌}
-use Prim.Native.Nat.{◌+◌, ◌-◌, ◌<◌, ◌≤◌}
-use native.Mathlib.Omega.{arith}
-use borrow.Author.Rules.{rules}
+use Prim.Native.Nat.{◌-◌, ◌<◌, ◌≤◌}
 use borrow.Rule.Slice.PartMut.{mid_of}
 use lib.Ieee.{nan}
 use lib.ListN.{length, take, drop, get_or}
 use Rattle.detrend.specs.Revolutions.{windows_of, removed_of}
-use Rattle.detrend.proofs.RevolutionWalk.{removed_starts, removed_turn, removed_done, starts_inside, ends_inside, times_kept}
 use Rattle.detrend.proofs.work.remove_all.Given as goal
 
 abbrev pub invariant-loop-k : goal.invariant-loop-k
 invariant-loop-k l =
     (0 < l.k) × (l.k ≤ length l.nodes) × (l.first ≤ l.n) × (length l.s ≡ length l.initial.s) × (take l.n l.s ≡ take l.n l.initial.s) ×
     (take l.first (mid_of l.n l.n l.s) ++ windows_of (get_or l.nodes (l.k - 1) nan) (drop l.k l.nodes) (drop l.first (take l.n l.initial.s)) (drop l.first (mid_of l.n l.n l.s)) ≡ removed_of l.nodes (take l.n l.initial.s) (mid_of l.n l.n l.initial.s))
-
-abbrev pub decreases-loop-k : goal.decreases-loop-k
-decreases-loop-k l = length l.nodes - l.k

@@ -1,5 +1,4 @@
 use Rattle.epoch.specs.Epoch.{along_of}
-use borrow.Author.Rules.{rules}
 use Rattle.epoch.proofs.kernel.along.Goals as goal
 
 pub returns : goal.returns

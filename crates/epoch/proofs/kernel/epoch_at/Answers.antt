@@ -1,6 +1,5 @@
 -- `epoch::kernel::epoch_at`: the record from gravity, tides, frame and velocity term, from what each call ensures, by rewriting. Assumes nothing.
 use Rattle.epoch.specs.Epoch.{epoch_with, gravity_term}
-use borrow.Author.Rules.{rules}
 use Rattle.epoch.proofs.kernel.epoch_at.Goals as goal
 
 pub returns : goal.returns

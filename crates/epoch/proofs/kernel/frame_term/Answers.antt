@@ -1,6 +1,5 @@
 -- `epoch::kernel::frame_term`: the frame's accelerations at D less those at C along the sight, from what each call ensures, by rewriting. Assumes nothing.
 use Rattle.epoch.specs.Epoch.{frame_term}
-use borrow.Author.Rules.{rules}
 use Rattle.epoch.proofs.kernel.frame_term.Goals as goal
 
 pub returns : goal.returns

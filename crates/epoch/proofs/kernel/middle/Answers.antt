@@ -1,6 +1,5 @@
 use Rattle.epoch.specs.Epoch.{middle_of}
 use lib.Ieee.{of_bits, round}
-use borrow.Author.Rules.{rules}
 use Rattle.epoch.proofs.kernel.middle.Goals as goal
 
 pub returns : goal.returns

@@ -1,6 +1,5 @@
 -- `epoch::kernel::sight`: the vector from C to D scaled by the reciprocal of its length is the line of sight. Assumes nothing.
 use Rattle.epoch.specs.Epoch.{sight_of}
-use borrow.Author.Rules.{rules}
 use Rattle.epoch.proofs.kernel.sight.Goals as goal
 
 pub returns : goal.returns

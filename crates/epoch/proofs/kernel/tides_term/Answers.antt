@@ -1,7 +1,6 @@
 -- `epoch::kernel::tides_term`: the tides at D less those at C along the sight, from what each call ensures, by rewriting. Assumes nothing.
 use Rattle.epoch.specs.Epoch.{tides_term}
 use Rattle.forces.specs.Forces.{tides_of}
-use borrow.Author.Rules.{rules}
 use Rattle.epoch.proofs.kernel.tides_term.Goals as goal
 
 pub returns : goal.returns

@@ -1,6 +1,5 @@
 -- `epoch::kernel::velocity_term`: relative speed squared less range rate squared, over the distance, from what each call ensures, by rewriting. Assumes nothing.
 use Rattle.epoch.specs.Epoch.{velocity_term}
-use borrow.Author.Rules.{rules}
 use Rattle.epoch.proofs.kernel.velocity_term.Goals as goal
 
 pub returns : goal.returns

@@ -4,8 +4,6 @@ use Prim.Native.Nat.{◌+◌, ◌-◌, ◌≤◌}
 use lib.ListN.{length, drop}
 use Rattle.laws.specs.Runs.{runs_of}
 use Rattle.filter.specs.Calls.{long_runs}
-use Rattle.filter.proofs.Turns.{runs_turn, long_turn, runs_none, long_none}
-use borrow.Author.Rules.{rules}
 use Rattle.filter.proofs.kernel.count_runs.Given as goal
 
 abbrev pub invariant-loop-start : goal.invariant-loop-start

@@ -2,7 +2,6 @@
 use mathlib.Core.Path.{◌∙◌}
 use Rattle.filter.specs.Sections.{sections_of}
 use Rattle.filter.proofs.Turns.{both_law}
-use borrow.Author.Rules.{rules}
 use Rattle.filter.proofs.work.both_ways.Goals as goal
 
 pub returns : goal.returns

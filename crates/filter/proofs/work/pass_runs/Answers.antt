@@ -1,18 +1,11 @@
 -- `filter::work::pass_runs`: what is written, with the definition of the rest behind it, is the definition of the whole list. Assumes nothing.
-use mathlib.Core.Path.{◌≡◌, refl}
-use mathlib.Core.List.{◌++◌}
-use Prim.Native.Nat.{◌+◌, ◌-◌, ◌≤◌}
+use Prim.Native.Nat.{◌-◌}
 use borrow.Author.Rules.{rules}
-use lib.ListN.{length, take, drop}
-use Rattle.laws.specs.Runs.{passed}
 use Rattle.filter.specs.Sections.{sections_of}
 use Rattle.filter.specs.Filter.{pass_by}
 use Rattle.laws.specs.Lists.{put_length}
-use Rattle.filter.proofs.Turns.{pass_turn, passed_now}
+use Rattle.filter.proofs.Turns.{pass_turn}
 use Rattle.filter.proofs.work.pass_runs.Goals as goal
-
-pub loop-start-init : goal.loop-start-init
-loop-start-init c = (refl, refl, search rules, refl)
 
 pub loop-start-preserved : goal.loop-start-preserved
 loop-start-preserved c =
@@ -27,10 +20,3 @@ loop-start-preserved c =
       pass_turn (pass_by (sections_of s.sections.now)) s.times.now s.x.now l.out s.out.now _ r.new.out l.start e.result
           c.loop-start-test.true q.0 l.invariant.0 q.1 e.ensures.0 e.ensures.2 r.auto.out r.ensures l.invariant.3,
     )
-
-pub returns : goal.returns
-returns c =
-    let l = c.loop-start in
-    let s = c.args in
-    let q = c.requires in
-    passed_now (pass_by (sections_of s.sections.now)) s.times.now s.x.now l.out s.out.now _ l.start c.loop-start-test.false q.0 l.invariant.0 q.1 l.invariant.3

@@ -1,14 +1,11 @@
 -- `filter::work::pass_runs`: what is written, with the definition of the rest behind it, is the definition of the whole list. Assumes nothing.
-use mathlib.Core.Path.{◌≡◌, refl}
+use mathlib.Core.Path.{◌≡◌}
 use mathlib.Core.List.{◌++◌}
-use Prim.Native.Nat.{◌+◌, ◌-◌, ◌≤◌}
-use borrow.Author.Rules.{rules}
+use Prim.Native.Nat.{◌-◌, ◌≤◌}
 use lib.ListN.{length, take, drop}
 use Rattle.laws.specs.Runs.{passed}
 use Rattle.filter.specs.Sections.{sections_of}
 use Rattle.filter.specs.Filter.{pass_by}
-use Rattle.laws.specs.Lists.{put_length}
-use Rattle.filter.proofs.Turns.{pass_turn, passed_now}
 use Rattle.filter.proofs.work.pass_runs.Given as goal
 
 abbrev pub invariant-loop-start : goal.invariant-loop-start

@@ -1,16 +1,13 @@
--- `filter::work::run_sections`: the sections left on what stands there give all sections on the list at the start; four or one a turn. Assumes nothing.
-use mathlib.Core.Path.{◌≡◌, refl}
-use Prim.Native.Nat.{◌-◌, ◌≤◌}
-use native.Mathlib.Omega.{arith}
-use borrow.Author.Rules.{rules}
-use lib.ListN.{length, drop}
+-- `filter::work::run_sections` meets its contract. Assumes nothing.
+use mathlib.Core.Path.{◌≡◌}
+use Prim.Native.Nat.{◌*◌}
+use lib.ListN.{drop}
 use Rattle.filter.specs.Sections.{sections_of}
 use Rattle.filter.specs.Filter.{through}
-use Rattle.filter.proofs.Turns.{one_more, four_more, run_done}
 use Rattle.filter.proofs.work.run_sections.Given as goal
 
-abbrev pub invariant-loop-at : goal.invariant-loop-at
-invariant-loop-at l = (length l.x ≡ length l.initial.x) × (l.at ≤ length l.sections) × (through (sections_of (drop l.at l.sections)) l.x ≡ through (sections_of l.sections) l.initial.x)
+abbrev pub invariant-loop-k : goal.invariant-loop-k
+invariant-loop-k l = through (sections_of (drop (20 * l.k) l.sections)) l.x ≡ through (sections_of l.sections) l.initial.x
 
-abbrev pub decreases-loop-at : goal.decreases-loop-at
-decreases-loop-at l = length l.sections - l.at
+abbrev pub invariant-loop-k-2 : goal.invariant-loop-k-2
+invariant-loop-k-2 l = through (sections_of (drop (5 * l.k) l.sections)) l.x ≡ through (sections_of l.sections) l.fn.x

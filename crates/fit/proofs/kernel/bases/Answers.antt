@@ -1,7 +1,6 @@
 -- `fit::kernel::bases`: the first r base places hold the run's coordinates at the observed steps, and nothing else has moved. Assumes nothing.
 use Rattle.fit.proofs.Rows.{based_none, based_more}
-use Rattle.fit.specs.WorkLeaves.{Based}
-use Rattle.std.proofs.Common.{◌≡◌, ◌-◌, ◌*◌, ◌≤◌, arith, rules}
+use Rattle.std.proofs.Common.{◌≡◌, ◌*◌, arith}
 use Rattle.fit.proofs.kernel.bases.Goals as goal
 
 pub loop-r-init : goal.loop-r-init

@@ -1,7 +1,6 @@
 -- `fit::kernel::column`: in the first r rows column i is the run less the base; the other columns, and all before the design, are unchanged. Assumes nothing.
-use Rattle.fit.proofs.Rows.{columned_none, columned_more}
 use Rattle.fit.specs.WorkLeaves.{Columned}
-use Rattle.std.proofs.Common.{◌≡◌, ◌-◌, ◌*◌, ◌≤◌, arith, rules}
+use Rattle.std.proofs.Common.{◌-◌, ◌*◌, ◌≤◌}
 use Rattle.fit.proofs.kernel.column.Given as goal
 
 abbrev pub invariant-loop-r : goal.invariant-loop-r

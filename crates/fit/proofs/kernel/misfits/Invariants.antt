@@ -1,7 +1,6 @@
 -- `fit::kernel::misfits`: the first r misfits are observed less run coordinate, and nothing outside their part has moved. Assumes nothing.
-use Rattle.fit.proofs.Rows.{measured_none, measured_more}
 use Rattle.fit.specs.WorkLeaves.{Measured}
-use Rattle.std.proofs.Common.{◌≡◌, ◌-◌, ◌*◌, ◌≤◌, arith, rules}
+use Rattle.std.proofs.Common.{◌-◌, ◌*◌, ◌≤◌}
 use Rattle.fit.proofs.kernel.misfits.Given as goal
 
 abbrev pub invariant-loop-r : goal.invariant-loop-r

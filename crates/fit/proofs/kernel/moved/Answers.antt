@@ -1,5 +1,5 @@
 use Rattle.fit.specs.Fit.{moved_of}
-use Rattle.std.proofs.Common.{get_or, set, ap, rules}
+use Rattle.std.proofs.Common.{get_or, set, ap}
 use lib.Ieee.{Float, nan}
 use Rattle.laws.specs.Floats.{◌⊕◌}
 use Rattle.fit.proofs.kernel.moved.Goals as goal

@@ -3,8 +3,8 @@ use Rattle.fit.proofs.Columns.{differentiated}
 use Rattle.fit.specs.Fit.{moved_of}
 use Rattle.integrate.specs.Force.{run_of, attraction_of}
 use Rattle.integrate.specs.declared.kernel.Force.TheVariants.{J2}
-use Rattle.std.proofs.Common.{◌*◌, arith, rules}
-use Rattle.inputs.specs.Inputs.{model_of}
+use Rattle.std.proofs.Common.{◌*◌, arith}
+use Rattle.inputs.specs.Lent.{model_of}
 use Rattle.fit.proofs.kernel.partial.Goals as goal
 
 pub column-requires : goal.column-requires
@@ -13,5 +13,5 @@ column-requires c = (omega arith, omega arith, omega (arith, c.fly.ensures.1.lon
 pub returns : goal.returns
 returns c =
     let a = c.args in
-    differentiated (run_of (attraction_of J2 (model_of a.degree a.model)) a.arc (moved_of a.p a.i)) a.arc.steps _ _ _ a.base (3 * a.n) a.i (omega arith)
-    (rw c.moved-q.ensures at c.fly.ensures.0) c.fly.ensures.1 c.column.ensures
+    differentiated (run_of (attraction_of J2 (model_of a.bench.model)) a.bench.arc (moved_of a.p a.i)) a.bench.arc.steps _ _ _ a.bench.base (3 * a.n) a.i (omega arith)
+    (rw c.moved.ensures at c.fly.ensures.0) c.fly.ensures.1 c.column.ensures

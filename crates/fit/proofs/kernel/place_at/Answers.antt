@@ -1,5 +1,5 @@
 use Rattle.fit.specs.Room.{place_at}
-use Rattle.std.proofs.Common.{refl, rules}
+use Rattle.std.proofs.Common.{refl}
 use Rattle.fit.proofs.kernel.place_at.Goals as goal
 
 pub returns : goal.returns

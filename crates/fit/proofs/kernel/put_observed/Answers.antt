@@ -1,5 +1,5 @@
 use Rattle.fit.proofs.Notes.{stored}
-use Rattle.std.proofs.Common.{◌∙◌, arith, length-set, rules}
+use Rattle.std.proofs.Common.{◌∙◌, arith, length-set}
 use Rattle.laws.specs.WholeNumbers.{number}
 use Rattle.fit.proofs.kernel.put_observed.Goals as goal
 

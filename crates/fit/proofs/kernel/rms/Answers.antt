@@ -1,6 +1,6 @@
 -- `fit::kernel::rms`: the sum after i numbers is the definition's sum of i squares. Assumes nothing.
 use Rattle.fit.specs.Fit.{rms_of}
-use Rattle.std.proofs.Common.{◌≡◌, ℕ, ◌-◌, ◌≤◌, length, get_or, refl, arith, rules}
+use Rattle.std.proofs.Common.{◌≡◌, ℕ, length, get_or, refl, arith}
 use lib.Ieee.{nan}
 use Rattle.laws.specs.Floats.{◌⊗◌}
 use Rattle.laws.specs.Sums.{sum_more, sum_to}

@@ -1,10 +1,8 @@
 -- `fit::kernel::rms`: the sum after i numbers is the definition's sum of i squares. Assumes nothing.
-use Rattle.fit.specs.Fit.{rms_of}
-use Rattle.std.proofs.Common.{◌≡◌, ℕ, ◌-◌, ◌≤◌, length, get_or, refl, arith, rules}
+use Rattle.std.proofs.Common.{◌≡◌, ℕ, ◌-◌, ◌≤◌, length, get_or}
 use lib.Ieee.{nan}
 use Rattle.laws.specs.Floats.{◌⊗◌}
-use Rattle.laws.specs.Sums.{sum_more, sum_to}
-use Rattle.laws.specs.WholeNumbers.{number}
+use Rattle.laws.specs.Sums.{sum_to}
 use Rattle.fit.proofs.kernel.rms.Given as goal
 
 abbrev pub invariant-loop-i : goal.invariant-loop-i

@@ -1,5 +1,5 @@
 use Rattle.fit.specs.Room.{run_at}
-use Rattle.std.proofs.Common.{ℕ, ◌+◌, ◌*◌, ◌%◌, get_or, ap, rules}
+use Rattle.std.proofs.Common.{ℕ, ◌+◌, ◌*◌, ◌%◌, get_or, ap}
 use lib.Ieee.{nan}
 use Rattle.fit.proofs.kernel.run_at.Goals as goal
 

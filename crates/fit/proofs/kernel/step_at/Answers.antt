@@ -1,5 +1,4 @@
 use Rattle.fit.specs.Room.{step_at}
-use Rattle.std.proofs.Common.{rules}
 use Rattle.fit.proofs.kernel.step_at.Goals as goal
 
 pub returns : goal.returns

@@ -1,7 +1,7 @@
 -- `fit::kernel::updated`: the first i of fifteen places hold the first i parameters, each with its scaled coefficient added. Assumes nothing.
-use Rattle.fit.specs.Fit.{updated_of, scale_of}
+use Rattle.fit.specs.Fit.{updated_of}
 use Rattle.least_squares.proofs.MatrixLoops.{row_more, row_whole}
-use Rattle.std.proofs.Common.{◌≡◌, ℕ, ◌-◌, ◌≤◌, length, get_or, take, refl, ap, arith, length-set, rules}
+use Rattle.std.proofs.Common.{get_or, refl, ap, arith, length-set}
 use lib.Ieee.{Float, nan}
 use Rattle.laws.specs.Floats.{◌⊕◌, ◌⊗◌}
 use Rattle.laws.specs.Tables.{row}

@@ -1,8 +1,7 @@
 -- `fit::kernel::updated`: the first i of fifteen places hold the first i parameters, each with its scaled coefficient added. Assumes nothing.
-use Rattle.fit.specs.Fit.{updated_of, scale_of}
-use Rattle.least_squares.proofs.MatrixLoops.{row_more, row_whole}
-use Rattle.std.proofs.Common.{◌≡◌, ℕ, ◌-◌, ◌≤◌, length, get_or, take, refl, ap, arith, length-set, rules}
-use lib.Ieee.{Float, nan}
+use Rattle.fit.specs.Fit.{scale_of}
+use Rattle.std.proofs.Common.{◌≡◌, ℕ, ◌-◌, ◌≤◌, length, get_or, take}
+use lib.Ieee.{nan}
 use Rattle.laws.specs.Floats.{◌⊕◌, ◌⊗◌}
 use Rattle.laws.specs.Tables.{row}
 use Rattle.fit.proofs.kernel.updated.Given as goal

@@ -1,5 +1,4 @@
 use Rattle.fitted_orbits.proofs.Windows.{cleared_listed}
-use borrow.Author.Rules.{rules}
 use Rattle.fitted_orbits.proofs.work.clear_outputs.Goals as goal
 
 pub returns : goal.returns

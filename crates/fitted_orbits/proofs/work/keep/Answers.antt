@@ -1,8 +1,7 @@
 -- `fitted_orbits::work::keep`: after k steps the states among them that lie in the window stand behind the first ones; n counts them, and the lengths stay. Assumes nothing.
-use Prim.Native.Nat.{◌+◌, ◌-◌, ◌≤◌}
+use Prim.Native.Nat.{◌+◌}
 use native.Mathlib.Omega.{arith}
-use Rattle.fitted_orbits.proofs.Keeping.{Keeping, keeping_none, keeping_more, keeping_all, few_more}
-use borrow.Author.Rules.{rules}
+use Rattle.fitted_orbits.proofs.Keeping.{keeping_none, keeping_more, keeping_all, few_more}
 use Rattle.fitted_orbits.proofs.work.keep.Goals as goal
 
 pub loop-k-init : goal.loop-k-init
@@ -28,12 +27,6 @@ loop-k-preserved c =
       keeping_more a.t0 a.from a.to a.s.now a.base a.first l.k l.n _ a.outkeys.now l.outkeys _ a.outstates.now l.outstates _
           (λ e. few_more a.t0 a.from a.to l.k (a.steps + 1) pre.0 pre.1 pre.3 (omega arith) e) l.invariant.1 c.keep_step-n.ensures,
     )
-
-pub shape_of-outkeys : goal.shape_of-outkeys
-shape_of-outkeys c = c.loop-k.invariant.1.long_keys
-
-pub shape_of-outstates : goal.shape_of-outstates
-shape_of-outstates c = c.loop-k.invariant.1.long_states
 
 pub returns : goal.returns
 returns c =

@@ -1,8 +1,6 @@
 -- `fitted_orbits::work::keep`: after k steps the states among them that lie in the window stand behind the first ones; n counts them, and the lengths stay. Assumes nothing.
 use Prim.Native.Nat.{◌+◌, ◌-◌, ◌≤◌}
-use native.Mathlib.Omega.{arith}
-use Rattle.fitted_orbits.proofs.Keeping.{Keeping, keeping_none, keeping_more, keeping_all, few_more}
-use borrow.Author.Rules.{rules}
+use Rattle.fitted_orbits.proofs.Keeping.{Keeping}
 use Rattle.fitted_orbits.proofs.work.keep.Given as goal
 
 abbrev pub invariant-loop-k : goal.invariant-loop-k

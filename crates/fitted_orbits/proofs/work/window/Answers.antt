@@ -1,14 +1,12 @@
 -- `fitted_orbits::work::window`: a window of 7,000 s or more adds nothing, any other what its fit leaves. Assumes nothing.
 use mathlib.Core.Path.{sym, subst}
-use Prim.Native.Nat.{◌-◌}
 use lib.Dec.{T}
+use Rattle.inputs.specs.Lent.{model_of, keyed_of}
 use Rattle.finality.specs.Brackets.{covers}
 use Rattle.integrate.specs.Force.{full_force}
 use Rattle.fit.specs.Fit.{state_for}
 use Rattle.fitted_orbits.specs.Calls.{outputs}
 use Rattle.fitted_orbits.proofs.Windows.{long_adds}
-use Rattle.inputs.specs.Inputs.{lent_list, model_of}
-use borrow.Author.Rules.{rules}
 use Rattle.fitted_orbits.proofs.work.window.Goals as goal
 
 pub fit_between-requires : goal.fit_between-requires
@@ -18,5 +16,5 @@ fit_between-requires c =
 pub returns : goal.returns
 returns c =
     let a = c.args in
-    long_adds (covers (lent_list a.model 3)) (full_force (model_of a.degree a.model)) (state_for a.keys.now a.states.now) a.from a.to a.done
+    long_adds (covers a.track.model.field_times.now) (full_force (model_of a.track.model)) (state_for (keyed_of a.track.states)) a.from a.to a.done
     (outputs a.outkeys.now a.outstates.now a.rms.now) c.if-to-from.false

@@ -1,7 +1,6 @@
 use Rattle.laws.specs.WholeNumbers.{number}
 use lib.Ieee.{of_bits, of_int, round}
 use Rattle.forces.specs.Forces.{j2_of}
-use borrow.Author.Rules.{rules}
 use Rattle.forces.proofs.kernel.j2_gravity.Goals as goal
 
 pub returns : goal.returns

@@ -1,7 +1,6 @@
 use Rattle.laws.specs.WholeNumbers.{number}
 use lib.Ieee.{of_bits, of_int}
 use Rattle.forces.specs.Forces.{tides_at}
-use borrow.Author.Rules.{rules}
 use Rattle.forces.proofs.kernel.tides_at.Goals as goal
 
 pub returns : goal.returns

@@ -6,6 +6,3 @@ use Rattle.horizon.proofs.kernel.count_before.Given as goal
 
 abbrev pub invariant-loop-i : goal.invariant-loop-i
 invariant-loop-i l = (l.i ≤ length l.times) × (l.i < length l.times → l.last ≡ end_at l.times l.i) × (l.count ≡ count_of l.z (drop l.i l.times))
-
-abbrev pub decreases-loop-i : goal.decreases-loop-i
-decreases-loop-i l = l.i

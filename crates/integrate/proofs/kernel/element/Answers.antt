@@ -1,8 +1,9 @@
-use Rattle.std.proofs.Common.{sym, arith, rules}
-use lib.Ieee.{nan, div, of_bits}
-use lib.ListN.{get_or-eq_default}
+-- `integrate::kernel::element` meets its contract. Assumes nothing.
+use Rattle.std.proofs.Common.{arith}
+use Rattle.std.proofs.lemmas.Grind.{common_steps}
+use lib.Ieee.{of_bits}
 use Rattle.integrate.proofs.kernel.element.Goals as goal
 
-pub returns-else-i-s : goal.returns-else-i-s
-unfolding div of_bits
-returns-else-i-s c = sym (get_or-eq_default c.args.s.now nan (omega arith))
+pub returns : goal.returns
+unfolding of_bits
+returns c = grind (arith, common_steps)

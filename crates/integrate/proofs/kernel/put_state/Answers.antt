@@ -1,5 +1,5 @@
 use Rattle.integrate.proofs.Places.{stored, not_stored}
-use Rattle.std.proofs.Common.{arith, rules}
+use Rattle.std.proofs.Common.{arith}
 use Rattle.integrate.proofs.kernel.put_state.Goals as goal
 
 pub returns-then-at-w : goal.returns-then-at-w

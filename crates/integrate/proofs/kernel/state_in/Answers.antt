@@ -1,4 +1,4 @@
-use Rattle.std.proofs.Common.{◌∙◌, arith, rules}
+use Rattle.std.proofs.Common.{◌∙◌, arith}
 use Rattle.integrate.proofs.Places.{state_past}
 use Rattle.integrate.proofs.kernel.state_in.Goals as goal
 

@@ -1,16 +1,26 @@
-use mathlib.Core.Path.{ap, ◌∙◌}
-use native.Mathlib.Omega.{arith}
-use lib.ListN.{length}
-use borrow.Author.Rules.{rules}
-use Rattle.least_squares.proofs.MatrixLoops.{length_equations}
+use Rattle.std.proofs.Common.{◌≡◌, ◌∙◌}
 use Rattle.least_squares.proofs.KernelShapes.{found, none, found_is, none_is}
 use Rattle.least_squares.proofs.kernel.solve_for.Goals as goal
 
-pub solve-requires : goal.solve-requires
-solve-requires c = (omega arith, ap length c.normal.ensures ∙ length_equations _ _ _)
+pub returns-then-solved : goal.returns-then-solved
+returns-then-solved c =
+    let s = c.args in
+    let few = c.requires.1 in
+    let (is, same) = c.equations-equations.ensures in
+    let fine = rw same at c.solve-solved.ensures.0 in
+    let staged = rw same at c.solve-solved.ensures.1 in
+    let last : c.solve-solved.new.self.p ≡ s.p = c.solve-solved.ensures.2 ∙ same in
+    let beta = rw last at c.solution.ensures in (
+      c.if-solved.true ∙ found s.rows.now s.y.now s.p few _ _ is fine c.if-solved.true,
+      found_is s.rows.now s.y.now s.p few _ _ is fine s.beta.now _ _ c.if-solved.true staged beta,
+    )
 
-pub returns-then-solve : goal.returns-then-solve
-returns-then-solve c = (search (rules, found), search (rules, found_is))
-
-pub returns-else-solve : goal.returns-else-solve
-returns-else-solve c = (search (rules, none), search (rules, none_is))
+pub returns-else-solved : goal.returns-else-solved
+returns-else-solved c =
+    let s = c.args in
+    let few = c.requires.1 in
+    let (is, same) = c.equations-equations.ensures in
+    let fine = rw same at c.solve-solved.ensures.0 in (
+      c.if-solved.false ∙ none s.rows.now s.y.now s.p few _ _ is fine c.if-solved.false,
+      none_is s.rows.now s.y.now s.p few _ _ is fine s.beta.now c.if-solved.false,
+    )

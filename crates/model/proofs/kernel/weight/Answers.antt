@@ -1,7 +1,6 @@
 -- `model::kernel::weight` meets its contract. Assumes nothing.
 use Rattle.model.specs.Model.{weight}
 use Rattle.model.proofs.Within.{weighed_out, weighed_last, weighed}
-use borrow.Author.Rules.{rules}
 use Rattle.model.proofs.kernel.weight.Goals as goal
 
 pub returns-then-times-j : goal.returns-then-times-j

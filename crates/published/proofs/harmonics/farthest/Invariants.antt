@@ -1,9 +1,6 @@
--- Degree n's part begins before 200 n, so that no sum overflows: the loop's invariant. Assumes nothing.
-use Rattle.std.proofs.Common.{◌-◌, ◌*◌, ◌≤◌, rules}
+-- A row begins near: none has more than 200 numbers. Assumes nothing.
+use Prim.Native.Nat.{◌*◌, ◌≤◌}
 use Rattle.published.proofs.harmonics.farthest.Given as goal
 
 abbrev pub invariant-loop-n : goal.invariant-loop-n
-invariant-loop-n l = (l.n ≤ 181) × (l.start ≤ 200 * l.n)
-
-abbrev pub decreases-loop-n : goal.decreases-loop-n
-decreases-loop-n l = 181 - l.n
+invariant-loop-n l = l.start ≤ 200 * l.n

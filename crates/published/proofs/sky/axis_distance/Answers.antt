@@ -1,5 +1,4 @@
 -- `published::sky::axis_distance`: the four calls are those of the definition. Assumes nothing.
-use Rattle.std.proofs.Common.{rules}
 use Rattle.published.proofs.sky.axis_distance.Goals as goal
 
 pub returns : goal.returns

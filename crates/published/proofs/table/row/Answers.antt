@@ -1,5 +1,4 @@
 -- `published::table::row` counts by what it judges. Assumes nothing.
-use Rattle.std.proofs.Common.{rules}
 use Rattle.published.proofs.table.row.Goals as goal
 
 pub returns : goal.returns

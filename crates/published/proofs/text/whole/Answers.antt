@@ -1,5 +1,5 @@
 -- `published::text::whole`: the tests give what the truncation asks for. Assumes nothing.
-use Rattle.std.proofs.Common.{T, sym, subst, rules}
+use Rattle.std.proofs.Common.{T, sym, subst}
 use lib.Ieee.{of_bits, neg}
 use Rattle.published.proofs.text.whole.Goals as goal
 

@@ -2,7 +2,6 @@
 use Rattle.laws.specs.WholeNumbers.{number}
 use lib.Ieee.{of_bits, of_int, round}
 use Rattle.solid_tide.proofs.Series.{summed, summed_published}
-use borrow.Author.Rules.{rules}
 use Rattle.solid_tide.proofs.degree3.gravity.Goals as goal
 
 pub returns : goal.returns

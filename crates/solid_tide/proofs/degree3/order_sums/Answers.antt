@@ -1,19 +1,13 @@
 -- `solid_tide::degree3::order_sums`: the sums before order m are the definition's. Assumes nothing.
-use mathlib.Core.Path.{◌≡◌, refl, ap, ◌∙◌}
-use Prim.Native.Nat.{◌+◌, ◌-◌, ◌≤◌}
-use native.Mathlib.Omega.{arith}
+use mathlib.Core.Path.{refl, ap, ◌∙◌}
 use Rattle.laws.specs.Sums.{sum_to}
 use Rattle.solid_tide.specs.Gravity.{add_order, order_sums}
 use Rattle.solid_tide.proofs.Series.{one_order}
-use borrow.Author.Rules.{rules}
 use Rattle.solid_tide.proofs.degree3.order_sums.Goals as goal
 
 pub loop-m-init : goal.loop-m-init
 unfolding order_sums sum_to
-loop-m-init c = (search rules, refl)
+loop-m-init c = refl
 
 pub loop-m-preserved : goal.loop-m-preserved
-loop-m-preserved c = (search rules, c.add_order-s.ensures ∙ ap (add_order _ _ _) c.loop-m.invariant.1 ∙ one_order _ _ _)
-
-pub returns : goal.returns
-returns c = c.loop-m.invariant.1 ∙ ap (order_sums _ _) (omega arith)
+loop-m-preserved c = c.add_order-s.ensures ∙ ap (add_order _ _ _) c.loop-m.invariant ∙ one_order _ _ _

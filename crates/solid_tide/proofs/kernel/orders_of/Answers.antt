@@ -2,7 +2,6 @@ use Rattle.laws.specs.WholeNumbers.{number}
 use Rattle.numbers.specs.Numbers.{sine_cosine}
 use lib.Ieee.{of_bits, of_int}
 use Rattle.solid_tide.specs.Tide.{orders_of}
-use borrow.Author.Rules.{rules}
 use Rattle.solid_tide.proofs.kernel.orders_of.Goals as goal
 
 pub returns : goal.returns

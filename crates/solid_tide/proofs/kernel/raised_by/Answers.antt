@@ -4,7 +4,6 @@ use Rattle.numbers.specs.Numbers.{sine_cosine}
 use lib.Ieee.{of_bits, of_int, round}
 use Rattle.laws.specs.Tables.{tri, row, rows}
 use Rattle.solid_tide.specs.Tide.{raised_by, weight, ratio, love_numbers}
-use borrow.Author.Rules.{rules}
 use Rattle.solid_tide.proofs.kernel.raised_by.Goals as goal
 
 pub returns : goal.returns
@@ -13,7 +12,7 @@ returns c =
     simp (
       c.power-2.ensures,
       c.power.ensures,
-      c.orders_of-o.ensures,
+      c.orders_of.ensures,
       c.legendre-p.ensures,
       c.sine_cosine-sc.ensures,
       c.place_of-at.ensures,

@@ -1,3 +1,4 @@
+use Rattle.numbers.specs.Numbers.{sine}
 use Rattle.laws.specs.WholeNumbers.{number}
 use lib.Ieee.{of_bits, of_int, neg}
 use Rattle.sun_moon.specs.SunMoon.{latitude, latitude_terms}
@@ -7,7 +8,7 @@ pub returns : goal.returns
 unfolding latitude latitude_terms of_bits number of_int neg
 returns c =
     simp (
-      c.sine_terms.ensures,
+      c.series.ensures sine (λ x y p. p),
       c.sine-3.ensures,
       c.sine-2.ensures,
       c.sine.ensures,

@@ -1,5 +1,5 @@
 -- `windows::kernel::arc_between`: the start and the steps of a window shorter than 7,000 s, else an arc of no steps. Assumes nothing.
-use Rattle.std.proofs.Common.{sym, ◌∙◌, rules}
+use Rattle.std.proofs.Common.{sym, ◌∙◌}
 use Rattle.laws.specs.Order.{lt→le}
 use Rattle.windows.proofs.Arcs.{fine_says, arc_fine, arc_none}
 use Rattle.windows.proofs.kernel.arc_between.Goals as goal

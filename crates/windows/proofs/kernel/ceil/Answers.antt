@@ -1,5 +1,5 @@
 -- `windows::kernel::ceil`: the number cut, and one more where the cut lies below, is the least not below x, by the laws of proofs/CutNumbers.antt. Assumes nothing.
-use Rattle.std.proofs.Common.{◌≡◌, ℕ, ◌+◌, not, T, pos, sym, ap, ◌∙◌, subst, arith, rules}
+use Rattle.std.proofs.Common.{◌≡◌, ℕ, ◌+◌, not, T, pos, sym, ap, ◌∙◌, subst, arith}
 use lib.Ieee.{Float, binary64, of_int, to_unsigned, lt}
 use Rattle.laws.specs.WholeNumbers.{number}
 use Rattle.windows.proofs.CutNumbers.{above_cut, below_cut, cut_bound, ceil_next, ceil_same}

@@ -3,7 +3,7 @@ use Rattle.windows.proofs.SlotStates.{entered}
 use Rattle.numbers.specs.Seconds.{whole_second}
 use Rattle.integrate.specs.Work.{Stored}
 use lib.Ieee.{Float}
-use Rattle.std.proofs.Common.{◌+◌, set, ◌∙◌, subst, arith, length-set, rules}
+use Rattle.std.proofs.Common.{◌+◌, set, ◌∙◌, subst, arith, length-set}
 use Rattle.windows.proofs.kernel.enter.Goals as goal
 
 pub shape_of-s : goal.shape_of-s

@@ -1,5 +1,5 @@
 -- `windows::kernel::floor`: zero, below zero by the ceiling of -x, above zero by the cut, each by its law of proofs/CutNumbers.antt. Assumes nothing.
-use Rattle.std.proofs.Common.{◌≡◌, ℕ, Bool, not, T, pos, sym, ap, ◌∙◌, subst, rules}
+use Rattle.std.proofs.Common.{◌≡◌, ℕ, Bool, not, T, pos, sym, ap, ◌∙◌, subst}
 use lib.Ieee.{binary64, of_int, neg}
 use Rattle.laws.specs.WholeNumbers.{number, ceil}
 use Rattle.windows.proofs.CutNumbers.{above_cut, below_cut, not_below, under_highest, over_zero, floor_zero, floor_below, floor_above}

@@ -1,6 +1,6 @@
 -- `windows::kernel::keep`: after k steps the states among them that lie in the window stand in the slot, and n counts them. Assumes nothing.
-use Rattle.std.proofs.Common.{◌+◌, ◌-◌, ◌≤◌, arith, rules}
-use Rattle.windows.proofs.SlotStates.{SlotSoFar, slot_empty, slot_more, kept_all, few}
+use Rattle.std.proofs.Common.{◌+◌, arith}
+use Rattle.windows.proofs.SlotStates.{slot_empty, slot_more, kept_all, few}
 use Rattle.windows.proofs.kernel.keep.Goals as goal
 
 pub loop-k-init : goal.loop-k-init

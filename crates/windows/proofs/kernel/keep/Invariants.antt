@@ -1,6 +1,6 @@
 -- `windows::kernel::keep`: after k steps the states among them that lie in the window stand in the slot, and n counts them. Assumes nothing.
-use Rattle.std.proofs.Common.{◌+◌, ◌-◌, ◌≤◌, arith, rules}
-use Rattle.windows.proofs.SlotStates.{SlotSoFar, slot_empty, slot_more, kept_all, few}
+use Rattle.std.proofs.Common.{◌+◌, ◌-◌, ◌≤◌}
+use Rattle.windows.proofs.SlotStates.{SlotSoFar}
 use Rattle.windows.proofs.kernel.keep.Given as goal
 
 abbrev pub invariant-loop-k : goal.invariant-loop-k

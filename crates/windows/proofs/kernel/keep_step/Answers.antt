@@ -1,7 +1,7 @@
 -- `windows::kernel::keep_step`: a state whose time lies in the window is entered and counted, any other is passed over. Assumes nothing.
 use Rattle.windows.proofs.SlotStates.{keeping_at, keeping_out}
 use Rattle.windows.specs.Slots.{within}
-use Rattle.std.proofs.Common.{sym, ap, ◌∙◌, rules}
+use Rattle.std.proofs.Common.{sym, ap, ◌∙◌}
 use Rattle.windows.proofs.kernel.keep_step.Goals as goal
 
 pub returns-then-within : goal.returns-then-within

@@ -4,7 +4,7 @@ use lib.Ieee.{Float, le}
 use Rattle.laws.specs.Floats.{zero64, ◌⊕◌, ◌⊖◌, ◌⊘◌}
 use Rattle.laws.specs.WholeNumbers.{ceil}
 use Rattle.laws.specs.Times.{step}
-use Rattle.finality.specs.Arcs.{half_hour, start, steps}
+use Rattle.finality.specs.Arcs.{half_hour, steps}
 use Rattle.finality.proofs.WindowTimes.{steps_short}
 use Rattle.windows.specs.Slots.{highest}
 use Rattle.windows.proofs.Times.{steps_low, steps_high}

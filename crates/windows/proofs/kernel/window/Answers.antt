@@ -1,4 +1,3 @@
-use Rattle.std.proofs.Common.{◌-◌, rules}
 use Rattle.laws.specs.WholeNumbers.{number}
 use Rattle.windows.proofs.Filling.{windowed}
 use Rattle.windows.proofs.kernel.window.Goals as goal
@@ -7,4 +6,4 @@ pub returns : goal.returns
 unfolding number
 returns c =
     let a = c.args in
-    windowed _ a.s.now _ a.base a.at _ _ c.requires.5 c.requires.6 c.nearest_u64_to_f64.ensures c.leave-n.ensures
+    windowed _ a.s.now _ a.track.base a.at _ _ c.requires.1 c.requires.2 c.nearest_u64_to_f64.ensures c.leave-n.ensures

@@ -1,7 +1,0 @@
--- `integrate::kernel::begin`: the full force opens the field at t, the force of J2 leaves the numbers alone (`begun_j2` of proofs/ForceAndStep.antt). Assumes nothing.
-use Rattle.integrate.proofs.ForceAndStep.{begun_j2}
-use Rattle.std.proofs.Common.{rules}
-use Rattle.integrate.proofs.kernel.begin.Goals as goal
-
-pub returns-in-J2 : goal.returns-in-J2
-returns-in-J2 c = let s = c.args in begun_j2 s.force _ s.w.now s.w.now _ c.in-J2.is

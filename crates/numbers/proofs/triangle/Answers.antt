@@ -1,0 +1,11 @@
+use Rattle.laws.specs.Tables.{square_small, tri, tri_small}
+use mathlib.Core.Path.{refl}
+use native.Mathlib.Omega.{arith}
+use Rattle.numbers.proofs.triangle.Goals as goal
+
+pub overflow_mul-result : goal.overflow_mul-result
+overflow_mul-result c = omega (arith, square_small c.args.n (omega arith))
+
+pub returns : goal.returns
+unfolding tri
+returns c = (refl, tri_small c.args.n (omega arith))
