@@ -33,7 +33,7 @@ pub record LeftRecords : Type 0 where
 abbrev pub left_records : Verdict → List Epoch → List Float → LeftRecords
 left_records r es s = record { answer = r; epochs = es; scratch = s }
 
--- the residuals to be handed out, each in its record: list_all finite, or +0.0 in every record
+-- the residuals to be handed out, each in its record: all finite, or +0.0 in every record
 abbrev pub handed_by : Bool → List Float → List Epoch → List Float → LeftRecords
 handed_by true new es s = left_records accepted (put_back es new) (cleared s)
 handed_by false new es s = left_records (Err NotFinite) (put_back es (cleared new)) (cleared s)

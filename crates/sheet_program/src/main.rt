@@ -163,7 +163,7 @@ fn put_term(x: f64, behind: u8, out: &mut [u8], at: usize)
 }
 
 // One entry of the four lists.
-// kept: four lists side by side, as `sheet` fills them.
+// kept: here and below four lists side by side, as `sheet` fills them.
 fn put_row(
     i: usize,
     times: &[f64],

@@ -13,7 +13,7 @@ pub fn read<R: Read>(from: &mut R, buf: &mut [u8]) -> std::io::Result<usize>
     ensures { ReadsAtMost result buf.new }
 {
     let mut done = 0;
-    // kept: a turn goes on by as many bytes as the stream gave
+    // kept: a `while`, since a turn goes on by as many bytes as the stream gave
     while done < buf.len() {
         let more = from.read(&mut buf[done..])?;
         if more == 0 {

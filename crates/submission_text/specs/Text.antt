@@ -195,7 +195,7 @@ abbrev pub reading_of : Result Taken Fault → Result Reading Fault
 reading_of (Ok t) = Ok t.reading
 reading_of (Err f) = Err f
 
--- the numbers go behind those read before; a refusal leaves all as they were
+-- the numbers go behind those read before; the refusal of a line leaves all as they were before it
 abbrev pub Added : Result Taken Fault → ℕ → List Float → List Float → Type 0
 Added (Ok t) filled before after = take t.reading.filled after ≡ take filled before ++ t.numbers
 Added (Err f) filled before after = after ≡ before
