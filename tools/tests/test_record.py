@@ -1,5 +1,6 @@
 """The record of years."""
 import fcntl
+import functools
 import os
 import signal
 import subprocess
@@ -282,7 +283,9 @@ class Kills(Records):
             with self.subTest(number):
                 code = TOLD.format(path=os.path.join(ROOT, "bindings/python"))
                 words = [sys.executable, "-c", code, "sheet", of_example("whole.txt"), "-o", self.path("sheet")]
-                running = subprocess.Popen(words, stdout=subprocess.PIPE, stderr=subprocess.PIPE)
+                # a shell that runs the tests in its background has them ignore SIGINT, and what they start would too
+                heard = functools.partial(signal.signal, signal.SIGINT, signal.SIG_DFL)
+                running = subprocess.Popen(words, stdout=subprocess.PIPE, stderr=subprocess.PIPE, preexec_fn=heard)
                 self.assertEqual(running.stdout.readline(), b"at work\n")
                 time.sleep(0.2)
                 running.send_signal(number)

@@ -122,6 +122,7 @@ fn put_passed(times: &[f64], values: &[f64], out: &mut [u8]) -> usize
     put_summary(counts.runs, counts.long, out, 33 * times.len())
 }
 
+// kept: here and below the lists are the program's fixed buffers, lent one by one; a struct of `&mut` slices would be taken apart in each function.
 fn answer_numbers(
     times: &[f64],
     values: &[f64],

@@ -93,6 +93,7 @@ pub fn detrend(
     Err(Refusal::NotFinite)
 }
 
+// kept: here and in `revolutions` the four outputs are lent one by one; a struct of `&mut` slices would be taken apart in each function.
 // The revolutions of 50 epochs or more go to the heads of the four lists, zeros behind them; how many there are.
 fn list_revolutions(
     times: &[f64],

@@ -20,7 +20,7 @@ impl<'a> Parts<'a> {
         k >= self.ends.len() || (self.firsts[k] <= self.ends[k] && self.ends[k] <= n)
     }
 
-    // Whether each has its first sample before its end, within n samples.
+    // Whether each ends no earlier than it begins, within n samples.
     #[tactic(auto, using(crate::proofs::Ranges::ranges_go, crate::proofs::Ranges::ranges_stop, crate::proofs::Ranges::ranges_done))]
     pub fn all_fit(self, n: usize) -> bool
         ensures { result ≡ ranges_fit self.entry.firsts.now self.entry.ends.now n }

@@ -7,8 +7,6 @@ ghost use Rattle.detrend.specs.Revolutions.{count_before};
 ghost use Rattle.detrend.specs.Ranges.{ranges_fit};
 ghost use Rattle.detrend.specs.Work.{less_rows, Detrended, Window, Removed, DetrendedAll};
 
-// kept: the scratch s and the number n beside it stay two arguments, since it is lent anew to each step and a struct around a `&mut` says no more.
-
 use crate::Parts;
 use std::f64::consts::PI;
 

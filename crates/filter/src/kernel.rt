@@ -33,7 +33,7 @@ pub fn count_runs(times: &[f64]) -> RunCounts
     let mut runs = 0;
     let mut long = 0;
     let mut start = 0;
-    // kept: a turn takes a whole run; `chunk_by` would give the parts, but says nothing of `runs_of`
+    // kept: a turn takes a whole run; no law ties what `chunk_by` gives to `runs_of`
     while start < times.len() {
         let end = crate::work::run_end(times, start);
         runs += 1;

@@ -225,7 +225,7 @@ fn pass_runs(sections: &[f64], times: &[f64], x: &[f64], out: &mut [f64], scratc
 {
     let n = x.len();
     let mut start = 0;
-    // kept: as in `kernel::count_runs`
+    // kept: as in `kernel::count_runs`; and parts of `out` are cut in step
     while start < n {
         let end = run_end(times, start);
         pass_run(sections, &x[start..end], &mut out[start..end], scratch);

@@ -29,6 +29,7 @@ pub struct Arc {
 }
 
 // The attraction that a run integrates: the full model with tides, or point mass and J2.
+// kept: an enum, since the definitions speak of these two; a closure would have to lend the model, its tables and the work slice.
 #[derive(Clone, Copy)]
 pub enum Force {
     Full,

@@ -27,7 +27,7 @@ fn shape(rows: &[f64], y: &[f64], p: usize, nb: usize) -> bool
 }
 
 // The kernel without residuals: whether there are coefficients, and beta holds them then, and what it held otherwise.
-// kept: a bool beside a lent slice, since p is known only at the call, and an array of p numbers would need the heap.
+// kept: a bool beside a lent slice, since the caller lends the places and p is known only at the call.
 #[tactic(auto, unfolding(crate::specs::Kernel::solvable_for, crate::specs::Kernel::coefficients_of))]
 pub fn coefficients(rows: &[f64], y: &[f64], p: usize, beta: &mut [f64]) -> bool
     ensures { (result ≡ solvable_for rows.now y.now p (length beta.old))

@@ -12,7 +12,7 @@ use crate::work::Rows;
 use epoch_record::Epoch;
 
 // How many records are stored, and whether all their numbers are finite.
-// kept: no Option, since the count holds either way.
+// kept: no Option, since the next record goes where the count says, whether or not all are finite.
 #[derive(Clone, Copy)]
 pub struct Filled {
     pub count: usize,

@@ -30,7 +30,7 @@ pub record SlotsHold (s : List Float) (first : ℕ) (tables : ℕ → Table Stat
 
 -- the first state at a second, over all windows
 pub record Looked (s : List Float) (first windows : ℕ) (k : ℤ) (r : Option State) : Type 0 where
-  pub is : (tables : ℕ → Table State) → is_key k ≡ true → SlotsHold s first tables windows → r ≡ (find k (joined tables windows))
+  pub is : (tables : ℕ → Table State) → is_key k ≡ true → SlotsHold s first tables windows → r ≡ find k (joined tables windows)
 
 -- ---- what the parts of the search give, where t is a second as a float
 
@@ -43,16 +43,16 @@ pub record Sought (s : List Float) (at n : ℕ) (t : Float) (table : Table State
   pub entries : Entries s at table
 
 pub record Searched (s : List Float) (at n : ℕ) (t : Float) (r : Option State) : Type 0 where
-  pub is : (table : Table State) (k : ℤ) → Sought s at n t table k → r ≡ (find k table)
+  pub is : (table : Table State) (k : ℤ) → Sought s at n t table k → r ≡ find k table
 
 -- in one slot
 pub record InSlot (s : List Float) (at : ℕ) (t : Float) (r : Option State) : Type 0 where
-  pub is : (table : Table State) (k : ℤ) → is_key k ≡ true → t ≡ second_time k → Orderly table → Slot s at table → r ≡ (find k table)
+  pub is : (table : Table State) (k : ℤ) → is_key k ≡ true → t ≡ second_time k → Orderly table → Slot s at table → r ≡ find k table
 
 -- in all slots
 pub record InSlots (s : List Float) (first windows : ℕ) (t : Float) (r : Option State) : Type 0 where
   pub is : (tables : ℕ → Table State) (k : ℤ) → is_key k ≡ true → t ≡ second_time k → SlotsHold s first tables windows
-      → r ≡ (find k (joined tables windows))
+      → r ≡ find k (joined tables windows)
 
 -- ---- the fits
 

@@ -34,7 +34,7 @@ arc_struct arc = record { t0 = arc.t0; steps = arc.steps; node = arc.node; perio
 
 -- the state at the whole second of a time
 abbrev pub look_of : (ℤ → Option State) → Float → Option State
-look_of look t = (look (second t))
+look_of look t = look (second t)
 
 -- the states of an orbit, one a step, where its fit is not refused
 abbrev pub states_of : Fitted → Run → ℕ → List State
