@@ -16,7 +16,6 @@ use Rattle.hexadecimal.proofs.DigitLoops.{digits_length}
 use Rattle.hexadecimal.specs.Printing.{line_feed, refused_text, Printed}
 use lib.Ieee.Scale.{finite}
 use borrow.Author.Tests.{eq-eqb}
-use borrow.Rule.Slice.PartMut.{mid_of, mid_len}
 use Rattle.std.specs.List.{list_all}
 use Rattle.laws.specs.Checks.{is_time, rising}
 use Rattle.laws.specs.Loops.{cleared}
@@ -81,12 +80,6 @@ refusal_length (suc k) text at h =
     (λ z. omega (arith, refusal_length k text (at + 33) z)) (omega arith)
 
 -- ---- columns
-
-pub column_starts : (text : List ℕ) (from : ℕ) (out : List Float) → column text (from + 33 * 0) (length out - 0) ≡ column text from (length out)
-column_starts text from out =
-    let a : from + 33 * 0 ≡ from = omega arith in
-    let b : length out - 0 ≡ length out = omega arith in
-    (λ i. column text (a i) (b i))
 
 pub column_turn : (text : List ℕ) (from : ℕ) (out out₀ : List Float) (k : ℕ) (y : Float) → length out ≡ length out₀ → k < length out → y ≡ float_at text (from + 33 * k) →
     take k out ++ column text (from + 33 * k) (length out₀ - k) ≡ column text from (length out₀) →
@@ -213,10 +206,6 @@ module _ (ts x o s y s' : List Float) (r : Verdict) (lx : length x ≡ length ts
   refused_numbers out out' k n f h g p =
       mathlib.Core.Path.subst (λ (t : List ℕ). Printed t out 0 out' k) (ap refused_text g ∙ ap (λ (q : Verdict). outcome_text q (passed_text ts y)) (sym h) ∙ outcome_says) p
 
-pub lines_print : (text : List ℕ) (n : ℕ) (ts xs : List Float) (out out' : List ℕ) (r : ℕ) (xs₀ : List Float) → ts ≡ column text 0 n → xs ≡ column text 16 (length xs₀) → length xs₀ ≡ n →
-    Printed (numbers_text ts xs) out 0 out' r → Printed (numbers_text (column text 0 n) (column text 16 n)) out 0 out' r
-lines_print text n ts xs out out' r xs₀ et ex l p = mathlib.Core.Path.subst (λ (t : List ℕ). Printed t out 0 out' r) (λ i. numbers_text (et i) ((ex ∙ ap (column text 16) l) i)) p
-
 -- ---- the whole
 
 pub text_refused : (text out out' : List ℕ) (f : Fault) (n r : ℕ) → text_refusal text ≡ Err f → n ≡ fault_number f → Printed (refused_text n) out 0 out' r → Printed (answer text) out 0 out' r
@@ -228,12 +217,10 @@ text_refused text out out' f n r e g p =
 pub text_lines : (text : List ℕ) → text_refusal text ≡ Ok tt → length text / 33 ≤ 4096
 text_lines text h = let k : length text ≤ 0 + 33 * 4096 = refusal_length 4096 text 0 h in omega arith
 
-pub text_answered : (text : List ℕ) (times : List Float) (out out' : List ℕ) (m r : ℕ) → text_refusal text ≡ Ok tt → m ≡ length text / 33 → m ≤ 4096 → 4096 ≤ length times →
-    Printed (numbers_text (column text 0 (length (mid_of 0 (m - 0) times))) (column text 16 (length (mid_of 0 (m - 0) times)))) out 0 out' r → Printed (answer text) out 0 out' r
+pub text_answered : (text out out' : List ℕ) (n r : ℕ) → text_refusal text ≡ Ok tt → n ≡ length text / 33 →
+    Printed (numbers_text (column text 0 n) (column text 16 n)) out 0 out' r → Printed (answer text) out 0 out' r
 unfolding answer
-text_answered text times out out' m r e em few room p =
-    let z : m - 0 ≡ m = omega arith in
-    let ek : length (mid_of 0 (m - 0) times) ≡ length text / 33 = mid_len 0 m times (omega arith) ∙ z ∙ em in
+text_answered text out out' n r e en p =
     mathlib.Core.Path.subst (λ (t : List ℕ). Printed t out 0 out' r)
-    ((λ i. numbers_text (column text 0 (ek i)) (column text 16 (ek i))) ∙ ap (λ (v : Result Unit Fault). unless_refused fault_number v
+    ((λ i. numbers_text (column text 0 (en i)) (column text 16 (en i))) ∙ ap (λ (v : Result Unit Fault). unless_refused fault_number v
     (numbers_text (column text 0 (length text / 33)) (column text 16 (length text / 33)))) (sym e)) p

@@ -91,16 +91,6 @@ fn put_line(time: f64, value: f64, out: &mut [u8], at: usize)
     out[at + 32] = b'\n';
 }
 
-fn put_lines(times: &[f64], values: &[f64], out: &mut [u8])
-    requires { (length values.now ≡ length times.now) × (33 * length times.now ≤ length out.old) }
-    ensures { Printed (lines_text times.now values.now) out.old 0 out.new
-        (33 * length times.now) }
-{
-    for i in 0..times.len() {
-        put_line(times[i], values[i], out, 33 * i);
-    }
-}
-
 fn put_summary(runs: usize, passed: usize, out: &mut [u8], at: usize) -> usize
     requires { at + 64 ≤ length out.old }
     ensures { Printed (summary_text runs passed) out.old at out.new result }
@@ -112,54 +102,85 @@ fn put_summary(runs: usize, passed: usize, out: &mut [u8], at: usize) -> usize
     hexadecimal::put_bytes(b"\n", out, d)
 }
 
-#[tactic(auto, using(crate::proofs::ProgramText::passed_prints))]
-fn put_passed(times: &[f64], values: &[f64], out: &mut [u8]) -> usize
-    requires { (length values.now ≡ length times.now) × (length times.now ≤ 4096) × (135300 ≤ length out.old) }
-    ensures { Printed (passed_text times.now values.now) out.old 0 out.new result }
-{
-    put_lines(times, values, out);
-    let counts = filter::kernel::count_runs(times);
-    put_summary(counts.runs, counts.long, out, 33 * times.len())
+// Times and as many values, no more than a text has lines.
+#[derive(Clone, Copy)]
+struct Samples<'a> {
+    times: &'a [f64],
+    values: &'a [f64],
+    ghost paired: { length values.now ≡ length times.now },
+    ghost few: { length times.now ≤ 4096 },
 }
 
-// kept: here and below the lists are the program's fixed buffers, lent one by one; a struct of `&mut` slices would be taken apart in each function.
+impl<'a> Samples<'a> {
+    // A line for each.
+    fn put_lines(self, out: &mut [u8; 135300])
+        ensures { Printed (lines_text self.entry.times.now self.entry.values.now) out.old 0 out.new
+            (33 * length self.entry.times.now) }
+    {
+        for i in 0..self.times.len() {
+            put_line(self.times[i], self.values[i], out, 33 * i);
+        }
+    }
+
+    // The lines, and how many runs there are and how many of them were passed.
+    #[tactic(auto, using(crate::proofs::ProgramText::passed_prints))]
+    fn put_passed(self, out: &mut [u8; 135300]) -> usize
+        ensures { Printed (passed_text self.entry.times.now self.entry.values.now) out.old 0 out.new result }
+    {
+        self.put_lines(out);
+        let counts = filter::kernel::count_runs(self.times);
+        put_summary(counts.runs, counts.long, out, 33 * self.times.len())
+    }
+}
+
+// The arrays that a text's samples and passed values stand in, and what the filter works in.
+#[derive(Drop)]
+struct Room {
+    times: [f64; 4096],
+    values: [f64; 4096],
+    passed: [f64; 4096],
+    scratch: [f64; 32768],
+}
+
 fn answer_numbers(
-    times: &[f64],
-    values: &[f64],
+    samples: Samples<'_>,
     passed: &mut [f64],
-    scratch: &mut [f64],
-    out: &mut [u8],
+    scratch: &mut [f64; 32768],
+    out: &mut [u8; 135300],
 ) -> usize
-    requires { (length values.now ≡ length times.now) × (length passed.old ≡ length times.now) × (length times.now ≤ 4096) ×
-        (32768 ≤ length scratch.old) × (135300 ≤ length out.old) }
-    ensures { Printed (numbers_text times.now values.now) out.old 0 out.new result }
+    requires { length passed.old ≡ length samples.times.now }
+    ensures { Printed (numbers_text samples.entry.times.now samples.entry.values.now) out.old 0
+        out.new result }
 {
-    match filter::band_pass(times, values, passed, scratch) {
-        Ok(()) => put_passed(times, passed, out),
+    match filter::band_pass(samples.times, samples.values, passed, scratch) {
+        Ok(()) => Samples {
+            times: samples.times,
+            values: passed,
+        }
+        .put_passed(out),
         Err(refusal) => hexadecimal::put_refused(u8::from(refusal), out),
     }
 }
 
-// The lines of a text, as many as `times` has places.
-fn answer_lines(
-    text: &[u8],
-    times: &mut [f64],
-    values: &mut [f64],
-    passed: &mut [f64],
-    scratch: &mut [f64],
-    out: &mut [u8],
-) -> usize
-    requires { (length values.old ≡ length times.old) × (length passed.old ≡ length times.old) × (length times.old ≤ 4096) ×
-        (32768 ≤ length scratch.old) × (135300 ≤ length out.old) }
-    ensures { Printed (numbers_text (column text.now 0 (length times.old))
-        (column text.now 16 (length times.old))) out.old 0 out.new result }
+// The first n lines of a text.
+fn answer_lines(text: &[u8], n: usize, room: &mut Room, out: &mut [u8; 135300]) -> usize
+    requires { n ≤ 4096 }
+    ensures { Printed (numbers_text (column text.now 0 n) (column text.now 16 n)) out.old 0 out.new result }
 {
-    read_column(text, 0, times);
-    read_column(text, 16, values);
-    answer_numbers(times, values, passed, scratch, out)
+    let times = &mut room.times[..];
+    let values = &mut room.values[..];
+    let passed = &mut room.passed[..];
+    read_column(text, 0, &mut times[..n]);
+    read_column(text, 16, &mut values[..n]);
+    let samples = Samples {
+        times: &times[..n],
+        values: &values[..n],
+    };
+    answer_numbers(samples, &mut passed[..n], &mut room.scratch, out)
 }
 
 // How many lines a text of lines has.
+#[tactic(auto, using(crate::proofs::ProgramText::text_lines))]
 fn count_lines(text: &[u8]) -> usize
     requires { text_refusal text.now ≡ Ok tt }
     ensures { (result ≡ length text.now / 33) × (result ≤ 4096) }
@@ -168,47 +189,26 @@ fn count_lines(text: &[u8]) -> usize
 }
 
 // What the program prints for a text goes to the head of out; how long it is.
-fn answer(
-    text: &[u8],
-    times: &mut [f64],
-    values: &mut [f64],
-    passed: &mut [f64],
-    scratch: &mut [f64],
-    out: &mut [u8],
-) -> usize
-    requires { (4096 ≤ length times.old) × (4096 ≤ length values.old) × (4096 ≤ length passed.old) × (32768 ≤ length scratch.old) ×
-        (135300 ≤ length out.old) }
+fn answer(text: &[u8], room: &mut Room, out: &mut [u8; 135300]) -> usize
     ensures { (Printed (answer_of text.now) out.old 0 out.new result) × IsPrefixLen result out.new }
 {
     if let Err(fault) = refusal(text) {
         return hexadecimal::put_refused(u8::from(fault), out);
     }
     let n = count_lines(text);
-    answer_lines(
-        text,
-        &mut times[..n],
-        &mut values[..n],
-        &mut passed[..n],
-        scratch,
-        out,
-    )
+    answer_lines(text, n, room, out)
 }
 
 // Works out the answer to a text and writes it.
 fn say_answer(text: &[u8]) {
-    let mut times = [0.0; 4096];
-    let mut values = [0.0; 4096];
-    let mut passed = [0.0; 4096];
-    let mut scratch = [0.0; 32768];
+    let mut room = Room {
+        times: [0.0; 4096],
+        values: [0.0; 4096],
+        passed: [0.0; 4096],
+        scratch: [0.0; 32768],
+    };
     let mut out = [0u8; 135300];
-    let k = answer(
-        text,
-        &mut times,
-        &mut values,
-        &mut passed,
-        &mut scratch,
-        &mut out,
-    );
+    let k = answer(text, &mut room, &mut out);
     streams::write(&out[..k]);
 }
 

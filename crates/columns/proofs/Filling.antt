@@ -1,8 +1,8 @@
 -- The columns that follow from times and raw values: what comes out of the scratch, the zeros behind the first n entries, the guard. Assumes nothing.
-use mathlib.Core.Path.{◌≡◌, refl, sym, ap, ◌∙◌}
-use mathlib.Core.Bool.{Bool, true, false, cond, ◌&&◌}
+use mathlib.Core.Path.{◌≡◌, sym, ap, ◌∙◌}
+use mathlib.Core.Bool.{Bool, true, cond, ◌&&◌}
 use mathlib.Core.List.{List, [], ◌∷◌, ◌++◌, append-nil}
-use Prim.Native.Nat.{ℕ, ◌+◌, ◌-◌, ◌*◌, ◌/◌, ◌≤◌}
+use Prim.Native.Nat.{ℕ, ◌-◌, ◌*◌, ◌/◌, ◌≤◌}
 use native.Mathlib.Omega.{arith}
 use lib.Dec.{T, leb, eqb, leb→le, eqb→eq}
 use lib.Ieee.{Float}
@@ -21,28 +21,12 @@ use Rattle.finality.specs.Sheet.{published}
 use Rattle.slices.specs.Slices.{copied}
 use Rattle.slices.proofs.SliceLoops.{copied_all}
 use Rattle.detrend.specs.Revolutions.{removed_of}
-use Rattle.detrend.specs.Work.{RemovedWithin}
 use Rattle.detrend.proofs.PartsInPlace.{length_mid}
 use Rattle.detrend.proofs.SplitAtNodes.{removed_length}
-use Rattle.detrend.proofs.WorkArea.{removed_in}
 use Rattle.filter.specs.Filter.{band_pass}
 use Rattle.filter.specs.Calls.{band_fits, band_passed}
 use Rattle.filter.proofs.Seam.{band_pass_length}
 use Rattle.columns.specs.Columns.{columns_serve, first_detrended, ColumnsFilled}
-
--- ---- out of the scratch
-
-pub removed_into : (ts vs nodes o s c1 c2 s3 o' : List Float) → length ts ≡ length vs → length o ≡ length vs → 8 * length vs ≤ length s →
-    c1 ≡ copied ts (mid_of 0 (length ts - 0) s) →
-    c2 ≡ copied vs (mid_of (length ts) (length ts + length ts - length ts) (put_mid 0 (length ts - 0) s c1)) →
-    RemovedWithin (length ts) nodes (put_mid (length ts) (length ts + length ts - length ts) (put_mid 0 (length ts - 0) s c1) c2) s3 → length s3 ≡ length s →
-    o' ≡ copied (mid_of (length ts) (length ts + length ts - length ts) s3) o → o' ≡ removed_of nodes ts vs
-removed_into ts vs nodes o s c1 c2 s3 o' h ho room e1 e2 r l e3 =
-    let n : ℕ = length ts in
-    let mid : List Float = mid_of n (n + n - n) s3 in
-    let zz : n + n - n ≡ n = omega arith in
-    let lm : length mid ≡ n = ap (λ (k : ℕ). length (mid_of n k s3)) zz ∙ length_mid n n s3 (omega arith) in
-    e3 ∙ copied_all mid o (omega arith) ∙ sym (copied_all mid vs (omega arith)) ∙ removed_in ts vs nodes s c1 c2 s3 (copied mid vs) h room e1 e2 r refl
 
 -- ---- a column: its entries, and +0.0 behind them
 
@@ -68,13 +52,13 @@ detrended_length nodes n times raws h e =
     let lr : length (take n raws) ≡ n = length-take-le n raws (omega arith) in
     removed_length nodes (take n times) (take n raws) (lt ∙ sym lr) ∙ lr
 
-pub detrended_column : (nodes : List Float) (n : ℕ) (times raws o y z : List Float) → n ≤ length times → length raws ≡ length times → length o ≡ length times →
-    y ≡ removed_of nodes (take (n - 0) times) (take (n - 0) raws) → z ≡ cleared (mid_of n (length (put_mid 0 (n - 0) o y) - n) (put_mid 0 (n - 0) o y)) →
-    put_mid n (length (put_mid 0 (n - 0) o y) - n) (put_mid 0 (n - 0) o y) z ≡ published (length times) (first_detrended nodes n times raws)
-detrended_column nodes n times raws o y z h er eo ey ez =
+pub detrended_column : (nodes : List Float) (n : ℕ) (times o y z : List Float) → n ≤ length times → length o ≡ length times →
+    y ≡ removed_of nodes (take (n - 0) times) (take (n - 0) o) → z ≡ cleared (mid_of n (length (put_mid 0 (n - 0) o y) - n) (put_mid 0 (n - 0) o y)) →
+    put_mid n (length (put_mid 0 (n - 0) o y) - n) (put_mid 0 (n - 0) o y) z ≡ published (length times) (first_detrended nodes n times o)
+detrended_column nodes n times o y z h eo ey ez =
     let zn : n - 0 ≡ n = omega arith in
-    let y_is : y ≡ first_detrended nodes n times raws = ey ∙ ap (λ (k : ℕ). removed_of nodes (take k times) (take k raws)) zn in
-    column_is n (length times) o y z h eo (ap length y_is ∙ detrended_length nodes n times raws h er) ez ∙ ap (published (length times)) y_is
+    let y_is : y ≡ first_detrended nodes n times o = ey ∙ ap (λ (k : ℕ). removed_of nodes (take k times) (take k o)) zn in
+    column_is n (length times) o y z h eo (ap length y_is ∙ detrended_length nodes n times o h eo) ez ∙ ap (published (length times)) y_is
 
 band_fits_law : (n times values places room : ℕ) → times ≡ n → values ≡ n → places ≡ n → 8 * n ≤ room → band_fits times values places room ≡ true
 unfolding band_fits
@@ -118,24 +102,20 @@ served n times others room b e h =
 
 -- ---- the call
 
-module _ (serves : Bool) (nodes : List Float) (n : ℕ) (times raws d d' p p' s s' : List Float) (b : Bool) (e : b ≡ serves) where
-  pub columns_filled : b ≡ true → n ≤ length times → length raws ≡ length times → length s' ≡ length s → d' ≡ published (length times) (first_detrended nodes n times raws) →
+-- c is the raw values, copied into their place
+module _ (serves : Bool) (nodes : List Float) (n : ℕ) (times raws d c d' p p' s s' : List Float) (b : Bool) (e : b ≡ serves) where
+  pub columns_filled : b ≡ true → n ≤ length times → length raws ≡ length times → length d ≡ length times → length s' ≡ length s →
+      c ≡ copied raws d → d' ≡ published (length times) (first_detrended nodes n times c) →
       p' ≡ published (length times) (band_pass (take n times) (take n d')) → ColumnsFilled serves nodes n times raws (d ∷ p ∷ []) (d' ∷ p' ∷ []) s s' b
-  columns_filled h hn er l ed ep = record {
+  columns_filled h hn er el l ec ed' ep = record {
     says = e;
     long = l;
     columns = λ _.
+        let same : c ≡ raws = ec ∙ copied_all raws d (omega arith) in
+        let ed : d' ≡ published (length times) (first_detrended nodes n times raws)
+        = ed' ∙ ap (λ (x : List Float). published (length times) (first_detrended nodes n times x)) same in
         let first : take n d' ≡ first_detrended nodes n times raws
         = ap (take n) ed ∙ filled_front zero64 (length times) n (first_detrended nodes n times raws) (detrended_length nodes n times raws hn er) in
         λ i. ed i ∷ (ep ∙ ap (λ (x : List Float). published (length times) (band_pass (take n times) x)) first) i ∷ [];
     unfit = λ f. clash serves (sym e ∙ h) f;
   }
-
-pub columns_unfit : (serves : Bool) (nodes : List Float) (n : ℕ) (times raws : List Float) (outputs : List (List Float)) (s : List Float) (b : Bool) → b ≡ serves → b ≡ false →
-    ColumnsFilled serves nodes n times raws outputs outputs s s b
-columns_unfit serves nodes n times raws outputs s b e h = record {
-  says = e;
-  long = refl;
-  columns = λ t. clash serves t (sym e ∙ h);
-  unfit = λ _. (refl, refl);
-}

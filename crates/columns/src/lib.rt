@@ -1,5 +1,4 @@
 // The detrended and the passed column of a sheet, from the times and raw values of its first entries.
-// kept: the columns are lent one by one, some read and some written; a struct of them would be taken apart in each function.
 #![tactic(auto)]
 
 ghost use Rattle.std.specs.Prelude.{◌≡◌, [], ◌∷◌, map, ◌*◌, ◌≤◌, length, take};
@@ -16,36 +15,28 @@ fn serve(n: usize, times: usize, raws: usize, detrended: usize, passed: usize, r
     n <= times && (long && n <= room / 8)
 }
 
-// Times and values go into the scratch, and the values come out without each revolution's fit.
-fn remove(nodes: &[f64], times: &[f64], raws: &[f64], out: &mut [f64], s: &mut [f64])
-    requires { (length times.now ≡ length raws.now) × (length out.old ≡ length raws.now) × (8 * length raws.now ≤ length s.old) }
-    ensures { out.new ≡ removed_of nodes.now times.now raws.now }
+// Times and values go into the scratch, and the values come back without each revolution's fit.
+fn remove(nodes: &[f64], times: &[f64], values: &mut [f64], s: &mut [f64])
+    requires { (length times.now ≡ length values.old) × (8 * length values.old ≤ length s.old) }
+    ensures { values.new ≡ removed_of nodes.now times.now values.old }
 {
     let n = times.len();
     let m = n + n;
     slices::copy(times, &mut s[0..n]);
-    slices::copy(raws, &mut s[n..m]);
+    slices::copy(values, &mut s[n..m]);
     detrend::kernel::remove_within(s, n, nodes);
-    slices::copy(&s[n..m], out);
+    slices::copy(&s[n..m], values);
 }
 
+// A column of raw values becomes the detrended one.
 #[tactic(auto, using(crate::proofs::Filling::detrended_column))]
-fn detrend_column(
-    nodes: &[f64],
-    n: usize,
-    times: &[f64],
-    raws: &[f64],
-    detrended: &mut [f64],
-    s: &mut [f64],
-)
-    requires { (n ≤ length times.now) × (length raws.now ≡ length times.now) × (length detrended.old ≡ length times.now)
-        × (8 * n ≤ length s.old) }
-    ensures { detrended.new ≡ published (length times.now)
-        (first_detrended nodes.now n times.now raws.now) }
+fn detrend_column(nodes: &[f64], n: usize, times: &[f64], column: &mut [f64], s: &mut [f64])
+    requires { (n ≤ length times.now) × (length column.old ≡ length times.now) × (8 * n ≤ length s.old) }
+    ensures { column.new ≡ published (length times.now) (first_detrended nodes.now n times.now column.old) }
 {
-    remove(nodes, &times[0..n], &raws[0..n], &mut detrended[0..n], s);
-    let end = detrended.len();
-    slices::clear(&mut detrended[n..end]);
+    remove(nodes, &times[0..n], &mut column[0..n], s);
+    let end = column.len();
+    slices::clear(&mut column[n..end]);
 }
 
 #[tactic(auto, using(crate::proofs::Filling::passed_column))]
@@ -59,7 +50,10 @@ fn pass_column(n: usize, times: &[f64], detrended: &[f64], passed: &mut [f64], s
     slices::clear(&mut passed[n..end]);
 }
 
+// kept: of the six lists of `fill` three are read and three written, as the sheet's call lends them, and each function above takes four of
+// them: a struct would be taken apart at once.
 // Both columns of the first n entries, +0.0 behind them. False, and nothing is done, where the slices do not serve.
+// kept: a bool, since nothing is handed out but what is lent; `sheet` may ignore it, as its own tests let through only what serves here.
 pub fn fill(
     nodes: &[f64],
     n: usize,
@@ -83,7 +77,8 @@ pub fn fill(
         s.len(),
     );
     if served {
-        detrend_column(nodes, n, times, raws, detrended, s);
+        slices::copy(raws, detrended);
+        detrend_column(nodes, n, times, detrended, s);
         pass_column(n, times, detrended, passed, s);
     }
     served

@@ -46,7 +46,8 @@ pub rows_turn : (start period : Float) (from count to i : ℕ) (s s₀ ys : List
 rows_turn start period from count to i s s₀ ys h b t inv ey =
     let l : List Float = rows_of start period (mid_of from i s₀) in
     let ll : length l ≡ 6 * i = length_rows start period (mid_of from i s₀) ∙ ap (λ (j : ℕ). 6 * j) (length_mid from i s₀ (omega arith)) in
-    let g : get_or s (from + i) nan ≡ get_or s₀ (from + i) nan = ap (λ (x : List Float). get_or x (from + i) nan) inv ∙ get_before to (6 * i) (from + i) s₀ l nan (omega arith) (omega arith) in
+    let g : get_or s (from + i) nan ≡ get_or s₀ (from + i) nan =
+    ap (λ (x : List Float). get_or x (from + i) nan) inv ∙ get_before to (6 * i) (from + i) s₀ l nan (omega arith) (omega arith) in
     let k : to + 6 * i + 6 - (to + 6 * i) ≡ 6 = omega arith in
     let z : 6 * i + 6 ≡ 6 * (i + 1) = omega arith in
     let w : l ++ ys ≡ rows_of start period (mid_of from (i + 1) s₀) =

@@ -8,7 +8,7 @@ use native.Mathlib.Omega.{arith}
 use lib.Dec.{T, leb, eqb}
 use lib.Ieee.{Float, nan, lt}
 use lib.Ieee.Bits.{is_true}
-use lib.ListN.{length, length-replicate, take, drop, get_or, set, replicate, length-set, length-map, take-append-drop}
+use lib.ListN.{length, take, drop, get_or, set, replicate, length-set, length-map, take-append-drop}
 use lib.Seq.{drop-set-lt, length-take-le}
 use borrow.Author.Tests.{le-leb, lt-leb, eqb-true}
 use Rattle.std.specs.List.{list_all}
@@ -18,16 +18,15 @@ use Rattle.laws.specs.Loops.{head_at, take_set, filled_up}
 use Rattle.laws.specs.Order.{lt_tr}
 use Rattle.laws.specs.Bools.{left_true, right_true}
 use Rattle.slices.proofs.Calls.{cond_passes}
-use Rattle.std.specs.Prelude.{Ok}
 use Rattle.std.specs.List.Sorted.{IsPartitionedBy, IsPartitionPoint}
 use Rattle.laws.specs.Signed.{lt_or_ge}
 use Rattle.std.proofs.lemmas.List.{get_or_default}
 use Rattle.std.proofs.Common.{inl, inr, ◌⊎◌}
-use Rattle.slices.specs.Calls.{Verdict, accepted}
+use Rattle.slices.specs.Calls.{accepted}
 use Rattle.slices.specs.declared.refusal.Refusal.TheVariants.{Count, Length, Value, Order}
 use Rattle.detrend.proofs.Consecutive.{count_le}
 use Rattle.detrend.specs.Revolutions.{count_before, Revolution, revolutions_of}
-use Rattle.detrend.specs.Calls.{revolutions_refusal, listed, Listed, listed_unless}
+use Rattle.detrend.specs.Calls.{revolutions_refusal, Listed}
 
 -- ---- counting the times before b of a rising list, by halving
 
@@ -173,27 +172,6 @@ pub record Listing (ts ns : List Float) (k count : ℕ) (fs es : List ℕ) (ss p
   pub starts_are : length ss ≡ length ns - 1
   pub periods_are : length ps ≡ length ns - 1
 
-pub listing_none : (ts ns : List Float) (fs fs₀ es es₀ : List ℕ) (ss ss₀ ps ps₀ : List Float) →
-    length fs₀ ≡ length ns - 1 → length es₀ ≡ length ns - 1 → length ss₀ ≡ length ns - 1 → length ps₀ ≡ length ns - 1 →
-    fs ≡ replicate (length fs₀) 0 → es ≡ replicate (length es₀) 0 → ss ≡ replicate (length ss₀) zero64 → ps ≡ replicate (length ps₀) zero64 →
-    Listing ts ns 0 0 fs es ss ps
-listing_none ts ns fs fs₀ es es₀ ss ss₀ ps ps₀ lf le ls lp ef ee es' ep =
-    let af : length fs ≡ length fs₀ = ap length ef ∙ length-replicate (length fs₀) 0 in
-    let ae : length es ≡ length es₀ = ap length ee ∙ length-replicate (length es₀) 0 in
-    let as' : length ss ≡ length ss₀ = ap length es' ∙ length-replicate (length ss₀) zero64 in
-    let ap' : length ps ≡ length ps₀ = ap length ep ∙ length-replicate (length ps₀) zero64 in
-    record {
-      firsts = filled_none 0 (length fs₀) (map (λ (r : Revolution). r.first) (revolutions_of ts ns)) fs ef af;
-      ends = filled_none 0 (length es₀) (map (λ (r : Revolution). r.end) (revolutions_of ts ns)) es ee ae;
-      starts = filled_none zero64 (length ss₀) (map (λ (r : Revolution). r.start) (revolutions_of ts ns)) ss es' as';
-      periods = filled_none zero64 (length ps₀) (map (λ (r : Revolution). r.period) (revolutions_of ts ns)) ps ep ap';
-      few = omega arith;
-      firsts_are = af ∙ lf;
-      ends_are = ae ∙ le;
-      starts_are = as' ∙ ls;
-      periods_are = ap' ∙ lp;
-    }
-
 retold : {A : Type 0} (nil : A) (count : ℕ) (rest rest' goal out : List A) → rest ≡ rest' → Filled nil count rest goal out → Filled nil count rest' goal out
 retold {A = A} nil count rest rest' goal out e f = record { front = ap (λ (l : List A). take count out ++ l) (sym e) ∙ f.front; back = f.back }
 
@@ -241,7 +219,8 @@ none_left ts (a ∷ []) zero h = refl
 none_left ts (a ∷ b ∷ ns) zero h = absurd (omega arith)
 none_left ts (a ∷ ns) (suc k) h = none_left ts ns k (omega arith)
 
-pub listing_done : (ts ns : List Float) (k count : ℕ) (fs es : List ℕ) (ss ps : List Float) → length ns ≤ k + 1 → k ≤ length ns - 1 → Listing ts ns k count fs es ss ps → Listed ts ns count fs es ss ps
+pub listing_done : (ts ns : List Float) (k count : ℕ) (fs es : List ℕ) (ss ps : List Float) → length ns ≤ k + 1 → k ≤ length ns - 1 →
+    Listing ts ns k count fs es ss ps → Listed ts ns count fs es ss ps
 listing_done ts ns k count fs es ss ps h q l =
     let e = none_left ts ns k h in
     let few' : count ≤ length ns - 1 = omega (arith, l.few) in
@@ -271,7 +250,3 @@ module _ (ts ns : List Float) (f e s p : ℕ) (h : revolutions_refusal ts ns f e
       let a8 = cond_passes (list_all is_time ns) _ Value a7.1 in
       let a9 = cond_passes (rising ts) _ Order a8.1 in
       (a9.0, eqb-true f (length ns - 1) a3.0, eqb-true e (length ns - 1) a4.0, eqb-true s (length ns - 1) a5.0, eqb-true p (length ns - 1) a6.0)
-
-pub listed_counted : (v : Verdict) (count : ℕ) (ts ns : List Float) (fs es fs₀ es₀ : List ℕ) (ss ps ss₀ ps₀ : List Float) → v ≡ accepted → Listed ts ns count fs es ss ps →
-    listed (Ok count) fs es ss ps ≡ listed_unless v (length ns - 1) (revolutions_of ts ns) fs₀ es₀ ss₀ ps₀
-listed_counted v count ts ns fs es fs₀ es₀ ss ps ss₀ ps₀ h l = rw h (λ i. listed (Ok (l.counted i)) (l.firsts i) (l.ends i) (l.starts i) (l.periods i))

@@ -28,6 +28,7 @@ periods_finite ts (a ∷ b ∷ ns) h o =
     (periods_finite ts (b ∷ ns) rest (and_r (lt a b) (rising (b ∷ ns)) o))
   where
     go : (c : Bool) → T (finite (b ⊖ a)) → T (list_all finite (Periods (revolutions_of ts (b ∷ ns)))) →
-        T (list_all finite (Periods (cond c (record { first = count_before a ts; end = count_before b ts; start = a; period = b ⊖ a } ∷ revolutions_of ts (b ∷ ns)) (revolutions_of ts (b ∷ ns)))))
+        T (list_all finite (Periods (cond c (record { first = count_before a ts; end = count_before b ts; start = a; period = b ⊖ a } ∷ revolutions_of ts (b ∷ ns))
+        (revolutions_of ts (b ∷ ns)))))
     go true f r = and_i (finite (b ⊖ a)) (list_all finite (Periods (revolutions_of ts (b ∷ ns)))) f r
     go false f r = r

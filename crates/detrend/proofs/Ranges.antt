@@ -2,7 +2,7 @@
 use mathlib.Core.Path.{◌≡◌, refl, sym, ap, ◌∙◌}
 use mathlib.Core.List.{List, [], ◌∷◌}
 use mathlib.Core.Bool.{Bool, true, false, cond, not}
-use Prim.Native.Nat.{ℕ, ◌+◌, ◌-◌, ◌*◌, ◌<◌, ◌≤◌}
+use Prim.Native.Nat.{ℕ, ◌+◌, ◌-◌, ◌*◌, ◌/◌, ◌<◌, ◌≤◌}
 use native.Mathlib.Omega.{arith}
 use lib.Dec.{leb, ltb, eqb}
 use borrow.Author.Tests.{eqb-true, leb-true, ltb-true, ltb-false, not-true, not-false}
@@ -87,7 +87,8 @@ detrended_none : (es : List ℕ) (ss ps ts vs : List Float) → detrended_of [] 
 unfolding detrended_of detrended_by revolutions_in
 detrended_none es ss ps ts vs = refl
 
-pub ranges_turn : (n k : ℕ) (fs es : List ℕ) (ss ps s s₀ s' : List Float) → k < length fs → length es ≡ length fs → length ss ≡ length fs → length ps ≡ length fs → take n s ≡ take n s₀ →
+pub ranges_turn : (n k : ℕ) (fs es : List ℕ) (ss ps s s₀ s' : List Float) → k < length fs →
+    length es ≡ length fs → length ss ≡ length fs → length ps ≡ length fs → take n s ≡ take n s₀ →
     Detrended n (get_or fs k 0) (get_or es k 0 - get_or fs k 0) (get_or ss k nan) (get_or ps k nan) s s' →
     detrended_of (drop k fs) (drop k es) (drop k ss) (drop k ps) (take n s₀) (mid_of n n s) ≡ detrended_of fs es ss ps (take n s₀) (mid_of n n s₀) →
     detrended_of (drop (k + 1) fs) (drop (k + 1) es) (drop (k + 1) ss) (drop (k + 1) ps) (take n s₀) (mid_of n n s') ≡ detrended_of fs es ss ps (take n s₀) (mid_of n n s₀)
@@ -121,14 +122,16 @@ ranges_all n k fs es ss ps s s₀ h et inv = record {
 
 -- ---- the call
 
-pub detrended_in_law : (ts vs : List Float) (fs es : List ℕ) (ss ps s c1 c2 s3 v' : List Float) → length ts ≡ length vs → 8 * length vs ≤ length s →
+pub detrended_in_law : (ts vs : List Float) (fs es : List ℕ) (ss ps s c1 c2 s3 v' : List Float) → length ts ≡ length vs → length s ≡ 8 * length ts →
     c1 ≡ copied ts (mid_of 0 (length ts - 0) s) →
     c2 ≡ copied vs (mid_of (length ts) (length ts + length ts - length ts) (put_mid 0 (length ts - 0) s c1)) →
-    DetrendedAll (length ts) fs es ss ps (put_mid (length ts) (length ts + length ts - length ts) (put_mid 0 (length ts - 0) s c1) c2) s3 →
+    DetrendedAll (length (put_mid (length ts) (length ts + length ts - length ts) (put_mid 0 (length ts - 0) s c1) c2) / 8) fs es ss ps
+    (put_mid (length ts) (length ts + length ts - length ts) (put_mid 0 (length ts - 0) s c1) c2) s3 →
     length s3 ≡ length (put_mid (length ts) (length ts + length ts - length ts) (put_mid 0 (length ts - 0) s c1) c2) →
     v' ≡ copied (mid_of (length ts) (length ts + length ts - length ts) s3) vs → v' ≡ detrended_of fs es ss ps ts vs
-detrended_in_law ts vs fs es ss ps s c1 c2 s3 v' h room e1 e2 r l3 e3 =
+detrended_in_law ts vs fs es ss ps s c1 c2 s3 v' h room e1 e2 r' l3 e3 =
     let n : ℕ = length ts in
+    let whole : List Float = put_mid n (n + n - n) (put_mid 0 (n - 0) s c1) c2 in
     let z : n - 0 ≡ n = omega arith in
     let zz : n + n - n ≡ n = omega arith in
     let k1 : c1 ≡ ts = e1 ∙ copied_all ts (mid_of 0 (n - 0) s) (ap (λ (j : ℕ). length (mid_of 0 j s)) z ∙ length_mid 0 n s (omega arith)) in
@@ -139,17 +142,13 @@ detrended_in_law ts vs fs es ss ps s c1 c2 s3 v' h room e1 e2 r l3 e3 =
     let s2 : List Float = put_mid n n s1 vs in
     let q2 : put_mid n (n + n - n) (put_mid 0 (n - 0) s c1) c2 ≡ s2 = (λ i. put_mid n (zz i) (q1 i) (k2 i)) in
     let l2 : length s2 ≡ length s = same_len_mid n n s1 vs (sym h ∙ sym (length_mid n n s1 (omega arith))) ∙ l1 in
+    let eighth : length whole / 8 ≡ n = omega (arith, ap length q2) in
+    let r : DetrendedAll n fs es ss ps whole s3 = rw eighth at r' in
     let l4 : length s3 ≡ length s = l3 ∙ ap length q2 ∙ l2 in
     let tt' : take n s2 ≡ ts = take_mid n n n s1 vs (omega arith) (omega arith) ∙ mid_same 0 n s ts (omega arith) refl in
     let vv : mid_of n n s2 ≡ vs = mid_same n n s1 vs (omega arith) (sym h) in
     let m : mid_of n n s3 ≡ detrended_of fs es ss ps ts vs = r.values ∙ (λ i. detrended_of fs es ss ps (take n (q2 i)) (mid_of n n (q2 i))) ∙ (λ i. detrended_of fs es ss ps (tt' i) (vv i)) in
     e3 ∙ ap (λ (j : ℕ). copied (mid_of n j s3) vs) zz ∙ copied_all (mid_of n n s3) vs (sym (length_mid n n s3 (omega arith) ∙ h)) ∙ m
-
-pub room_kept : (ts vs s c1 c2 : List Float) → length ts ≡ length vs → 8 * length vs ≤ length s → length c1 ≡ length (mid_of 0 (length ts - 0) s) →
-    length c2 ≡ length (mid_of (length ts) (length ts + length ts - length ts) (put_mid 0 (length ts - 0) s c1)) →
-    8 * length ts ≤ length (put_mid (length ts) (length ts + length ts - length ts) (put_mid 0 (length ts - 0) s c1) c2)
-room_kept ts vs s c1 c2 h room k1 k2 =
-    omega (arith, same_len_mid 0 (length ts - 0) s c1 k1, same_len_mid (length ts) (length ts + length ts - length ts) (put_mid 0 (length ts - 0) s c1) c2 k2)
 
 -- what the call on the scratch asks for
 pub detrend_fine : (ts vs : List Float) (fs es : List ℕ) (ss ps : List Float) (room : ℕ) → detrend_refusal ts vs fs es ss ps room ≡ accepted →

@@ -12,15 +12,15 @@ use lib.Seq.{get_or-drop, get_or-take, drop-drop, take_all}
 use borrow.Rule.Slice.PartMut.{mid_of, put_mid, put_same, same_len_mid}
 use Rattle.laws.specs.Floats.{◌⊖◌, ◌⊗◌}
 use Rattle.laws.specs.Bools.{by}
-use Rattle.std.specs.Prelude.{cond, Option, Some, None}
-use Rattle.laws.specs.Sums.{sum_to, sum_same}
-use Rattle.least_squares.specs.LeastSquares.{solvable, solved, fitted_at}
+use Rattle.std.specs.Prelude.{cond, min, Option, Some, None}
+use Rattle.laws.specs.Sums.{sum_to}
+use Rattle.least_squares.specs.LeastSquares.{solvable, solved, fitted}
 use Rattle.least_squares.specs.Kernel.{estimate}
 use Rattle.least_squares.proofs.KernelShapes.{estimate_is}
 use Rattle.detrend.specs.Fit.{row_of, rows_of, fitted_by, less_fit, all_zero, revolution_of}
 use Rattle.detrend.specs.Revolutions.{revolved_of}
 use Rattle.detrend.specs.Work.{less_rows, Detrended}
-use Rattle.detrend.proofs.PartsInPlace.{take_mid, mid_behind, mid_ahead, mid_mid, mid_same, mid_put_in, put_more, put_none, get_after, length_mid}
+use Rattle.detrend.proofs.PartsInPlace.{take_mid, mid_behind, mid_ahead, mid_mid, mid_same, mid_put_in, put_more, get_after, length_mid}
 use Rattle.detrend.proofs.DesignRows.{length_rows}
 
 -- ---- what an estimate says
@@ -58,13 +58,11 @@ less_is b start period (t ∷ ts) [] h = absurd (omega arith)
 less_is b start period (t ∷ ts) (v ∷ vs) h = ap (λ (l : List Float). (v ⊖ fitted_by b (row_of start period t)) ∷ l) (less_is b start period ts vs (omega arith))
 
 -- one row alone
-pub row_fitted : (b row : List Float) (v : Float) → length b ≡ 6 → v ≡ fitted_at row b 6 0 → v ≡ fitted_by b row
-unfolding fitted_at fitted_by
+pub row_fitted : (b row : List Float) (v : Float) → length row ≡ length b → v ≡ fitted row b → v ≡ fitted_by b row
+unfolding fitted fitted_by
 row_fitted b row v l e =
-    e ∙ sum_same 6 (λ i h. ap (λ (n : ℕ). get_or row n nan ⊗ get_or b i nan) (omega arith)) ∙ sym (ap (sum_to (λ (j : ℕ). get_or row j nan ⊗ get_or b j nan)) l)
-
-pub less_none : (from : ℕ) (s l : List Float) → s ≡ put_mid from 0 s (take 0 l)
-less_none from s l = sym (put_none from s)
+    let n : min (length row) (length b) ≡ length b = omega arith in
+    e ∙ ap (sum_to (λ (j : ℕ). get_or row j nan ⊗ get_or b j nan)) n
 
 pub less_turn : (b : List Float) (from count rows i : ℕ) (s s₀ : List Float) (v : Float) → from + count ≤ rows → rows + 6 * count ≤ length s₀ → i < count →
     s ≡ put_mid from i s₀ (take i (less_rows b (mid_of rows (6 * count) s₀) (mid_of from count s₀))) →
@@ -205,7 +203,8 @@ module _ (n first count : ℕ) (start period : Float) (s : List Float) (h : firs
       pub part_none : (z : Bool) → z ≡ all_zero (mid_of (n + first) (n + first + count - (n + first)) s) → z ≡ false → o ≡ None → Detrended n first count start period s s1
       part_none z e q oq = record {
         times = times_stay;
-        values = all_stay ∙ sym (ap (put_mid first count (mid_of n n s)) (revolution_none start period Ts Vs (zero_is z false e q) (none_says _ _ (estimated ∙ oq))) ∙ put_same first count (mid_of n n s));
+        values = all_stay ∙ sym (ap (put_mid first count (mid_of n n s)) (revolution_none start period Ts Vs (zero_is z false e q) (none_says _ _ (estimated ∙ oq)))
+            ∙ put_same first count (mid_of n n s));
       }
 
       pub part_found : (z : Bool) (b1 s2 : List Float) → z ≡ all_zero (mid_of (n + first) (n + first + count - (n + first)) s) → z ≡ false → o ≡ Some b1 →

@@ -149,9 +149,3 @@ pub starts_inside : (n first : ℕ) (s : List Float) → 8 * n ≤ length s → 
 starts_inside n first s room h =
     let z : n - 0 ≡ n = omega arith in
     omega (arith, ap (λ (j : ℕ). length (take j s)) z, length_mid 0 n s (omega arith))
-
-pub ends_inside : (n first r : ℕ) (a b : Float) (s s' : List Float) → Window n first a b s r s' → r ≤ n
-ends_inside n first r a b s s' w = w.inside
-
-pub times_kept : (n first r : ℕ) (a b : Float) (s s' s₀ : List Float) → Window n first a b s r s' → take n s ≡ take n s₀ → take n s' ≡ take n s₀
-times_kept n first r a b s s' s₀ w e = w.times ∙ e

@@ -5,18 +5,39 @@ use Prim.Native.Nat.{ℕ, ◌+◌, ◌-◌, ◌*◌, ◌/◌, ◌<◌, ◌≤◌
 use native.Mathlib.Omega.{arith}
 use borrow.Rule.Slice.PartMut.{mid_of, put_mid, same_len_mid}
 use lib.Ieee.{Float}
-use lib.ListN.{length, take}
+use lib.ListN.{length, take, drop, length-drop}
+use lib.Seq.{take-take, take-append-le, drop-append-le}
+use native.Mathlib.Nat.{zero-add}
 use Rattle.slices.specs.Slices.{copied}
 use Rattle.slices.proofs.SliceLoops.{copied_all}
 use Rattle.detrend.specs.Revolutions.{removed_of}
 use Rattle.detrend.specs.Work.{Removed, RemovedWithin}
-use Rattle.detrend.proofs.PartsInPlace.{take_mid, mid_same, length_mid}
+use Rattle.detrend.proofs.PartsInPlace.{take_mid, mid_same, length_mid, mid_mid}
 use Rattle.detrend.proofs.SplitAtNodes.{removed_length}
 
 -- ---- the kernel
 
-pub within_done : (n : ℕ) (nodes s s' : List Float) → n ≤ length s / 8 → Removed n nodes s s' → RemovedWithin n nodes s s'
-within_done n nodes s s' h r = record { fits = λ _. r; small = λ k. absurd (omega arith) }
+-- what is done in the first 8 n numbers is done in the whole
+pub within_done : (n : ℕ) (nodes s p' : List Float) → n ≤ length s / 8 → length p' ≡ length (mid_of 0 (8 * n - 0) s) →
+    Removed (length (mid_of 0 (8 * n - 0) s) / 8) nodes (mid_of 0 (8 * n - 0) s) p' → RemovedWithin n nodes s (put_mid 0 (8 * n - 0) s p')
+within_done n nodes s p' h lp r =
+    let k : ℕ = 8 * n - 0 in
+    let p : List Float = mid_of 0 k s in
+    let d : List Float = drop k s in
+    let l : length p ≡ 8 * n = length_mid 0 k s (omega arith) ∙ omega arith in
+    let m : length p / 8 ≡ n = omega arith in
+    let here : Removed n nodes p p' = rw m at r in
+    let front : take n p ≡ take n s = take-take n k s (omega arith) in
+    let back : mid_of n n p ≡ mid_of n n s = mid_mid 0 k n n s (omega arith) (omega arith) ∙ ap (λ (j : ℕ). mid_of j n s) (zero-add n) in
+    record {
+      fits = λ _. record {
+        times = take-append-le n p' d (omega arith) ∙ here.times ∙ front;
+        values =
+            ap (take n) (drop-append-le n p' d (omega arith)) ∙ take-append-le n (drop n p') d (omega (arith, length-drop n p'))
+            ∙ here.values ∙ (λ i. removed_of nodes (front i) (back i));
+      };
+      small = λ k. absurd (omega arith);
+    }
 
 removed_none : (nodes ts vs : List Float) → length nodes ≤ 0 → vs ≡ removed_of nodes ts vs
 unfolding removed_of

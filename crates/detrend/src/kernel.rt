@@ -7,6 +7,6 @@ pub fn remove_within(work: &mut [f64], n: usize, nodes: &[f64])
     ensures { RemovedWithin n nodes.now work.old work.new }
 {
     if n <= work.len() / 8 && !nodes.is_empty() {
-        crate::work::remove_all(work, n, nodes);
+        crate::work::remove_all(&mut work[0..8 * n], nodes);
     }
 }

@@ -25,10 +25,11 @@ fn detrend_in(times: &[f64], values: &mut [f64], parts: Parts<'_>, scratch: &mut
 {
     let n = times.len();
     let m = n + n;
-    slices::copy(times, &mut scratch[0..n]);
-    slices::copy(values, &mut scratch[n..m]);
-    work::detrend_all(scratch, n, parts);
-    slices::copy(&scratch[n..m], values);
+    let area = &mut scratch[0..8 * n];
+    slices::copy(times, &mut area[0..n]);
+    slices::copy(values, &mut area[n..m]);
+    work::detrend_all(area, parts);
+    slices::copy(&area[n..m], values);
 }
 
 #[tactic(auto, unfolding(crate::specs::Calls::detrend_numbers))]
@@ -93,7 +94,8 @@ pub fn detrend(
     Err(Refusal::NotFinite)
 }
 
-// kept: here and in `revolutions` the four outputs are lent one by one; a struct of `&mut` slices would be taken apart in each function.
+// kept: here and in `revolutions` the four outputs are lent one by one: a struct of them would be made for this function alone, whose contract and loop would
+// have to promise of each field that it is still the same reference (its ghost name).
 // The revolutions of 50 epochs or more go to the heads of the four lists, zeros behind them; how many there are.
 fn list_revolutions(
     times: &[f64],

@@ -1,5 +1,6 @@
-// The work on one list of samples. A work area of n samples holds n times, n values and the rows of a fit, six numbers each, one after the other.
-ghost use Rattle.std.specs.Prelude.{◌≡◌, true, ◌+◌, ◌*◌, ◌-◌, ◌≤◌, ◌<◌, length, drop};
+// The work on one list of samples. A work area of n samples holds n times, n values and the rows of a fit, six numbers each, one after the other: so n is an
+// eighth of its length.
+ghost use Rattle.std.specs.Prelude.{◌≡◌, true, ◌+◌, ◌*◌, ◌/◌, ◌-◌, ◌≤◌, ◌<◌, length, drop};
 ghost use borrow.Rule.Slice.PartMut.{mid_of, put_mid};
 ghost use Rattle.laws.specs.Checks.{rising};
 ghost use Rattle.detrend.specs.Fit.{row_of, rows_of, all_zero};
@@ -57,17 +58,18 @@ fn subtract_fit(s: &mut [f64], from: usize, count: usize, rows: usize, beta: &[f
 {
     for i in 0..count {
         let at = rows + 6 * i;
-        let v = least_squares::fitted(&s[at..at + 6], beta, 6, 0);
+        let v = least_squares::fitted(&s[at..at + 6], beta);
         let k = from + i;
         s[k] = s[k] - v;
     }
 }
 
-// The count samples of a work area of n from the one at `first` on, detrended as one revolution.
-fn detrend_part(s: &mut [f64], n: usize, first: usize, count: usize, start: f64, period: f64)
-    requires { (first + count ≤ n) × (8 * n ≤ length s.old) }
-    ensures { Detrended n first count start period s.old s.new }
+// The count samples of a work area from the one at `first` on, detrended as one revolution.
+fn detrend_part(s: &mut [f64], first: usize, count: usize, start: f64, period: f64)
+    requires { first + count ≤ length s.old / 8 }
+    ensures { Detrended (length s.old / 8) first count start period s.old s.new }
 {
+    let n = s.len() / 8;
     let from = n + first;
     let end = from + count;
     if all_zero(&s[from..end]) {
@@ -96,40 +98,42 @@ fn count_from(times: &[f64], first: usize, b: f64) -> usize
 
 // The revolution from node a to node b, whose samples begin at `first`: detrended where it has 50. Where the next begins.
 #[tactic(auto, using(crate::proofs::RevolutionWalk::window_long, crate::proofs::RevolutionWalk::window_short))]
-fn window(s: &mut [f64], n: usize, first: usize, a: f64, b: f64) -> usize
-    requires { (first ≤ n) × (8 * n ≤ length s.old) }
-    ensures { Window n first a b s.old result s.new }
+fn window(s: &mut [f64], first: usize, a: f64, b: f64) -> usize
+    requires { first ≤ length s.old / 8 }
+    ensures { Window (length s.old / 8) first a b s.old result s.new }
 {
+    let n = s.len() / 8;
     let end = count_from(&s[0..n], first, b);
     let count = end - first;
     if 50 <= count {
-        detrend_part(s, n, first, count, a, b - a);
+        detrend_part(s, first, count, a, b - a);
     }
     end
 }
 
 // Each revolution in turn, from node to node.
-pub fn remove_all(s: &mut [f64], n: usize, nodes: &[f64])
-    requires { (8 * n ≤ length s.old) × (0 < length nodes.now) }
-    ensures { Removed n nodes.now s.old s.new }
+pub fn remove_all(s: &mut [f64], nodes: &[f64])
+    requires { 0 < length nodes.now }
+    ensures { Removed (length s.old / 8) nodes.now s.old s.new }
 {
+    let n = s.len() / 8;
     let mut first = count_from(&s[0..n], 0, nodes[0]);
     for k in 1..nodes.len() {
-        first = window(s, n, first, nodes[k - 1], nodes[k]);
+        first = window(s, first, nodes[k - 1], nodes[k]);
     }
 }
 
 // Each part in turn, detrended as one revolution.
-pub fn detrend_all(s: &mut [f64], n: usize, parts: Parts<'_>)
-    requires { (8 * n ≤ length s.old) × (length parts.ends.now ≡ length parts.firsts.now) × (length parts.starts.now ≡ length parts.firsts.now)
-        × (length parts.periods.now ≡ length parts.firsts.now) × (ranges_fit parts.firsts.now parts.ends.now n ≡ true) }
-    ensures { DetrendedAll n parts.entry.firsts.now parts.entry.ends.now parts.entry.starts.now
+pub fn detrend_all(s: &mut [f64], parts: Parts<'_>)
+    requires { (length parts.ends.now ≡ length parts.firsts.now) × (length parts.starts.now ≡ length parts.firsts.now)
+        × (length parts.periods.now ≡ length parts.firsts.now) × (ranges_fit parts.firsts.now parts.ends.now (length s.old / 8) ≡ true) }
+    ensures { DetrendedAll (length s.old / 8) parts.entry.firsts.now parts.entry.ends.now parts.entry.starts.now
         parts.entry.periods.now s.old s.new }
 {
     for k in 0..parts.firsts.len() {
         let first = parts.firsts[k];
         let count = parts.ends[k] - first;
-        detrend_part(s, n, first, count, parts.starts[k], parts.periods[k]);
+        detrend_part(s, first, count, parts.starts[k], parts.periods[k]);
     }
 }
 

@@ -4,6 +4,7 @@ ghost use Rattle.forces.specs.Forces.{gravity_with};
 ghost use Rattle.epoch.specs.Epoch.{sight_of, along_of, tides_term, frame_term, velocity_term, middle_of, record_of, epoch_with};
 
 // From C to D, of length 1.
+#[tactic(auto, unfolding(crate::specs::Epoch::sight_of))]
 fn sight(rc: vectors::Vector, rd: vectors::Vector) -> vectors::Vector
     ensures { result ≡ sight_of rc rd }
 {
@@ -12,12 +13,14 @@ fn sight(rc: vectors::Vector, rd: vectors::Vector) -> vectors::Vector
 }
 
 // What is at D less what is at C, along a line.
+#[tactic(auto, unfolding(crate::specs::Epoch::along_of))]
 fn along(line: vectors::Vector, d: vectors::Vector, c: vectors::Vector) -> f64
     ensures { result ≡ along_of line d c }
 {
     vectors::dot(line, vectors::sub(d, c))
 }
 
+#[tactic(auto, unfolding(crate::specs::Epoch::tides_term, forces::specs::Forces::tides_of))]
 fn tides_term(t: f64, rc: vectors::Vector, rd: vectors::Vector) -> f64
     ensures { result ≡ tides_term t rc rd }
 {
@@ -27,6 +30,7 @@ fn tides_term(t: f64, rc: vectors::Vector, rd: vectors::Vector) -> f64
     along(sight(rc, rd), d, c)
 }
 
+#[tactic(auto, unfolding(crate::specs::Epoch::frame_term))]
 fn frame_term(
     rc: vectors::Vector,
     vc: vectors::Vector,
@@ -40,6 +44,7 @@ fn frame_term(
     along(sight(rc, rd), d, c)
 }
 
+#[tactic(auto, unfolding(crate::specs::Epoch::velocity_term))]
 fn velocity_term(
     rc: vectors::Vector,
     vc: vectors::Vector,
@@ -59,6 +64,7 @@ fn middle(a: vectors::Vector, b: vectors::Vector) -> vectors::Vector
     vectors::scale(vectors::add(a, b), 0.5)
 }
 
+#[tactic(auto, unfolding(crate::specs::Epoch::record_of))]
 fn record(
     t: f64,
     observed: f64,
@@ -86,6 +92,7 @@ fn record(
 }
 
 // The record of an epoch; `work` has the prepared numbers of the degree and the field at t in front.
+#[tactic(auto, unfolding(crate::specs::Epoch::epoch_with, crate::specs::Epoch::gravity_term))]
 pub fn epoch_at(
     degree: usize,
     gm: f64,

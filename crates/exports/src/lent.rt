@@ -1,4 +1,5 @@
 // The lists that C lends one by one, each with those that it comes with.
+// kept: the five lists of `model` and the six of `tracks`, for the C interface lends each list alone.
 ghost use Rattle.std.specs.Prelude.{◌≡◌, List, Float};
 ghost use Rattle.horizon.specs.Calls.{given};
 ghost use Rattle.horizon.specs.Lent.{given_in};

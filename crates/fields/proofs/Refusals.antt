@@ -1,5 +1,5 @@
 -- What holds where nothing is refused. Assumes nothing.
-use Rattle.std.specs.Prelude.{◌≡◌, ℕ, ◌+◌, ◌*◌, ◌≤◌, Bool, true, cond, ◌&&◌, eqb, leb, Ok, Err}
+use Rattle.std.specs.Prelude.{◌≡◌, ℕ, ◌*◌, ◌≤◌, Bool, true, cond, ◌&&◌, eqb, leb, Ok, Err}
 use Rattle.std.proofs.Common.{sym}
 use borrow.Author.Tests.{leb-true, eqb-true}
 use Rattle.laws.specs.Bools.{both_true}
@@ -8,7 +8,7 @@ use Rattle.slices.specs.Calls.{accepted}
 use Rattle.slices.specs.declared.refusal.Refusal.TheVariants.{Degree, Length, Value}
 use Rattle.slices.proofs.Calls.{cond_passes}
 use Rattle.legendre.specs.Field.{size, Fits}
-use Rattle.fields.specs.Calls.{two_tables, field_and, four_tables, unfit, refusal_of}
+use Rattle.fields.specs.Calls.{two_tables, four_tables, unfit, refusal_of}
 
 pub record Passed (N : ℕ) (shape values : Bool) : Type 0 where
   pub low : 2 ≤ N
@@ -29,11 +29,6 @@ two_say N x y scratch h e =
     let a = both_true (eqb x (size N)) (eqb y (size N) && leb (8 * size N) scratch) e in
     let b = both_true (eqb y (size N)) (leb (8 * size N) scratch) a.1 in
     record { degree = h; a = eqb-true x (size N) a.0; b = eqb-true y (size N) b.0; work = leb-true (8 * size N) scratch b.1 }
-
-pub field_says : (N field x y scratch : ℕ) → N ≤ 180 → field_and (size N) field x y scratch ≡ true → (field ≡ 2 + 2 * size N) × Fits N x y scratch
-field_says N field x y scratch h e =
-    let a = both_true (eqb field (2 + 2 * size N)) (two_tables (size N) x y scratch) e in
-    (eqb-true field (2 + 2 * size N) a.0, two_say N x y scratch h a.1)
 
 pub four_say : (N a b p dp scratch : ℕ) → N ≤ 180 → four_tables (size N) a b p dp scratch ≡ true → Fits N a b scratch × Fits N p dp scratch
 four_say N a b p dp scratch h e =

@@ -105,7 +105,13 @@ abbrev pub partials_of_field : ℕ → List Float → List Float → List Float 
 partials_of_field N field a b r lat lon =
     partials_by N (get_or field 0 nan) (get_or field 1 nan) a b (take (size N) (drop 2 field)) (take (size N) (drop (2 + size N) field)) r lat lon
 
--- the numbers that are lent or given
+-- the value before a test of it, by whether the numbers are fine that are lent or given
+abbrev pub untested_call : ℕ → List Float → List Float → List Float → Bool → Float → Float → Float → List Float → Left (Result Partials Refusal)
+untested_call N field a b values r lat lon scratch =
+    settled (refusal_of N (field_and (size N) (length field) (length a) (length b) (length scratch)) values)
+    (Ok (partials_of_field N field a b r lat lon)) [] [] scratch
+
+-- those numbers
 abbrev pub place_fine : List Float → List Float → List Float → Float → Float → Float → Bool
 place_fine field a b r lat lon = list_all finite field && (list_all finite a && (list_all finite b && (finite r && (finite lat && finite lon))))
 

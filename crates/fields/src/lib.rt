@@ -10,8 +10,9 @@ ghost use Rattle.slices.specs.Calls.{left};
 ghost use Rattle.slices.specs.declared.refusal.Refusal.TheVariants.{Degree};
 ghost use Rattle.legendre.specs.Field.{size, Fits};
 ghost use Rattle.fields.specs.Rescaled.{rescaled_at};
-ghost use Rattle.fields.specs.Calls.{index_of, finite_partials, finite_neu, acceleration_call, two_tables, field_and, four_tables, refusal_of, unfit, handed_two, handed_one};
-ghost use Rattle.fields.specs.Calls.{new_call, rescaled_call, compute_call, derive_call, judged_partials, place_fine, partials_of_field, partials_call};
+ghost use Rattle.fields.specs.Calls.{index_of, finite_partials, finite_neu, acceleration_call, two_tables, field_and, four_tables};
+ghost use Rattle.fields.specs.Calls.{refusal_of, unfit, handed_two, handed_one, new_call, rescaled_call, compute_call, derive_call};
+ghost use Rattle.fields.specs.Calls.{judged_partials, place_fine, partials_of_field, untested_call, partials_call};
 
 use legendre;
 use numbers;
@@ -76,8 +77,8 @@ fn tables_refusal(
     verdict(two_tables(l, x, y, scratch), values)
 }
 
-// Those of a call on a field and two tables, which crate `forces` has too.
-pub fn field_refusal(
+// Those of a call on a field and two tables.
+fn field_refusal(
     degree: usize,
     field: usize,
     x: usize,
@@ -165,56 +166,55 @@ pub fn legendre_new(
         scratch.old }
 {
     tables_refusal(degree, a.len(), b.len(), scratch.len(), true)?;
-    legendre::tabulate(legendre::a_of, degree, a);
-    legendre::tabulate(legendre::b_of, degree, b);
+    legendre::tabulate_a(degree, a);
+    legendre::tabulate_b(degree, b);
     slices::clear(scratch);
     hand_two(a, b)
 }
 
-// Row n of one kind of coefficients, which begins at `start` in the field; the row begins at k.
-fn rescaled_row(
-    n: usize,
-    k: usize,
-    start: usize,
+// A field, and the GM and the radius that it is rescaled to.
+#[derive(Clone, Copy)]
+struct Rescaling<'a> {
+    field: &'a [f64],
     gm: f64,
     radius: f64,
-    field: &[f64],
-    out: &mut [f64],
-)
-    requires { (n ≤ 180) × (k ≡ tri n) × (2 ≤ start) × (start + (k + (n + 1)) ≤ length field.now) × (k + (n + 1) ≤ length out.old) }
-    ensures { take (k + (n + 1)) out.new ≡ take k out.old ++ row (rescaled_at start gm radius field.now n) (n + 1) }
+}
+
+// Row n of one kind of coefficients, which begins at `start` in the field; the row begins at k.
+fn rescaled_row(given: &Rescaling<'_>, n: usize, k: usize, start: usize, out: &mut [f64])
+    requires { (n ≤ 180) × (k ≡ tri n) × (2 ≤ start) × (start + (k + (n + 1)) ≤ length given.now.field.now) × (k + (n + 1) ≤ length out.old) }
+    ensures { take (k + (n + 1)) out.new ≡ take k out.old ++ row (rescaled_at start given.now.gm given.now.radius given.now.field.now n) (n + 1) }
 {
-    let f = kernel::factor(gm, radius, field, n);
+    let field = given.field;
+    let f = kernel::factor(given.gm, given.radius, field, n);
     for m in 0..n + 1 {
         let i = k + m;
         out[i] = field[start + i] * f;
     }
 }
 
-fn rescaled_rows(degree: usize, start: usize, gm: f64, radius: f64, field: &[f64], out: &mut [f64])
-    requires { (degree ≤ 180) × (2 ≤ start) × (start + size degree ≤ length field.now) × (length out.old ≡ size degree) }
-    ensures { out.new ≡ rows (rescaled_at start gm radius field.now) (degree + 1) }
+fn rescaled_rows(given: &Rescaling<'_>, degree: usize, start: usize, out: &mut [f64])
+    requires { (degree ≤ 180) × (2 ≤ start) × (start + size degree ≤ length given.now.field.now) × (length out.old ≡ size degree) }
+    ensures { out.new ≡ rows (rescaled_at start given.now.gm given.now.radius given.now.field.now) (degree + 1) }
 {
     for n in 0..degree + 1 {
-        rescaled_row(n, numbers::triangle(n), start, gm, radius, field, out);
+        rescaled_row(given, n, numbers::triangle(n), start, out);
     }
 }
 
 fn rescaled_both(
+    given: &Rescaling<'_>,
     degree: usize,
-    field: &[f64],
-    gm: f64,
-    radius: f64,
     cosines: &mut [f64],
     sines: &mut [f64],
 ) -> Result<(), Refusal>
-    requires { (degree ≤ 180) × (length field.now ≡ 2 + 2 * size degree) × (length cosines.old ≡ size degree) × (length sines.old ≡ size degree) }
-    ensures { left result (cosines.new ∷ sines.new ∷ []) [] ≡ handed_two (rows (rescaled_at 2 gm radius field.now) (degree + 1))
-        (rows (rescaled_at (2 + size degree) gm radius field.now) (degree + 1)) }
+    requires { (degree ≤ 180) × (length given.now.field.now ≡ 2 + 2 * size degree) × (length cosines.old ≡ size degree) × (length sines.old ≡ size degree) }
+    ensures { left result (cosines.new ∷ sines.new ∷ []) [] ≡ handed_two (rows (rescaled_at 2 given.now.gm given.now.radius given.now.field.now) (degree + 1))
+        (rows (rescaled_at (2 + size degree) given.now.gm given.now.radius given.now.field.now) (degree + 1)) }
 {
     let start = 2 + numbers::triangle(degree + 1);
-    rescaled_rows(degree, 2, gm, radius, field, cosines);
-    rescaled_rows(degree, start, gm, radius, field, sines);
+    rescaled_rows(given, degree, 2, cosines);
+    rescaled_rows(given, degree, start, sines);
     hand_two(cosines, sines)
 }
 
@@ -242,7 +242,8 @@ pub fn rescaled(
         values,
     )?;
     slices::clear(scratch);
-    rescaled_both(degree, field, gm, radius, cosines, sines)
+    let given = Rescaling { field, gm, radius };
+    rescaled_both(&given, degree, cosines, sines)
 }
 
 // The derivative of a table by latitude.
@@ -263,6 +264,7 @@ pub fn derive(degree: usize, p: &[f64], dp: &mut [f64], scratch: &mut [f64]) -> 
 }
 
 // The Legendre functions at a latitude and their derivatives.
+// kept: five lists: document 01's call lends them in this order, and `legendre::compute`, its kernel, takes the same.
 pub fn compute_with_derivative(
     degree: usize,
     a: &[f64],
@@ -291,32 +293,74 @@ pub fn compute_with_derivative(
     hand_two(p, dp)
 }
 
+// What an evaluation is asked of: a field with its Legendre tables, and the place.
+#[derive(Clone, Copy)]
+pub struct Asked<'a> {
+    pub degree: usize,
+    pub field: &'a [f64],
+    pub a: &'a [f64],
+    pub b: &'a [f64],
+    pub r: f64,
+    pub lat: f64,
+    pub lon: f64,
+}
+
 // The value from a scratch slice that will be cleared.
-pub fn partials_in(
-    degree: usize,
-    field: &[f64],
-    a: &[f64],
-    b: &[f64],
-    r: f64,
-    lat: f64,
-    lon: f64,
-    scratch: &mut [f64],
-) -> legendre::Partials
-    requires { (length field.now ≡ 2 + 2 * size degree) × Fits degree (length a.now) (length b.now) (length scratch.old) }
-    ensures { result ≡ partials_of_field degree field.now a.now b.now r lat lon }
+fn partials_in(of: &Asked<'_>, scratch: &mut [f64]) -> legendre::Partials
+    requires { (length of.now.field.now ≡ 2 + 2 * size of.now.degree) × Fits of.now.degree (length of.now.a.now) (length of.now.b.now) (length scratch.old) }
+    ensures { result ≡ partials_of_field of.now.degree of.now.field.now of.now.a.now of.now.b.now of.now.r of.now.lat of.now.lon }
 {
+    let degree = of.degree;
+    let field = of.field;
+    let gm = field[0];
+    let radius = field[1];
     let l2 = 2 * numbers::triangle(degree + 1);
     let end = field.len();
     legendre::prepare(degree, scratch);
     slices::copy(&field[2..end], &mut scratch[0..l2]);
-    legendre::evaluate(degree, field[0], field[1], a, b, &scratch[..], r, lat, lon)
+    legendre::evaluate(
+        degree,
+        gm,
+        radius,
+        of.a,
+        of.b,
+        &scratch[..],
+        of.r,
+        of.lat,
+        of.lon,
+    )
 }
 
-fn values_fine(field: &[f64], a: &[f64], b: &[f64], r: f64, lat: f64, lon: f64) -> bool
-    ensures { result ≡ place_fine field.now a.now b.now r lat lon }
+// The tests but the last, of the value itself, and the work; the scratch is cleared. `values` says whether the numbers are fine. Crate
+// `forces` calls this too.
+pub fn untested_partials(
+    of: &Asked<'_>,
+    values: bool,
+    scratch: &mut [f64],
+) -> Result<legendre::Partials, Refusal>
+    ensures { left result [] scratch.new ≡ untested_call of.now.degree of.now.field.now of.now.a.now of.now.b.now values of.now.r of.now.lat of.now.lon
+        scratch.old }
 {
-    let place = numbers::is_finite(r) && (numbers::is_finite(lat) && numbers::is_finite(lon));
-    slices::all_finite(field) && (slices::all_finite(a) && (slices::all_finite(b) && place))
+    field_refusal(
+        of.degree,
+        of.field.len(),
+        of.a.len(),
+        of.b.len(),
+        scratch.len(),
+        values,
+    )?;
+    let p = partials_in(of, scratch);
+    slices::clear(scratch);
+    Ok(p)
+}
+
+fn values_fine(of: &Asked<'_>) -> bool
+    ensures { result ≡ place_fine of.now.field.now of.now.a.now of.now.b.now of.now.r of.now.lat of.now.lon }
+{
+    let place = numbers::is_finite(of.r)
+        && (numbers::is_finite(of.lat) && numbers::is_finite(of.lon));
+    slices::all_finite(of.field)
+        && (slices::all_finite(of.a) && (slices::all_finite(of.b) && place))
 }
 
 // The potential and its derivatives by radius, latitude and longitude.
@@ -333,11 +377,16 @@ pub fn partials(
     ensures { left result [] scratch.new ≡ partials_call degree field.now a.now b.now r lat lon
         scratch.old }
 {
-    let values = values_fine(field, a, b, r, lat, lon);
-    field_refusal(degree, field.len(), a.len(), b.len(), scratch.len(), values)?;
-    let z = partials_in(degree, field, a, b, r, lat, lon, scratch);
-    slices::clear(scratch);
-    judged(z)
+    let of = Asked {
+        degree,
+        field,
+        a,
+        b,
+        r,
+        lat,
+        lon,
+    };
+    judged(untested_partials(&of, values_fine(&of), scratch)?)
 }
 
 // North, east and up from the partials.

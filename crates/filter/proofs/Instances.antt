@@ -44,7 +44,8 @@ zeros_through [] q n = refl
 zeros_through (s ∷ ss) q n = ap (through ss) (one_quiet s q.0 n) ∙ zeros_through ss q.1 n
 
 band_quiet : All Quiet band
-unfolding band butterworth section quality sample_of number sine cosine sine_at cosine_at sine_near cosine_near near rounded quarter left horner horner_from factorial alternating sines cosines of_bits of_int
+unfolding band butterworth section quality sample_of number sine cosine sine_at cosine_at sine_near cosine_near
+    near rounded quarter left horner horner_from factorial alternating sines cosines of_bits of_int
     round add sub mul div neg lt le
 band_quiet = (refl, (refl, (refl, (refl, tt))))
 

@@ -88,7 +88,8 @@ ends_grown true t us k e later =
 ends_grown false t [] k e later = let z : ◌≡◌ {A = ℕ} 0 1 = cc in absurd (omega arith)
 ends_grown false t (u ∷ us) k e later = longer (runs_of (u ∷ us)) refl
   where
-    longer : (ks : List ℕ) → runs_of (u ∷ us) ≡ ks → ends_run (take (total (take (suc k) (grown false ks))) (t ∷ u ∷ us)) (drop (total (take (suc k) (grown false ks))) (t ∷ u ∷ us)) ≡ true
+    longer : (ks : List ℕ) → runs_of (u ∷ us) ≡ ks →
+        ends_run (take (total (take (suc k) (grown false ks))) (t ∷ u ∷ us)) (drop (total (take (suc k) (grown false ks))) (t ∷ u ∷ us)) ≡ true
     longer [] f = absurd (omega (arith, ap total f, total_runs (u ∷ us)))
     longer (j ∷ ks) f =
         let m : ℕ = j + total (take k ks) in

@@ -1,20 +1,21 @@
 -- One turn of each loop of `src/work.rt`, and each call, by the definitions of `specs/Filter.antt`. Assumes nothing.
-use mathlib.Core.Path.{◌≡◌, refl, sym, ap, ◌∙◌}
+use mathlib.Core.Path.{◌≡◌, refl, sym, ap, ◌∙◌, subst}
 use mathlib.Core.List.{List, [], ◌∷◌, ◌++◌, append_assoc, append-nil, reverse, reverse-append}
-use mathlib.Core.Bool.{Bool, true, false, cond}
+use mathlib.Core.Bool.{Bool, true, false, cond, not}
 use lib.Dec.{ltb}
 use mir.Val.{bool_byte}
-use mathlib.Core.Logic.{◌⊎◌, inl, inr}
 use Prim.Native.Nat.{ℕ, suc, ◌+◌, ◌-◌, ◌*◌, ◌/◌, ◌<◌, ◌≤◌}
 use native.Mathlib.Omega.{arith}
+use native.Mathlib.Numerals.{unary_clauses}
 use lib.ListN.{length, take, drop, get_or, set, length-take, length-drop, length-reverse, length-append, take-append-drop, drop_of_length-le}
-use lib.Seq.{get_or-drop, drop-drop, take_at, drop_at}
+use lib.Seq.{get_or-drop, take_at, drop_at}
 use borrow.Author.Tests.{lt-ltb, le-ltb}
 use borrow.Rule.Slice.PartMut.{put_mid, mid_of, same_len_mid, mid_len}
 use lib.Ieee.{Float, nan}
-use Rattle.laws.specs.Floats.{◌⊖◌, ◌⊗◌, two64, zero64}
-use Rattle.laws.specs.Loops.{cleared, head_at, fill_turn, fill_done}
-use Rattle.laws.specs.Runs.{splits, grown, runs_of, pass_runs, passed}
+use Rattle.std.specs.List.{IsChunkByPrefix}
+use Rattle.laws.specs.Floats.{◌⊖◌, ◌⊗◌, two64}
+use Rattle.laws.specs.Loops.{cleared, head_at, fill_turn}
+use Rattle.laws.specs.Runs.{splits, runs_of, pass_runs, passed}
 use Rattle.slices.specs.Slices.{copied}
 use Rattle.slices.proofs.SliceLoops.{copied_all, take_reverse}
 use Rattle.filter.specs.Sections.{sections_of}
@@ -77,18 +78,10 @@ reflect_step v x p end k h g f =
     let q : get_or l m nan ≡ get_or x (end - 1 - k) nan = get_or-drop (end - p) x m nan ∙ ap (λ (n : ℕ). get_or x n nan) j in
     rw e (ap (reflected v) (take_reverse nan l m (rw (length-drop (end - p) x) (omega arith)) ∙ ap (λ (a : Float). a ∷ reverse (take m l)) q))
 
-take_none {ℓ} : {A : Type ℓ} (p k : ℕ) (l : List A) → p ≤ k → take (p - k) l ≡ []
-take_none p k l h = let e : p - k ≡ 0 = omega arith in rw e
-
 pub reflect_turn : (x out out₀ : List Float) (v : Float) (end k : ℕ) → length out ≡ length out₀ → length out₀ ≤ end → end ≤ length x → k < length out₀ →
     take k out ++ reflected v (reverse (take (length out₀ - k) (drop (end - length out₀) x))) ≡ mirrored v (length out₀) end x →
     take (k + 1) (set out k (two64 ⊗ v ⊖ get_or x (end - 1 - k) nan)) ++ reflected v (reverse (take (length out₀ - (k + 1)) (drop (end - length out₀) x))) ≡ mirrored v (length out₀) end x
 reflect_turn x out out₀ v end k l g f t inv = fill_turn out _ _ _ k _ (omega arith) inv (reflect_step v x (length out₀) end k t g f)
-
-pub reflect_done : (x out out₀ : List Float) (v : Float) (end k : ℕ) → length out ≡ length out₀ → length out₀ ≤ k →
-    take k out ++ reflected v (reverse (take (length out₀ - k) (drop (end - length out₀) x))) ≡ mirrored v (length out₀) end x → out ≡ mirrored v (length out₀) end x
-reflect_done x out out₀ v end k l h inv =
-    fill_done out _ _ k (omega arith) (ap (λ (r : List Float). reflected v (reverse r)) (take_none (length out₀) k (drop (end - length out₀) x) h)) inv
 
 -- the p values before the last, from the end or from the front
 mirror_end {ℓ} : {A : Type ℓ} (x : List A) (p : ℕ) → p < length x → reverse (take p (drop (length x - 1 - p) x)) ≡ take p (drop 1 (reverse x))
@@ -162,14 +155,14 @@ pad_law x y b m a p h ly lb eb ec ea =
 
 -- ---- forward and backward
 
-pub both_law : (ss : List Biquad) (x out y1 y2 y3 y4 y5 out' : List Float) (p : ℕ) → length out ≡ length x → length y5 ≡ p + (length x + p) →
-    y1 ≡ padded p x → y2 ≡ through ss y1 → y3 ≡ reverse y2 → y4 ≡ through ss y3 → y5 ≡ reverse y4 → out' ≡ copied (mid_of p (p + length x - p) y5) out →
-    out' ≡ both_ways ss p x
-both_law ss x out y1 y2 y3 y4 y5 out' p lo l5 e1 e2 e3 e4 e5 e6 =
+pub both_law : (ss : List Biquad) (x y1 y2 y3 y4 y5 x' : List Float) (p : ℕ) → length y5 ≡ p + (length x + p) →
+    y1 ≡ padded p x → y2 ≡ through ss y1 → y3 ≡ reverse y2 → y4 ≡ through ss y3 → y5 ≡ reverse y4 → x' ≡ copied (mid_of p (p + length x - p) y5) x →
+    x' ≡ both_ways ss p x
+both_law ss x y1 y2 y3 y4 y5 x' p l5 e1 e2 e3 e4 e5 e6 =
     let n : ℕ = length x in
     let k : p + n - p ≡ n = omega arith in
-    let lm : length out ≡ length (mid_of p (p + n - p) y5) = simp (length-take, length-drop) (omega arith) in
-    e6 ∙ copied_all (mid_of p (p + n - p) y5) out lm ∙ ap (λ (j : ℕ). mid_of p j y5) k
+    let lm : length x ≡ length (mid_of p (p + n - p) y5) = simp (length-take, length-drop) (omega arith) in
+    e6 ∙ copied_all (mid_of p (p + n - p) y5) x lm ∙ ap (λ (j : ℕ). mid_of p j y5) k
     ∙ ap (λ (y : List Float). take n (drop p y))
     (e5 ∙ ap reverse (e4 ∙ ap (through ss) (e3 ∙ ap reverse (e2 ∙ ap (through ss) e1))))
 
@@ -179,94 +172,75 @@ pub pass_long : (ss : List Biquad) (x y : List Float) → 64 < length x → y �
 unfolding pass_by
 pass_long ss x y h e = simp (lt-ltb 64 (length x) h) e
 
-pub pass_short : (ss : List Biquad) (x y o : List Float) → length x ≤ 64 → length o ≡ length x → y ≡ cleared o → y ≡ pass_by ss x
+pub cleared_short : (ss : List Biquad) (x : List Float) → length x ≤ 64 → pass_by ss x ≡ cleared x
 unfolding pass_by
-pass_short ss x y o h l e = simp (le-ltb 64 (length x) h) (e ∙ ap (λ (n : ℕ). lib.ListN.replicate n zero64) l)
-
-pub cleared_short : (ss : List Biquad) (x o : List Float) → length x ≤ 64 → length o ≡ length x → pass_by ss x ≡ cleared o
-cleared_short ss x o h l = sym (pass_short ss x (cleared o) o h l refl)
-
--- ---- where a run ends
-
-first_grown : (ks : List ℕ) → get_or (grown false ks) 0 0 ≡ suc (get_or ks 0 0)
-first_grown [] = refl
-first_grown (k ∷ ks) = refl
-
--- the run goes on
-pub run_goes : (ts : List Float) (i : ℕ) → i + 1 < length ts → splits (get_or ts i nan) (get_or ts (i + 1) nan) ≡ false →
-    get_or (runs_of (drop i ts)) 0 0 ≡ suc (get_or (runs_of (drop (i + 1) ts)) 0 0)
-run_goes ts i h e =
-    let u : Float = get_or ts (i + 1) nan in
-    let us : List Float = drop (i + 1 + 1) ts in
-    let s : drop (i + 1) ts ≡ u ∷ us = head_at ts (i + 1) nan h in
-    rw (head_at ts i nan (omega arith), s, e) (first_grown (runs_of (u ∷ us)))
-
--- the run ends, at a split and at the end of the list
-pub run_ends : (ts : List Float) (i : ℕ) → i + 1 < length ts → splits (get_or ts i nan) (get_or ts (i + 1) nan) ≡ true →
-    get_or (runs_of (drop i ts)) 0 0 ≡ 1
-run_ends ts i h e = rw (head_at ts i nan (omega arith), head_at ts (i + 1) nan h, e)
-
-pub run_stops : (ts : List Float) (i : ℕ) → i < length ts → length ts - i ≤ 1 → get_or (runs_of (drop i ts)) 0 0 ≡ 1
-run_stops ts i h k = rw (head_at ts i nan h, drop_of_length-le ts {i = i + 1} (omega arith))
+cleared_short ss x h = simp (le-ltb 64 (length x) h)
 
 -- ---- run by run
 
--- the first run of a list that is not empty, and the runs of the rest
-runs_grown : (b : Bool) (t : Float) (us : List Float) → ((k : ℕ) × (runs_of us ≡ k ∷ runs_of (drop k us))) ⊎ (us ≡ []) →
-    grown b (runs_of us) ≡ get_or (grown b (runs_of us)) 0 0 ∷ runs_of (drop (get_or (grown b (runs_of us)) 0 0) (t ∷ us))
-runs_grown true t us w = refl
-runs_grown false t us (inl (k, e)) = rw e
-runs_grown false t us (inr e) = rw e
+-- t goes on to u in one run
+abbrev pub joins : Float → Float → Bool
+joins t u = not (splits t u)
 
-runs_of_law : (t : Float) (us : List Float) → runs_of (t ∷ us) ≡ get_or (runs_of (t ∷ us)) 0 0 ∷ runs_of (drop (get_or (runs_of (t ∷ us)) 0 0) (t ∷ us))
-runs_of_law t [] = refl
-runs_of_law t (u ∷ us) = runs_grown (splits t u) t (u ∷ us) (inl (get_or (runs_of (u ∷ us)) 0 0, runs_of_law u us))
+to_true : (b : Bool) → not b ≡ false → b ≡ true
+to_true true h = refl
+to_true false h = sym h
 
--- the runs from a place on: the first, and those from its end on
-pub runs_from : (ts : List Float) (start e : ℕ) → start < length ts → e ≡ start + get_or (runs_of (drop start ts)) 0 0 →
-    runs_of (drop start ts) ≡ get_or (runs_of (drop start ts)) 0 0 ∷ runs_of (drop e ts)
-runs_from ts start e h ee =
-    let k : ℕ = get_or (runs_of (drop start ts)) 0 0 in
-    let s : drop start ts ≡ get_or ts start nan ∷ drop (start + 1) ts = head_at ts start nan h in
-    let r : runs_of (drop start ts) ≡ k ∷ runs_of (drop k (drop start ts)) = rw s (runs_of_law (get_or ts start nan) (drop (start + 1) ts)) in
-    r ∙ ap (λ (l : List Float). k ∷ runs_of l) (drop-drop k start ts ∙ ap (λ (n : ℕ). drop n ts) (sym ee))
+to_false : (b : Bool) → not b ≡ true → b ≡ false
+to_false true h = sym h
+to_false false h = refl
 
--- a turn of the loop over the runs: ys, the run from start to e passed, goes behind what is done
-pub pass_turn : (pass : List Float → List Float) (ts x out out₀ goal ys : List Float) (start e : ℕ) → start < length x → length ts ≡ length x → length out ≡ length out₀ → length out₀ ≡ length x →
-    e ≡ start + get_or (runs_of (drop start ts)) 0 0 → e ≤ length ts → length ys ≡ length (mid_of start (e - start) out) → ys ≡ pass (mid_of start (e - start) x) →
-    take start out ++ passed pass (drop start ts) (drop start x) ≡ goal →
-    take e (put_mid start (e - start) out ys) ++ passed pass (drop e ts) (drop e x) ≡ goal
-pass_turn pass ts x out out₀ goal ys start e h l lo lo₀ ee he ly ey inv =
-    let k : ℕ = get_or (runs_of (drop start ts)) 0 0 in
+-- what `chunk_by` cuts off is the first run
+cut_run : (us vs : List Float) → 0 < length us → IsChunkByPrefix joins (us ++ vs) (length us) → runs_of (us ++ vs) ≡ length us ∷ runs_of vs
+cut_run [] vs h c = absurd (omega arith)
+cut_run (t ∷ []) [] h c = refl
+cut_run (t ∷ []) (v ∷ vs) h c = rw (to_true (splits t v) (c.1 (omega arith) t)) refl
+cut_run (t ∷ u ∷ us) vs h c =
+    let inner : (k : ℕ) (d : Float) → k + 1 < length (u ∷ us) → joins (get_or (u ∷ us ++ vs) k d) (get_or (u ∷ us ++ vs) (k + 1) d) ≡ true =
+    λ k d g. simp unary_clauses (simp unary_clauses at (c.0 (suc k) d (omega arith))) in
+    let last : length (u ∷ us) < length (u ∷ us ++ vs) → (d : Float) → joins (get_or (u ∷ us ++ vs) (length (u ∷ us) - 1) d) (get_or (u ∷ us ++ vs) (length (u ∷ us)) d) ≡ false =
+    λ g d. simp unary_clauses (simp unary_clauses at (c.1 (omega arith) d)) in
+    rw (to_false (splits t u) (c.0 0 t (omega arith)), cut_run (u ∷ us) vs (omega arith) (inner, last)) refl
+
+cut_runs : (ts us vs : List Float) → ts ≡ us ++ vs → 0 < length us → IsChunkByPrefix joins ts (length us) → runs_of ts ≡ length us ∷ runs_of vs
+cut_runs ts us vs e h c = ap runs_of e ∙ cut_run us vs h (subst (λ (l : List Float). IsChunkByPrefix joins l (length us)) e c)
+
+-- a turn of the loop over the runs: the run us, whose samples stand from start to e, is passed, and ys takes their place
+pub pass_turn : (pass : List Float → List Float) (ts us vs x goal ys : List Float) (start e : ℕ) → ts ≡ us ++ vs → 0 < length us →
+    IsChunkByPrefix joins ts (length us) → start + length ts ≡ length x → e ≡ start + length us →
+    length ys ≡ length (mid_of start (e - start) x) → ys ≡ pass (mid_of start (e - start) x) →
+    take start x ++ passed pass ts (drop start x) ≡ goal →
+    take e (put_mid start (e - start) x ys) ++ passed pass vs (drop e (put_mid start (e - start) x ys)) ≡ goal
+pass_turn pass ts us vs x goal ys start e cut some runs l ee ly ey inv =
+    let k : ℕ = length us in
+    let lt : length ts ≡ k + length vs = ap length cut ∙ length-append us vs in
     let ke : e - start ≡ k = omega arith in
-    let r : runs_of (drop start ts) ≡ k ∷ runs_of (drop e ts) = runs_from ts start e (omega arith) ee in
-    let dx : drop k (drop start x) ≡ drop e x = drop-drop k start x ∙ ap (λ (n : ℕ). drop n x) (sym ee) in
+    let r : runs_of ts ≡ k ∷ runs_of vs = cut_runs ts us vs cut some runs in
+    let post : List Float = drop (e - start) (drop start x) in
+    let x' : List Float = put_mid start (e - start) x ys in
+    let ls : length (take start x ++ ys) ≡ e = simp (length-append, length-take) (rw ly (simp (length-take, length-drop) (omega arith))) in
+    let parts : x' ≡ (take start x ++ ys) ++ post = sym (append_assoc (take start x) ys post) in
+    let done : take e x' ≡ take start x ++ ys = ap (take e) parts ∙ take_at (take start x ++ ys) post e ls in
+    let left : drop k (drop start x) ≡ drop e x' = ap (λ (n : ℕ). drop n (drop start x)) (sym ke) ∙ sym (ap (drop e) parts ∙ drop_at (take start x ++ ys) post e ls) in
     let ys_is : ys ≡ pass (take k (drop start x)) = ey ∙ ap (λ (n : ℕ). pass (take n (drop start x))) ke in
-    let ls : length (take start out ++ ys) ≡ e = simp (length-append, length-take) (rw ly (simp (length-take, length-drop) (omega arith))) in
-    let post : List Float = drop (e - start) (drop start out) in
-    let tk : take e (put_mid start (e - start) out ys) ≡ take start out ++ ys = ap (take e) (sym (append_assoc (take start out) ys post)) ∙ take_at (take start out ++ ys) post e ls in
-    let b : passed pass (drop start ts) (drop start x) ≡ ys ++ passed pass (drop e ts) (drop e x) =
+    let b : passed pass ts (drop start x) ≡ ys ++ passed pass vs (drop e x') =
     ap (λ (ks : List ℕ). pass_runs pass ks (drop start x)) r
-    ∙ (λ i. sym ys_is i ++ pass_runs pass (runs_of (drop e ts)) (dx i)) in
-    ap (λ (f : List Float). f ++ passed pass (drop e ts) (drop e x)) tk
-    ∙ append_assoc (take start out) ys (passed pass (drop e ts) (drop e x))
-    ∙ ap (λ (f : List Float). take start out ++ f) (sym b)
+    ∙ (λ i. sym ys_is i ++ pass_runs pass (runs_of vs) (left i)) in
+    ap (λ (f : List Float). f ++ passed pass vs (drop e x')) done
+    ∙ append_assoc (take start x) ys (passed pass vs (drop e x'))
+    ∙ ap (λ (f : List Float). take start x ++ f) (sym b)
     ∙ inv
 
 -- ---- counting runs
-
-pub runs_turn : (ts : List Float) (start e runs goal : ℕ) → start < length ts → e ≡ start + get_or (runs_of (drop start ts)) 0 0 →
-    runs + length (runs_of (drop start ts)) ≡ goal → runs + 1 + length (runs_of (drop e ts)) ≡ goal
-runs_turn ts start e runs goal h ee inv = omega (arith, ap length (runs_from ts start e h ee), inv)
 
 pub byte_is : (b : Bool) → bool_byte b ≡ cond b 1 0
 byte_is true = refl
 byte_is false = refl
 
-pub long_turn : (ts : List Float) (start e long one goal : ℕ) → start < length ts → e ≡ start + get_or (runs_of (drop start ts)) 0 0 → one ≡ cond (ltb 64 (e - start)) 1 0 →
-    long + long_runs (runs_of (drop start ts)) ≡ goal → long + one + long_runs (runs_of (drop e ts)) ≡ goal
-long_turn ts start e long one goal h ee eo inv =
-    let k : ℕ = get_or (runs_of (drop start ts)) 0 0 in
-    let ke : e - start ≡ k = omega arith in
-    let o : one ≡ cond (ltb 64 k) 1 0 = eo ∙ ap (λ (n : ℕ). cond (ltb 64 n) 1 0) ke in
-    omega (arith, ap long_runs (runs_from ts start e h ee), o, inv)
+-- one turn more: the runs and the long ones of what is left
+pub runs_turn : (ts us vs : List Float) (runs long goal all : ℕ) → ts ≡ us ++ vs → 0 < length us → IsChunkByPrefix joins ts (length us) →
+    runs + length (runs_of ts) ≡ goal → long + long_runs (runs_of ts) ≡ all →
+    (runs + 1 + length (runs_of vs) ≡ goal) × (long + bool_byte (ltb 64 (length us)) + long_runs (runs_of vs) ≡ all)
+runs_turn ts us vs runs long goal all e h c i j =
+    let r : runs_of ts ≡ length us ∷ runs_of vs = cut_runs ts us vs e h c in
+    (omega (arith, ap length r, i), omega (arith, ap long_runs r, byte_is (ltb 64 (length us)), j))

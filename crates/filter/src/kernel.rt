@@ -11,12 +11,13 @@ fn fits(times: usize, values: usize, places: usize, room: usize) -> bool
 }
 
 // Each run of x, passed into out; nothing where a length does not fit.
-#[tactic(auto, unfolding(crate::specs::Calls::band_fits, crate::specs::Calls::band_passed))]
+#[tactic(auto, using(slices::proofs::SliceLoops::copied_all), unfolding(crate::specs::Calls::band_fits, crate::specs::Calls::band_passed))]
 pub fn band_pass(times: &[f64], x: &[f64], out: &mut [f64], scratch: &mut [f64])
     ensures { out.new ≡ band_passed times.now x.now out.old (length scratch.old) }
 {
     if fits(times.len(), x.len(), out.len(), scratch.len()) {
-        crate::work::band_pass(times, x, out, scratch);
+        slices::copy(x, out);
+        crate::work::band_pass(times, out, scratch);
     }
 }
 
@@ -32,13 +33,9 @@ pub fn count_runs(times: &[f64]) -> RunCounts
 {
     let mut runs = 0;
     let mut long = 0;
-    let mut start = 0;
-    // kept: a turn takes a whole run; no law ties what `chunk_by` gives to `runs_of`
-    while start < times.len() {
-        let end = crate::work::run_end(times, start);
+    for run in times.chunk_by(crate::work::goes_on) {
         runs += 1;
-        long += usize::from(64 < end - start);
-        start = end;
+        long += usize::from(64 < run.len());
     }
     RunCounts { runs, long }
 }

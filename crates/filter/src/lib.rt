@@ -142,7 +142,8 @@ pub fn filtfilt(
         scratch.old }
 {
     filter_refusal(sections, x, out.len(), scratch.len())?;
-    work::filtfilt(sections, x, pad, out, scratch);
+    slices::copy(x, out);
+    work::filtfilt(sections, out, pad, scratch);
     hand_out(out, scratch)
 }
 
@@ -172,6 +173,7 @@ pub fn band_pass(
         scratch.old }
 {
     band_refusal(times, x, out.len(), scratch.len())?;
-    work::band_pass(times, x, out, scratch);
+    slices::copy(x, out);
+    work::band_pass(times, out, scratch);
     hand_out(out, scratch)
 }

@@ -1,7 +1,7 @@
 // The filter's work on lent slices whose lengths fit.
-ghost use Rattle.std.specs.Prelude.{◌≡◌, [], ◌∷◌, reverse, ℕ, ◌+◌, ◌-◌, ◌≤◌, ◌<◌, min, length, take, drop, get_or};
+ghost use Rattle.std.specs.Prelude.{◌≡◌, not, [], ◌∷◌, reverse, ℕ, ◌+◌, ◌-◌, ◌≤◌, ◌<◌, min, length, take, drop, get_or};
 ghost use Rattle.std.specs.Float.{nan};
-ghost use Rattle.laws.specs.Runs.{runs_of, passed};
+ghost use Rattle.laws.specs.Runs.{splits, passed};
 ghost use Rattle.filter.specs.Sections.{quality as quality_of, section as section_of, high_pass, low_pass, butterworth};
 ghost use Rattle.filter.specs.Sections.{coefficients as coefficients_of, sections_of};
 ghost use Rattle.filter.specs.Filter.{rest, through_one, through, reflected, padded, both_ways, filtfilt as filtfilt_of, pass_by, band_pass};
@@ -77,10 +77,10 @@ fn run_section(section: Biquad, x: &mut [f64])
     ensures { x.new ≡ through_one section rest x.old }
 {
     let mut m = BiquadMemory::new();
-    for i in 0..x.len() {
-        let s = m.step(section, x[i]);
+    for v in x.iter_mut() {
+        let s = m.step(section, *v);
         m = s.memory;
-        x[i] = s.sample;
+        *v = s.sample;
     }
 }
 
@@ -92,8 +92,8 @@ fn run_four(a: Biquad, b: Biquad, c: Biquad, d: Biquad, x: &mut [f64])
     let mut l = k;
     let mut m = k;
     let mut n = k;
-    for i in 0..x.len() {
-        let first = k.step(a, x[i]);
+    for v in x.iter_mut() {
+        let first = k.step(a, *v);
         let second = l.step(b, first.sample);
         let third = m.step(c, second.sample);
         let fourth = n.step(d, third.sample);
@@ -101,7 +101,7 @@ fn run_four(a: Biquad, b: Biquad, c: Biquad, d: Biquad, x: &mut [f64])
         l = second.memory;
         m = third.memory;
         n = fourth.memory;
-        x[i] = fourth.sample;
+        *v = fourth.sample;
     }
 }
 
@@ -161,9 +161,10 @@ fn pad_oddly(x: &[f64], p: usize, y: &mut [f64])
     reflect(x, n - 1, n - 1, &mut y[m..]);
 }
 
-fn both_ways(sections: &[f64], x: &[f64], p: usize, out: &mut [f64], y: &mut [f64])
-    requires { (p < length x.now) × (length y.old ≡ p + (length x.now + p)) × (length out.old ≡ length x.now) }
-    ensures { out.new ≡ both_ways (sections_of sections.now) p x.now }
+// x forward and backward, in its place; y holds it padded by p.
+fn both_ways(sections: &[f64], x: &mut [f64], p: usize, y: &mut [f64])
+    requires { (p < length x.old) × (length y.old ≡ p + (length x.old + p)) }
+    ensures { x.new ≡ both_ways (sections_of sections.now) p x.old }
 {
     let m = p + x.len();
     pad_oddly(x, p, y);
@@ -171,7 +172,7 @@ fn both_ways(sections: &[f64], x: &[f64], p: usize, out: &mut [f64], y: &mut [f6
     slices::reverse(y);
     run_sections(sections, y);
     slices::reverse(y);
-    slices::copy(&y[p..m], out);
+    slices::copy(&y[p..m], x);
 }
 
 // By how much a list of n samples is padded.
@@ -182,63 +183,57 @@ fn padding(n: usize, pad: usize) -> usize
     if n - 1 < pad { n - 1 } else { pad }
 }
 
-pub fn filtfilt(sections: &[f64], x: &[f64], pad: usize, out: &mut [f64], scratch: &mut [f64])
-    requires { (0 < length x.now) × (length x.now + length x.now + length x.now ≤ length scratch.old) × (length out.old ≡ length x.now) }
-    ensures { out.new ≡ filtfilt_of (sections_of sections.now) pad x.now }
+// x forward and backward, in its place, padded by `pad` or by all its values but one.
+// kept: `length x.old + length x.old + length x.old ≤ length scratch.old` here and below: a struct of both would be made anew for each run, with the same line.
+pub fn filtfilt(sections: &[f64], x: &mut [f64], pad: usize, scratch: &mut [f64])
+    requires { (0 < length x.old) × (length x.old + length x.old + length x.old ≤ length scratch.old) }
+    ensures { x.new ≡ filtfilt_of (sections_of sections.now) pad x.old }
 {
     let n = x.len();
     let p = padding(n, pad);
     let e = p + (n + p);
-    both_ways(sections, x, p, out, &mut scratch[0..e]);
+    both_ways(sections, x, p, &mut scratch[0..e]);
 }
 
 // One run: 64 samples or fewer give +0.0.
 #[tactic(auto, using(crate::proofs::Turns::pass_long, crate::proofs::Turns::cleared_short))]
-fn pass_run(sections: &[f64], x: &[f64], out: &mut [f64], scratch: &mut [f64])
-    requires { (length x.now + length x.now + length x.now ≤ length scratch.old) × (length out.old ≡ length x.now) }
-    ensures { out.new ≡ pass_by (sections_of sections.now) x.now }
+fn pass_run(sections: &[f64], x: &mut [f64], scratch: &mut [f64])
+    requires { length x.old + length x.old + length x.old ≤ length scratch.old }
+    ensures { x.new ≡ pass_by (sections_of sections.now) x.old }
 {
     if 64 < x.len() {
-        filtfilt(sections, x, 1500, out, scratch);
+        filtfilt(sections, x, 1500, scratch);
     } else {
-        slices::clear(out);
+        slices::clear(x);
     }
 }
 
-// Where the run that starts at `start` ends.
-pub fn run_end(times: &[f64], start: usize) -> usize
-    requires { start < length times.now }
-    ensures { (result ≡ start + get_or (runs_of (drop start times.now)) 0 0) × (start < result) × (result ≤ length times.now) }
+// Whether the run of t goes on to u, the time after it.
+#[tactic(auto, unfolding(laws::specs::Runs::splits))]
+pub fn goes_on(t: &f64, u: &f64) -> bool
+    ensures { result ≡ not (splits t.now u.now) }
 {
-    for last in start..times.len() - 1 {
-        if times[last + 1] - times[last] > 3.0 {
-            return last + 1;
-        }
-    }
-    times.len()
+    !(*u - *t > 3.0)
 }
 
-fn pass_runs(sections: &[f64], times: &[f64], x: &[f64], out: &mut [f64], scratch: &mut [f64])
-    requires { (length times.now ≡ length x.now) × (length out.old ≡ length x.now)
-        × (length x.now + length x.now + length x.now ≤ length scratch.old) }
-    ensures { out.new ≡ passed (pass_by (sections_of sections.now)) times.now x.now }
+fn pass_runs(sections: &[f64], times: &[f64], x: &mut [f64], scratch: &mut [f64])
+    requires { (length times.now ≡ length x.old) × (length x.old + length x.old + length x.old ≤ length scratch.old) }
+    ensures { x.new ≡ passed (pass_by (sections_of sections.now)) times.now x.old }
 {
-    let n = x.len();
+    // kept: the start is counted, since the samples of a run lie in another list than its times
     let mut start = 0;
-    // kept: as in `kernel::count_runs`; and parts of `out` are cut in step
-    while start < n {
-        let end = run_end(times, start);
-        pass_run(sections, &x[start..end], &mut out[start..end], scratch);
+    for run in times.chunk_by(goes_on) {
+        let end = start + run.len();
+        pass_run(sections, &mut x[start..end], scratch);
         start = end;
     }
 }
 
-// The band from 1 to 10 mHz of samples 2 s apart.
-pub fn band_pass(times: &[f64], x: &[f64], out: &mut [f64], scratch: &mut [f64])
-    requires { (length times.now ≡ length x.now) × (length out.old ≡ length x.now)
-        × (length x.now + length x.now + length x.now ≤ length scratch.old) }
-    ensures { out.new ≡ band_pass times.now x.now }
+// The band from 1 to 10 mHz of samples 2 s apart, in their place.
+pub fn band_pass(times: &[f64], x: &mut [f64], scratch: &mut [f64])
+    requires { (length times.now ≡ length x.old) × (length x.old + length x.old + length x.old ≤ length scratch.old) }
+    ensures { x.new ≡ band_pass times.now x.old }
 {
     let sections = coefficients(1e-3, 10e-3, 2.0);
-    pass_runs(&sections, times, x, out, scratch);
+    pass_runs(&sections, times, x, scratch);
 }

@@ -1,11 +1,11 @@
 -- Laws of the design: what a row reads of a run, one column, the columns so far, and misfits beside them.
-use Rattle.std.proofs.Common.{◌≡◌, ℕ, zero, suc, ◌+◌, ◌*◌, ◌/◌, ◌%◌, ◌<◌, ◌≤◌, eqb, List, get_or, sym, refl, ap, ◌∙◌, arith, eqb-true}
+use Rattle.std.proofs.Common.{◌≡◌, ◌≢◌, ℕ, zero, suc, ◌+◌, ◌*◌, ◌/◌, ◌%◌, ◌<◌, ◌≤◌, eqb, List, get_or, sym, refl, ap, ◌∙◌, arith, eqb-true}
 use lib.Ieee.{Float, nan}
 use borrow.Author.Tests.{eqb-false}
 use Rattle.vectors.specs.declared.Vector.{Vector}
 use Rattle.fit.specs.Fit.{axis}
 use Rattle.fit.specs.Room.{observed_part, base_part, misfit_part, design_part, step_number, step_at, place_at, run_at}
-use Rattle.fit.specs.WorkLeaves.{Measured, Based, Columned, Apart, Differentiated, Designed, Linearised}
+use Rattle.fit.specs.WorkLeaves.{Measured, Based, Columned, Apart, Designed, Linearised}
 use Rattle.fit.proofs.Rows.{step_kept}
 use Rattle.integrate.specs.Room.{Holds3, Only, Orbit, Run}
 use Rattle.laws.specs.Floats.{◌⊖◌}
@@ -36,6 +36,13 @@ module _ (b : ℕ) (s s' : List Float) (o : Only 0 (b + observed_part) s s') (r 
 pub step_apart : (b from : ℕ) (s s' : List Float) → 4244 ≤ from → from ≤ design_part → base_part ≤ from → Apart s s' b from → (r : ℕ) → r < 3183 → step_at s' b r ≡ step_at s b r
 unfolding step_at
 step_apart b from s s' _ _ g o r l = ap step_number (o.same (b + observed_part + 4 * (r / 3)) (omega arith) (λ p q. omega arith))
+
+-- one column of the design, by a run with its parameter moved
+pub record Differentiated (moved : Run) (steps : ℕ) (s s' : List Float) (b m i : ℕ) : Type 0 where
+  pub rows : (r : ℕ) → r < m → step_at s b r ≤ steps → get_or s' (b + design_part + (15 * r + i)) nan ≡ axis (r % 3) (moved (step_at s b r)).position ⊖ get_or s
+      (b + base_part + r) nan
+  pub others : (r j : ℕ) → j < 15 → (j ≢ i) → get_or s' (b + design_part + (15 * r + j)) nan ≡ get_or s (b + design_part + (15 * r + j)) nan
+  pub apart : Apart s s' b design_part
 
 pub differentiated : (run : Run) (steps : ℕ) (s s₁ s₂ : List Float) (b m i : ℕ) → m ≤ 3183 → Orbit s₁ b run (steps + 1) → Only 0 (b + observed_part) s s₁ → Columned s₁ s₂ b m i
     → Differentiated run steps s s₂ b m i

@@ -107,7 +107,6 @@ pub observing : (look : Float → Option State) (arc : Arc) (s s' : List Float) 
     → Observing s s' b (observed look arc) n
 unfolding observed
 observing look arc s s' b c n l e f = record {
-  few = omega (arith, f.few);
   all = subst (λ (m : ℕ). Observes s' (b + observed_part) (observed_to look arc.t0 m)) e f.all;
   counted = f.counted ∙ ap (λ (m : ℕ). length (observed_to look arc.t0 m)) e;
   only = f.only;

@@ -1,6 +1,6 @@
 -- Laws of the rows: what a row reads stays while its result is stored, and one row more.
-use Rattle.std.proofs.Common.{◌≡◌, ℕ, ◌+◌, ◌*◌, ◌/◌, ◌%◌, ◌<◌, ◌≤◌, Bool, true, false, cond, eqb, leb, List, length, get_or, set, pos, sym, refl, ap, ◌∙◌, arith, length-set, get_or-set_other, get_or-set_same, eqb-true, leb-true}
-use lib.Ieee.{Float, nan, fin, lt, to_unsigned}
+use Rattle.std.proofs.Common.{◌≡◌, ℕ, ◌+◌, ◌*◌, ◌/◌, ◌%◌, ◌<◌, ◌≤◌, eqb, List, length, get_or, set, sym, refl, ap, ◌∙◌, arith, length-set, get_or-set_other, get_or-set_same, eqb-true}
+use lib.Ieee.{Float, nan}
 use borrow.Author.Tests.{eqb-false}
 use Rattle.fit.specs.Room.{observed_part, base_part, misfit_part, design_part, work_size, step_number, step_at, place_at, run_at}
 use Rattle.fit.specs.WorkLeaves.{Measured, Based, Columned}
@@ -8,19 +8,10 @@ use Rattle.integrate.proofs.Places.{only_same, only_then}
 use Rattle.integrate.specs.Room.{Only}
 use Rattle.laws.specs.Floats.{◌⊖◌}
 use Rattle.laws.specs.Bools.{by}
-
-cond_le : (t : Bool) (x y m : ℕ) → (t ≡ true → x ≤ m) → y ≤ m → cond t x y ≤ m
-cond_le true x y m a b = a refl
-cond_le false x y m a b = b
+use Rattle.numbers.proofs.Counts.{count_bound}
 
 pub step_bound : (x : Float) → step_number x ≤ 5302
-unfolding step_number
-step_bound x =
-    cond_le (lt (fin true 1 (pos 0)) x) _ 0 5302
-    (λ _. cond_le (lt x (fin false 1 (pos 64))) _ 0 5302
-    (λ _. cond_le (leb (to_unsigned 64 x) 5302) (to_unsigned 64 x) 0 5302 (λ e. leb-true (to_unsigned 64 x) 5302 e) (omega arith))
-    (omega arith))
-    (omega arith)
+step_bound x = count_bound x 5302
 
 module _ (a e b : ℕ) (s s' : List Float) (o : Only a e s s') (after : b + base_part ≤ a) (r : ℕ) (low : r < 3183) where
   pub step_kept : step_at s' b r ≡ step_at s b r

@@ -1,8 +1,8 @@
 -- The steps of the observations: every fifth, within the arc, and known again from their floats.
 use Rattle.std.specs.Prelude.{None, Option, Some}
 use Rattle.integrate.specs.declared.kernel.State.{State}
-use Rattle.std.proofs.Common.{◌≡◌, ℕ, zero, suc, ◌+◌, ◌*◌, ◌/◌, ◌<◌, ◌≤◌, Bool, true, ◌&&◌, eqb, List, [], ◌∷◌, ◌++◌, length, sym, refl, ap, ◌∙◌, subst, append-nil, arith, length-append, eqb-true}
-use lib.Ieee.{Float, of_int, lt, to_unsigned, odd, units, round, span, climb, size}
+use Rattle.std.proofs.Common.{◌≡◌, ℕ, zero, suc, ◌+◌, ◌*◌, ◌/◌, ◌<◌, ◌≤◌, eqb, List, [], ◌∷◌, ◌++◌, length, sym, ap, ◌∙◌, subst, append-nil, arith, length-append, eqb-true}
+use lib.Ieee.{Float}
 use lib.ListN.{get_or-append}
 use lib.Seq.{get_or_at}
 use borrow.Author.Tests.{eqb-false}
@@ -11,8 +11,9 @@ use Rattle.fit.specs.Fit.{Observed, nth, seen, observed_to, observed}
 use Rattle.fit.specs.Room.{step_number}
 use Rattle.fit.specs.WorkLeaves.{Within}
 use Rattle.laws.specs.WholeNumbers.{number}
-use Rattle.laws.specs.Bools.{by, left_true, right_true}
+use Rattle.laws.specs.Bools.{by}
 use Rattle.laws.specs.Times.{step_time}
+use Rattle.numbers.proofs.Counts.{counted}
 
 pub record Fifth (k c : ℕ) : Type 0 where
   pub n : ℕ
@@ -40,30 +41,9 @@ unfolding observed_to
 fifths look t0 zero j h = absurd (omega arith)
 fifths look t0 (suc c) j h = more c (observed_to look t0 c) (look (step_time t0 (5 * c))) (fifths look t0 c) j h
 
--- whether f holds at each number below n
-unfoldable all_to : (ℕ → Bool) → ℕ → Bool
-all_to f zero = true
-all_to f (suc n) = all_to f n && f n
-
--- each of the 1,061 step numbers, by computation
-known : all_to (λ (c : ℕ). eqb (step_number (number (5 * c))) (5 * c)) 1061 ≡ true
-unfolding all_to step_number number of_int lt to_unsigned odd units round span climb size
-known = refl
-
-all_at : (f : ℕ → Bool) (n c : ℕ) → all_to f n ≡ true → c < n → f c ≡ true
-unfolding all_to
-all_at f zero c e h = absurd (omega arith)
-all_at f (suc n) c e h =
-    by (eqb c n)
-    (λ t. ap f (eqb-true c n t) ∙ right_true (all_to f n) (f n) e)
-    (λ t. all_at f n c (left_true (all_to f n) (f n) e) (omega (arith, eqb-false c n t)))
-
-pub step_known : (c : ℕ) → c < 1061 → step_number (number (5 * c)) ≡ 5 * c
-step_known c h = eqb-true _ _ (all_at (λ (d : ℕ). eqb (step_number (number (5 * d))) (5 * d)) 1061 c known h)
-
 pub within : (look : Float → Option State) (arc : Arc) → arc.steps ≤ 5302 → Within (observed look arc) arc.steps
 unfolding observed
 within look arc l = λ j h.
     let f = fifths look arc.t0 (arc.steps / 5 + 1) j h in
     let e = f.is in
-    (omega (arith, f.less, f.is), ap (λ (k : ℕ). step_number (number k)) e ∙ step_known f.n (omega (arith, f.less)) ∙ sym e)
+    (omega (arith, f.less, f.is), ap (λ (k : ℕ). step_number (number k)) e ∙ counted (5 * f.n) 5302 (omega (arith, f.less, l)) (omega (arith, f.less, l)) ∙ sym e)

@@ -1,10 +1,10 @@
 -- Where the observations of a fit stand in the lent numbers. Assumes nothing.
-use Rattle.std.specs.Prelude.{◌≡◌, ℕ, ◌+◌, ◌*◌, ◌/◌, ◌%◌, ◌<◌, true, false, cond, List, length, pos, nat_le, slice_index_or, Float}
-use Rattle.std.specs.Float.{nan, fin}
-use Rattle.std.specs.Float.Ieee.{lt, to_unsigned}
+use Rattle.std.specs.Prelude.{◌≡◌, ℕ, ◌+◌, ◌*◌, ◌/◌, ◌%◌, ◌<◌, List, length, slice_index_or, Float}
+use Rattle.std.specs.Float.{nan}
 use Rattle.fit.specs.Fit.{Observed, nth}
 use Rattle.integrate.specs.Room.{run_size, Holds3}
 use Rattle.laws.specs.WholeNumbers.{number}
+use Rattle.numbers.specs.Numbers.{count_of}
 
 -- where the parts of a fit's work begin, counted from the states of a run on, which come first: at most 1,061 observed steps, four numbers each; the base
 -- positions at them and the misfits, three each; the rows of the design, one for each misfit
@@ -30,8 +30,8 @@ pub record Observes (s : List Float) (at : ℕ) (obs : List Observed) : Type 0 w
   pub place : (j : ℕ) → j < length obs → Holds3 s (at + 4 * j + 1) (nth obs j).place
 
 -- a step number that was stored as a float, at most 5302
-unfoldable pub step_number : Float → ℕ
-step_number x = cond (lt (fin true 1 (pos 0)) x) (cond (lt x (fin false 1 (pos 64))) (cond (nat_le (to_unsigned 64 x) 5302) (to_unsigned 64 x) 0) 0) 0
+abbrev pub step_number : Float → ℕ
+step_number x = count_of x 5302
 
 -- where row r finds its observed coordinate and its run's, in scratch from b on
 unfoldable pub step_at : List Float → ℕ → ℕ → ℕ

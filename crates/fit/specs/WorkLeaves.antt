@@ -46,7 +46,6 @@ pub record Noted (s s' : List Float) (b n : ℕ) (more : List Observed) (r : ℕ
 pub record Observing (s s' : List Float) (b : ℕ) (obs : List Observed) (r : ℕ) : Type 0 where
   pub all : Observes s' (b + observed_part) obs
   pub counted : r ≡ length obs
-  pub few : r ≤ 1061
   pub only : Only (b + observed_part) (b + base_part) s s'
 
 -- what stands from the observations on stays, but for the design
@@ -58,13 +57,6 @@ pub record Apart (s s' : List Float) (b from : ℕ) : Type 0 where
 pub record Designed (moved : ℕ → Run) (steps : ℕ) (s s' : List Float) (b m k : ℕ) : Type 0 where
   pub rows : (r i : ℕ) → r < m → i < k → step_at s b r ≤ steps
       → slice_index_or s' (b + design_part + (15 * r + i)) nan ≡ axis (r % 3) (moved i (step_at s b r)).position ⊖ get_or s (b + base_part + r) nan
-  pub apart : Apart s s' b design_part
-
--- one column of it
-pub record Differentiated (moved : Run) (steps : ℕ) (s s' : List Float) (b m i : ℕ) : Type 0 where
-  pub rows : (r : ℕ) → r < m → step_at s b r ≤ steps → slice_index_or s' (b + design_part + (15 * r + i)) nan ≡ axis (r % 3) (moved (step_at s b r)).position ⊖ get_or s
-      (b + base_part + r) nan
-  pub others : (r j : ℕ) → j < 15 → (j ≢ i) → slice_index_or s' (b + design_part + (15 * r + j)) nan ≡ slice_index_or s (b + design_part + (15 * r + j)) nan
   pub apart : Apart s s' b design_part
 
 -- misfits and design

@@ -1,5 +1,5 @@
 -- What `fitted_orbits` answers and leaves, in the cases of its code. Assumes nothing.
-use mathlib.Core.Path.{◌≡◌, refl, sym, ap, ◌∙◌, subst}
+use mathlib.Core.Path.{◌≡◌, sym, ap, ◌∙◌, subst}
 use mathlib.Core.Bool.{Bool, true, false, ◌&&◌}
 use mathlib.Core.List.{List, []}
 use Prim.Native.Nat.{ℕ, ◌+◌, ◌-◌, ◌*◌, ◌≤◌, ◌<◌}
@@ -16,10 +16,9 @@ use Rattle.inputs.specs.Inputs.{window_room, fields_fine, few, model_sized, leas
 use Rattle.inputs.proofs.Passed.{all_pass, degree_passes}
 use Rattle.windows.specs.Windows.{Ends}
 use Rattle.windows.proofs.Filling.{ends_at}
-use Rattle.std.specs.Prelude.{Ok, Err}
+use Rattle.std.specs.Prelude.{Err}
 use Rattle.laws.specs.Loops.{cleared, same_cleared}
 use Rattle.slices.specs.Calls.{Verdict, accepted}
-use Rattle.slices.specs.declared.refusal.Refusal.{Refusal}
 use Rattle.slices.specs.declared.refusal.Refusal.TheVariants.{NotFinite}
 use Rattle.fitted_orbits.specs.declared.work.Done.{Done}
 use Rattle.fitted_orbits.specs.Orbits.{Window}
@@ -129,9 +128,6 @@ module _ (g : Given) (o : Outputs) (s : List Float) (fit : Bool) (ef : fit ≡ l
   settles : (v : Verdict) → refusal g fit ≡ v → settled v k ws o s ≡ orbits_call g o s
   settles v e = ap (λ (v : Verdict). settled v k ws o s) (sym e ∙ ap (refusal g) ef)
 
-  pub orbits_refused : (e : Refusal) → refusal g fit ≡ Err e → left (Err e) o s ≡ orbits_call g o s
-  orbits_refused e h = settles (Err e) h
-
   module _ (z : refusal g fit ≡ accepted) (r : Done) (o' : Outputs) (f : SoFar (length g.nodes - 1) (fitted_windows g) r o') (s' w : List Float)
       (es : s' ≡ cleared w) (l : length w ≡ length s) where
     clear : s' ≡ cleared s
@@ -140,9 +136,6 @@ module _ (g : Given) (o : Outputs) (s : List Float) (fit : Bool) (ef : fit ≡ l
     judged : (b : Bool) → b ≡ (list_all finite o'.states && list_all finite o'.rms) → handed b k ws s ≡ orbits_call g o s
     judged b e =
         ap (λ (y : Bool). handed y k ws s) (e ∙ ap (λ (q : Outputs). list_all finite q.states && list_all finite q.rms) f.outputs) ∙ settles accepted z
-
-    pub orbits_handed : list_all finite o'.states ≡ true → list_all finite o'.rms ≡ true → left (Ok r) o' s' ≡ orbits_call g o s
-    orbits_handed x y = (λ i. left (Ok (record { states = f.states i; windows = f.windows i })) (f.outputs i) (clear i)) ∙ judged true (rw (x, y) refl)
 
     pub orbits_unfit : (o'' : Outputs) → o'' ≡ listed k [] → (list_all finite o'.states && list_all finite o'.rms) ≡ false → left (Err NotFinite) o'' s' ≡ orbits_call g o s
     orbits_unfit o'' eo t = (λ i. left (Err NotFinite) (eo i) (clear i)) ∙ judged false (sym t)

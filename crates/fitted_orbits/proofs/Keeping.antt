@@ -19,10 +19,10 @@ use Rattle.finality.specs.Tables.{Table, key_of}
 use Rattle.finality.specs.Arcs.{inside}
 use Rattle.integrate.specs.Room.{Run, Orbit, six, state_in}
 use Rattle.integrate.specs.declared.kernel.State.{State}
-use Rattle.windows.specs.Slots.{within, kept_if}
-use Rattle.windows.proofs.SlotStates.{kept_to, kept_count, kept_inside, state_read, few}
+use Rattle.windows.specs.Slots.{within}
+use Rattle.windows.proofs.SlotStates.{kept_if, kept_to, kept_count, kept_inside, state_read, few}
 use Rattle.fitted_orbits.specs.Orbits.{numbers_of}
-use Rattle.fitted_orbits.specs.Work.{put_six, read_run, Kept, Tabled, Joins}
+use Rattle.fitted_orbits.specs.Work.{put_six, read_run, Tabled, Joins}
 
 -- ---- lists filled up
 
@@ -83,6 +83,12 @@ tabled_one m table n keys states second state h t =
           ∙ six_set (6 * m) (numbers_of table) (6 * n) state (omega (arith, en, numbers_length table)) (omega arith)
           ∙ ap (filled_up zero64 (6 * m)) (sym (numbers_append table ((second, state) ∷ [])));
     }
+
+-- one state, after n others, where its time lies inside
+pub record Kept (is_inside : Bool) (second : ℤ) (state : State) (n r : ℕ) (keys keys' : List ℤ) (states states' : List Float) : Type 0 where
+  pub counted : r ≡ n + cond is_inside 1 0
+  pub seconds : keys' ≡ cond is_inside (set keys n second) keys
+  pub numbers : states' ≡ cond is_inside (put_six states (6 * n) state) states
 
 module _ (b : Bool) (second : ℤ) (state : State) (n r : ℕ) (keys keys' : List ℤ) (states states' : List Float) (k : Kept b second state n r keys keys' states states') where
   tabled_more : (m : ℕ) (table : Table State) → (b ≡ true → n < m) → Tabled m table n keys states → Tabled m (table ++ kept_if b second state) r keys' states'

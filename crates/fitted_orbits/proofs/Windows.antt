@@ -3,14 +3,13 @@ use Rattle.std.specs.Prelude.{Err, Ok, Option}
 use mathlib.Core.Path.{◌≡◌, refl, sym, ap, ◌∙◌, subst}
 use mathlib.Core.Bool.{Bool, false}
 use mathlib.Core.List.{List, [], ◌∷◌, ◌++◌, map, append_assoc, append-nil}
-use Prim.Native.Nat.{ℕ, zero, suc, ◌+◌, ◌-◌, ◌*◌, ◌≤◌, ◌<◌}
+use Prim.Native.Nat.{ℕ, zero, suc, ◌+◌, ◌*◌, ◌≤◌, ◌<◌}
 use native.Mathlib.Numerals.{add-one}
 use native.Mathlib.Omega.{arith}
 use lib.Dec.{T}
 use lib.IntN.{ℤ, pos}
 use lib.Ieee.{Float, nan, lt}
 use lib.ListN.{length, take, get_or, set, replicate, length-append, length-map, length-set}
-use lib.Seq.{take_all}
 use lib.Ieee.Bits.{is_true}
 use Rattle.slices.specs.declared.refusal.Refusal.{Refusal}
 use Rattle.inputs.specs.Inputs.{front_size}
@@ -21,12 +20,10 @@ use Rattle.windows.specs.declared.kernel.Track.{Track}
 use Rattle.fit.specs.Room.{work_size}
 use Rattle.laws.specs.Floats.{zero64, ◌⊖◌}
 use Rattle.laws.specs.Lists.{map_append}
-use Rattle.laws.specs.Order.{lt→le}
 use Rattle.laws.specs.Tables.{row}
 use Rattle.laws.specs.Loops.{filled_up, filled_set, filled_none}
 use Rattle.finality.specs.Tables.{Table, key_of}
 use Rattle.finality.specs.Arcs.{longest, start, steps, arc_of, inside}
-use Rattle.finality.proofs.WindowTimes.{steps_short}
 use Rattle.vectors.specs.declared.Vector.{Vector}
 use Rattle.integrate.specs.Room.{Run}
 use Rattle.integrate.specs.declared.kernel.State.{State}
@@ -35,12 +32,12 @@ use Rattle.fit.specs.Fit.{Fit, fit_of, orbit_of, state_for}
 use Rattle.fit.specs.WorkLeaves.{arc_serves, Fits, ArcFit}
 use Rattle.windows.specs.Stage.{arc_struct}
 use Rattle.windows.specs.Windows.{arc_between}
-use Rattle.windows.proofs.Arcs.{arc_between_law}
-use Rattle.windows.proofs.Filling.{fits_of, inside_few}
+use Rattle.windows.proofs.Arcs.{Fine}
+use Rattle.windows.proofs.Filling.{arc_is, track_fits as windows_track_fits}
 use Rattle.fitted_orbits.specs.declared.work.Done.{Done}
 use Rattle.fitted_orbits.specs.Orbits.{Window, unless_refused, window_fit, between, joined, numbers_of}
 use Rattle.fitted_orbits.specs.Calls.{Outputs, outputs, listed}
-use Rattle.fitted_orbits.specs.Work.{read_run, Tabled, Joins, SoFar, Room, Adds, Usable, Short}
+use Rattle.fitted_orbits.specs.Work.{read_run, Tabled, Joins, SoFar, Adds}
 use Rattle.fitted_orbits.proofs.Keeping.{run_read}
 
 abbrev pub start_done : Done
@@ -113,20 +110,6 @@ adds_then xs ys n d r r' o o' o'' f g = record {
 
 -- ---- one window
 
-module _ (a b : Float) (sh : Short a b) where
-  pub steps_few : steps a b ≤ 5302
-  steps_few = let h = steps_short a b sh.ends.from sh.ends.to (lt→le a b sh.ends.order) sh.short in omega (arith, h)
-
-  pub arc_is : (x : ArcStruct) → x ≡ arc_between a b → x ≡ arc_struct (arc_of a b)
-  arc_is x e = e ∙ arc_between_law a b sh.ends sh.short
-
-  pub arc_few : (x : ArcStruct) → x ≡ arc_between a b → x.steps ≤ 5302
-  arc_few x e = let q = ap (λ (y : ArcStruct). y.steps) (arc_is x e) in omega (arith, q, steps_few)
-
-  -- at most 3,500 states of any run lie inside
-  pub arc_inside : (x : ArcStruct) → x ≡ arc_between a b → (run : Run) → length (inside x.t0 a b 0 (row run (x.steps + 1))) ≤ 3500
-  arc_inside x e run = inside_few a b sh.ends sh.short x.t0 x.steps (ap (λ (y : ArcStruct). y.t0) (arc_is x e)) (ap (λ (y : ArcStruct). y.steps) (arc_is x e)) run
-
 module _ (covered : Float → Bool) (full : Float → Vector → Vector) (look : Float → Option State) (a b : Float) where
   abbrev arc : ArcStruct
   arc = arc_struct (arc_of a b)
@@ -146,13 +129,7 @@ module _ (covered : Float → Bool) (full : Float → Vector → Vector) (look :
   unfolding window_fit
   short_window short answer e = rw (is_true (lt (b ⊖ a) longest) short) (ap (λ (x : Fit). unless_refused x table) (sym e))
 
-  module _ (sh : Short a b) where
-    fits_here : (N : ℕ) (keys : List ℤ) (states : ℕ) (s s₁ : List Float) (x : ArcStruct) (answer : Fit) → x ≡ arc_between a b → Usable N keys states (length s) →
-        ArcFit (arc_serves N x.steps keys states (length s)) covered full look x s s₁ (front_size N) answer → Fits covered full look arc s s₁ (front_size N) answer
-    fits_here N keys states s s₁ x answer e u f =
-        fits_of covered full look a b sh.ends N (steps a b) keys states s s₁ (front_size N) (start a) answer refl refl u.degree (steps_few a b sh) u.each refl u.enough u.rises
-        (subst (λ (y : ArcStruct). ArcFit (arc_serves N y.steps keys states (length s)) covered full look y s s₁ (front_size N) answer) (arc_is a b sh x e) f)
-
+  module _ (sh : Fine a b) where
     -- a refused fit is skipped
     pub refused_adds : (N : ℕ) (s s₁ : List Float) (done : Done) (o : Outputs) (answer : Fit) (code : Refusal) → answer ≡ Err code → Fits covered full look arc s s₁ (front_size N) answer →
         Adds (window_fit covered full look a b) 1 done done o o
@@ -205,13 +182,13 @@ module _ (covered : Float → Bool) (full : Float → Vector → Vector) (look :
         (fitted_adds N s s₁ base arc₁ done o answer x n keys' states' e eb ea f j))
 
 -- the fit of a window over the lists of a track
-pub track_fits : (t : Track) (a b : Float) → Short a b → (s s₁ : List Float) (x : ArcStruct) (answer : Fit) → t.base + work_size ≤ length s → x ≡ arc_between a b →
+pub track_fits : (t : Track) (a b : Float) → Fine a b → (s s₁ : List Float) (x : ArcStruct) (answer : Fit) → t.base + work_size ≤ length s → x ≡ arc_between a b →
     ArcFit (arc_serves t.model.degree x.steps t.states.keys.now (length t.states.values.now) (length s)) (covers t.model.field_times.now) (full_force (model_of t.model))
     (state_for (keyed_of t.states)) x s s₁ (front_size t.model.degree) answer →
     Fits (covers t.model.field_times.now) (full_force (model_of t.model)) (state_for (keyed_of t.states)) (arc_struct (arc_of a b)) s s₁ (front_size t.model.degree) answer
 track_fits t a b sh s s₁ x answer room e f =
-    fits_here (covers t.model.field_times.now) (full_force (model_of t.model)) (state_for (keyed_of t.states)) a b sh t.model.degree t.states.keys.now
-    (length t.states.values.now) s s₁ x answer e (record { degree = t.within; rises = t.rising; each = t.six_each; enough = omega (arith, t.placed, room) }) f
+    subst (λ (base : ℕ). Fits (covers t.model.field_times.now) (full_force (model_of t.model)) (state_for (keyed_of t.states)) (arc_struct (arc_of a b)) s s₁ base answer) t.placed
+    (windows_track_fits t a b sh s s₁ x answer room e f)
 
 -- ---- window after window
 
@@ -251,24 +228,6 @@ module _ (f : Float → Float → List Window) (nodes : List Float) where
           ap (λ (m : ℕ). between f (take m nodes)) two
           ∙ between_more f nodes w (omega arith)
           ∙ ap (λ (m : ℕ). between f (take m nodes) ++ f (get_or nodes w nan) (get_or nodes m nan)) (sym one)
-
-  pub each_all : (w : ℕ) (r : Done) (o o' : Outputs) → w ≤ length nodes - 1 → length nodes ≤ w + 1 → Adds (between f (take (w + 1) nodes)) w start_done r o o'
-      → Adds (between f nodes) (length nodes - 1) start_done r o o'
-  each_all w r o o' h l x =
-      let e : w ≡ length nodes - 1 = omega arith in
-      subst (λ (n : ℕ). Adds (between f nodes) n start_done r o o') e (subst (λ (y : List Float). Adds (between f y) w start_done r o o') (take_all (w + 1) nodes (omega arith)) x)
-
-  -- room for the next window
-  pub each_room : (w : ℕ) (d : Done) (o o' : Outputs) → w + 1 < length nodes → length o.keys ≡ 3500 * (length nodes - 1) → length o.states ≡ 6 * (3500 * (length nodes - 1))
-      → length o.rms ≡ length nodes - 1 →
-      Adds (between f (take (w + 1) nodes)) w start_done d o o' → Room d o'
-  each_room w d o o' h hk hs hr x =
-      let a = x.states in
-      let b = x.windows in
-      let ek = x.long_keys in
-      let es = x.long_states in
-      let er = x.long_rms in
-      record { keys = omega (arith, a, ek, hk); states = omega (arith, a, es, hs); rms = omega (arith, b, er, hr) }
 
 -- ---- all windows, from empty outputs
 

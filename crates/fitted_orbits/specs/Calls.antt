@@ -64,8 +64,8 @@ refusal g fit =
 abbrev pub window_under : (Float → Vector → Vector) → Model → Keyed → Float → Float → List Window
 window_under full M states = window_fit (covers M.fields.field_times) full (state_for states)
 
-abbrev pub window_of : Model → Keyed → Float → Float → List Window
-window_of M = window_under (full_force M) M
+abbrev pub fitted_between : Model → Keyed → Float → Float → List Window
+fitted_between M = window_under (full_force M) M
 
 -- the windows fitted by a full attraction
 abbrev pub windows_by : (Float → Vector → Vector) → Given → List Window

@@ -1,15 +1,12 @@
 -- What the work on the lent outputs leaves, step by step. Assumes nothing.
-use Rattle.std.specs.Prelude.{◌≡◌, Bool, true, cond, List, ◌++◌, map, ℕ, ◌+◌, ◌*◌, ◌≤◌, ◌<◌, T, ℤ, pos, Float, length, set}
-use Rattle.std.specs.Float.Ieee.{lt}
+use Rattle.std.specs.Prelude.{◌≡◌, true, List, ◌++◌, map, ℕ, ◌+◌, ◌*◌, ◌≤◌, ◌<◌, ℤ, pos, Float, length, set}
 use Rattle.inputs.specs.Inputs.{front_size}
-use Rattle.laws.specs.Floats.{zero64, ◌⊖◌}
+use Rattle.laws.specs.Floats.{zero64}
 use Rattle.laws.specs.Checks.{rising_seconds}
 use Rattle.laws.specs.Loops.{filled_up}
 use Rattle.finality.specs.Tables.{Table, key_of}
-use Rattle.finality.specs.Arcs.{longest}
 use Rattle.integrate.specs.Room.{Run, state_in}
 use Rattle.integrate.specs.declared.kernel.State.{State}
-use Rattle.windows.specs.Windows.{Ends}
 use Rattle.fitted_orbits.specs.declared.work.Done.{Done}
 use Rattle.fitted_orbits.specs.Orbits.{Window, joined, numbers_of}
 use Rattle.fitted_orbits.specs.Calls.{Outputs, listed}
@@ -24,12 +21,6 @@ put_six o at s =
 -- the states of a run as they stand in the lent numbers
 abbrev pub read_run : List Float → ℕ → Run
 read_run s base k = state_in s (base + 6 * k)
-
--- one state, after n others, where its time lies inside
-pub record Kept (is_inside : Bool) (second : ℤ) (state : State) (n r : ℕ) (keys keys' : List ℤ) (states states' : List Float) : Type 0 where
-  pub counted : r ≡ n + cond is_inside 1 0
-  pub seconds : keys' ≡ cond is_inside (set keys n second) keys
-  pub numbers : states' ≡ cond is_inside (put_six states (6 * n) state) states
 
 -- the states of a table from the front, of m places
 pub record Tabled (m : ℕ) (table : Table State) (n : ℕ) (keys : List ℤ) (states : List Float) : Type 0 where
@@ -71,8 +62,3 @@ pub record Usable (N : ℕ) (keys : List ℤ) (states room : ℕ) : Type 0 where
   pub rises : rising_seconds keys ≡ true
   pub each : states ≡ 6 * length keys
   pub enough : front_size N + work_size ≤ room
-
--- a window shorter than 7,000 s
-pub record Short (a b : Float) : Type 0 where
-  pub ends : Ends a b
-  pub short : T (lt (b ⊖ a) longest)

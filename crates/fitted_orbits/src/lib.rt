@@ -64,6 +64,7 @@ fn refusal(
 
 // The dynamic orbits fitted between neighbouring nodes: the states inside each window with their seconds, and an rms a window, without the windows that
 // are skipped. Answers how many states and how many windows.
+// kept: document 01 lends the outputs of this call one by one.
 pub fn fitted_orbits(
     model: inputs::Model<'_>,
     states: inputs::Keyed<'_>,

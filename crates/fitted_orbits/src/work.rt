@@ -1,5 +1,6 @@
 // The fitted windows of a satellite, one after the other into the lent outputs.
-// kept: the outputs are lent one by one, as the call has them; a struct of `&mut` slices would be taken apart in each function.
+// kept: the outputs are lent one by one, as the call has them. The contract of each function that is lent a struct of them has to promise that its fields are
+// still the same references (their ghost names): four functions here, of three fields.
 ghost use Rattle.std.specs.Prelude.{◌≡◌, true, [], ℕ, ◌+◌, ◌-◌, ◌*◌, ◌≤◌, ◌<◌, pos, length, get_or, set, replicate};
 ghost use Rattle.std.specs.Float.{nan};
 ghost use Rattle.laws.specs.Times.{step_time, Time};
@@ -12,10 +13,10 @@ ghost use Rattle.integrate.specs.Room.{run_size, Run, state_in};
 ghost use Rattle.windows.specs.Slots.{within};
 ghost use Rattle.windows.specs.Windows.{Ends};
 ghost use Rattle.fitted_orbits.specs.Orbits.{between};
-ghost use Rattle.fitted_orbits.specs.Calls.{given, outputs, listed, window_of, fitted_windows};
-ghost use Rattle.fitted_orbits.specs.Work.{put_six, read_run, Kept, Joins, SoFar, Room, Adds, Usable, Short};
+ghost use Rattle.fitted_orbits.specs.Calls.{given, outputs, listed, fitted_between, fitted_windows};
+ghost use Rattle.fitted_orbits.specs.Work.{put_six, read_run, Joins, SoFar, Room, Adds, Usable};
 
-use windows::kernel::Track;
+use windows::kernel::{Span, Track};
 
 // How many states and how many windows stand in the outputs.
 #[derive(Clone, Copy)]
@@ -53,37 +54,10 @@ fn put_second(t: f64, outkeys: &mut [i64], at: usize)
     outkeys[at] = key;
 }
 
-// Step k's state, if its time lies in the window, after n others. Returns how many there are then.
-fn keep_step(
-    t0: f64,
-    from: f64,
-    to: f64,
-    k: usize,
-    s: &[f64],
-    base: usize,
-    n: usize,
-    outkeys: &mut [i64],
-    outstates: &mut [f64],
-) -> usize
-    requires { (k ≤ 5302) × (base + run_size ≤ length s.now) × (within from to (step_time t0 k) ≡ true → n < length outkeys.old)
-        × (within from to (step_time t0 k) ≡ true → 6 * n + 6 ≤ length outstates.old) }
-    ensures { Kept (within from to (step_time t0 k)) (whole_second (step_time t0 k)) (state_in s.now (base + 6 * k)) n result outkeys.old
-        outkeys.new outstates.old outstates.new }
-{
-    let t = integrate::kernel::time(t0, k);
-    if windows::kernel::within(from, to, t) {
-        put_second(t, outkeys, n);
-        put_state(s, base + 6 * k, outstates, 6 * n);
-        return n + 1;
-    }
-    n
-}
-
 // The states of a run whose times lie in a window, after n others. Returns how many there are then.
 fn keep(
     t0: f64,
-    from: f64,
-    to: f64,
+    span: Span,
     steps: usize,
     s: &[f64],
     base: usize,
@@ -91,14 +65,19 @@ fn keep(
     outkeys: &mut [i64],
     outstates: &mut [f64],
 ) -> usize
-    requires { Time from × Time to × (steps ≤ 5302) × ((run : Run) → length (inside t0 from to 0 (row run (steps + 1))) ≤ 3500)
+    requires { (steps ≤ 5302) × ((run : Run) → length (inside t0 span.from span.to 0 (row run (steps + 1))) ≤ 3500)
         × (base + run_size ≤ length s.now) × (first + 3500 ≤ length outkeys.old) × (6 * (first + 3500) ≤ length outstates.old) }
-    ensures { Joins (inside t0 from to 0 (row (read_run s.now base) (steps + 1))) first result outkeys.old outkeys.new
+    ensures { Joins (inside t0 span.from span.to 0 (row (read_run s.now base) (steps + 1))) first result outkeys.old outkeys.new
         outstates.old outstates.new }
 {
     let mut n = first;
     for k in 0..steps + 1 {
-        n = keep_step(t0, from, to, k, s, base, n, outkeys, outstates);
+        let t = integrate::kernel::time(t0, k);
+        if windows::kernel::within(span.from, span.to, t) {
+            put_second(t, outkeys, n);
+            put_state(s, base + 6 * k, outstates, 6 * n);
+            n += 1;
+        }
     }
     n
 }
@@ -112,62 +91,29 @@ fn put_rms(x: f64, rms: &mut [f64], at: usize) -> usize
     at + 1
 }
 
-// The fit of a window shorter than 7,000 s: its states and its rms, unless it is refused.
-fn fit_between(
-    track: Track<'_>,
-    from: f64,
-    to: f64,
-    done: Done,
-    outkeys: &mut [i64],
-    outstates: &mut [f64],
-    rms: &mut [f64],
-    s: &mut [f64],
-) -> Done
-    requires { (track.base + work_size ≤ length s.old) × Short from to × Room done (outputs outkeys.old outstates.old rms.old) }
-    ensures { Adds (window_of (model_of track.entry.model) (keyed_of track.entry.states) from to) 1 done result
-        (outputs outkeys.old outstates.old rms.old) (outputs outkeys.new outstates.new rms.new) }
-{
-    let arc = windows::kernel::arc_between(from, to);
-    match fit::kernel::fit_arc(track.model, track.states, arc, s) {
-        Ok(x) => {
-            let n = keep(
-                arc.t0,
-                from,
-                to,
-                arc.steps,
-                &s[..],
-                track.base,
-                done.states,
-                outkeys,
-                outstates,
-            );
-            let w = put_rms(x, rms, done.windows);
-            Done {
-                states: n,
-                windows: w,
-            }
-        }
-        Err(_) => done,
-    }
-}
-
-// A window, skipped where it is 7,000 s or longer.
+// A window's states and its rms, unless it is 7,000 s or longer or its fit is refused.
 fn window(
     track: Track<'_>,
-    from: f64,
-    to: f64,
+    span: Span,
     done: Done,
     outkeys: &mut [i64],
     outstates: &mut [f64],
     rms: &mut [f64],
     s: &mut [f64],
 ) -> Done
-    requires { (track.base + work_size ≤ length s.old) × Ends from to × Room done (outputs outkeys.old outstates.old rms.old) }
-    ensures { Adds (window_of (model_of track.entry.model) (keyed_of track.entry.states) from to) 1 done result
+    requires { (track.base + work_size ≤ length s.old) × Room done (outputs outkeys.old outstates.old rms.old) }
+    ensures { Adds (fitted_between (model_of track.entry.model) (keyed_of track.entry.states) span.from span.to) 1 done result
         (outputs outkeys.old outstates.old rms.old) (outputs outkeys.new outstates.new rms.new) }
 {
-    if to - from < 7000.0 {
-        return fit_between(track, from, to, done, outkeys, outstates, rms, s);
+    if !(span.to - span.from < 7000.0) {
+        return done;
+    }
+    let arc = windows::kernel::arc_between(span.from, span.to);
+    if let Ok(x) = fit::kernel::fit_arc(track.model, track.states, arc, s) {
+        let (base, first) = (track.base, done.states);
+        let states = keep(arc.t0, span, arc.steps, s, base, first, outkeys, outstates);
+        let windows = put_rms(x, rms, done.windows);
+        return Done { states, windows };
     }
     done
 }
@@ -185,7 +131,7 @@ fn fit_each(
         × ((w : ℕ) → w + 1 < length nodes.now → Ends (get_or nodes.now w nan) (get_or nodes.now (w + 1) nan))
         × (length outkeys.old ≡ 3500 * (length nodes.now - 1)) × (length outstates.old ≡ 6 * (3500 * (length nodes.now - 1)))
         × (length rms.old ≡ length nodes.now - 1) }
-    ensures { Adds (between (window_of (model_of track.entry.model) (keyed_of track.entry.states)) nodes.now) (length nodes.now - 1)
+    ensures { Adds (between (fitted_between (model_of track.entry.model) (keyed_of track.entry.states)) nodes.now) (length nodes.now - 1)
         (record { states = 0; windows = 0 }) result
         (outputs outkeys.old outstates.old rms.old) (outputs outkeys.new outstates.new rms.new) }
 {
@@ -194,16 +140,11 @@ fn fit_each(
         windows: 0,
     };
     for w in 0..nodes.len().saturating_sub(1) {
-        done = window(
-            track,
-            nodes[w],
-            nodes[w + 1],
-            done,
-            outkeys,
-            outstates,
-            rms,
-            s,
-        );
+        let span = Span {
+            from: nodes[w],
+            to: nodes[w + 1],
+        };
+        done = window(track, span, done, outkeys, outstates, rms, s);
     }
     done
 }

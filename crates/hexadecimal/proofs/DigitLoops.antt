@@ -19,7 +19,7 @@ use Rattle.laws.specs.Bools.{left_true, right_true}
 use Rattle.std.specs.Prelude.{Option, Some, None, ◌⊎◌}
 use Rattle.std.proofs.Common.{inl, inr}
 use Rattle.std.proofs.lemmas.Bool.Decides.{nat_tests}
-use Rattle.hexadecimal.specs.Digits.{digit_of, glyph_of, is_digit, value_from, digits_of, valued, spelled_in, word_at, written, unpadded, counted, decimal_at, places_in, places_of, Put, is_word}
+use Rattle.hexadecimal.specs.Digits.{digit_of, glyph_of, is_digit, value_from, digits_of, valued, spelled_in, word_at, written, unpadded, counted, decimal_at, places_in}
 
 -- ---- reading
 
@@ -115,14 +115,6 @@ unfolding digits_of
 write_done base rest zero out goal h inv = inv
 write_done base rest (suc i) out goal h inv = absurd (omega arith)
 
--- ---- words
-
-pub word_true : (w p : Option ℕ) (n : ℕ) → w ≡ p → w ≡ Some n → true ≡ is_word p
-word_true w p n e h = ap is_word (sym h ∙ e)
-
-pub word_false : (w p : Option ℕ) → w ≡ p → w ≡ None → false ≡ is_word p
-word_false w p e h = ap is_word (sym h ∙ e)
-
 -- ---- 16 hexadecimal digits fit 64 bits
 
 step_up : (base before d : ℕ) → d < base → before * base + d + 1 ≤ (before + 1) * base
@@ -206,14 +198,6 @@ unpadded_more [] h k = absurd (h refl)
 unpadded_more (b ∷ []) h k = absurd (k refl)
 unpadded_more (b ∷ c ∷ bs) h k = refl
 
-pub counted_in : (text : List ℕ) (b : Bool) (r : Option ℕ) → b ≡ unpadded text → b ≡ true → r ≡ spelled_in 10 text → r ≡ counted text
-unfolding counted spelled_in
-counted_in text b r e t s = let u : unpadded text ≡ true = sym e ∙ t in s ∙ rw u
-
-pub counted_out : (text : List ℕ) (b : Bool) → b ≡ unpadded text → b ≡ false → None ≡ counted text
-unfolding counted
-counted_out text b e t = let u : unpadded text ≡ false = sym e ∙ t in rw u
-
 pub decimal_out : (text : List ℕ) (at end : ℕ) → (end < at) ⊎ (length text < end) → None ≡ decimal_at text at end
 unfolding decimal_at counted unpadded
 decimal_out text at end (inl h) = let z : end - at ≡ 0 = omega arith in rw z (grind (arith, nat_tests))
@@ -235,20 +219,6 @@ places_more count n h k = let e : 20 - count ≡ suc (20 - (count + 1)) = omega 
 pub places_none : (count n : ℕ) → 20 ≤ count → places_in (20 - count) n ≡ 1
 unfolding places_in
 places_none count n h = let e : 20 - count ≡ 0 = omega arith in rw e
-
-pub printed_in : (k n at end : ℕ) (xs ys : List ℕ) → k ≡ places_of n → k ≤ length xs → at ≤ length xs - k → end ≡ at + k →
-    ys ≡ digits_of 10 (length (mid_of at (end - at) xs)) n → Put n xs at (put_mid at (end - at) xs ys) k
-printed_in k n at end xs ys e h g d s =
-    let f : places_of n ≤ length xs - at = omega arith in
-    record {
-      text = put_in 10 k n at end xs ys h g d s ∙ rw e;
-      count = e ∙ rw (le-leb (places_of n) (length xs - at) f);
-    }
-
-pub printed_out : (k n at : ℕ) (xs : List ℕ) → k ≡ places_of n → length xs - at < k → Put n xs at xs 0
-printed_out k n at xs e h =
-    let f : length xs - at < places_of n = rw e at h in
-    record { text = put_out 10 (places_of n) n at xs f; count = rw (lt-leb (places_of n) (length xs - at) f) }
 
 -- ---- patterns of a NaN
 

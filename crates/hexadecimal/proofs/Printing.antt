@@ -52,12 +52,6 @@ cond_few false k h = omega arith
 pub count_few : {n : ℕ} {o : List ℕ} {at : ℕ} {o' : List ℕ} {k : ℕ} → Put n o at o' k → k ≤ 20
 count_few {n} {o} {at} p = rw p.count (cond_few (leb (places_of n) (length o - at)) (places_of n) (places_few 19 n))
 
-pub count_fits : (n at k : ℕ) (o o' : List ℕ) → at + 20 ≤ length o → Put n o at o' k → at + k ≤ at + 20
-count_fits n at k o o' h p =
-    let f : places_of n ≤ 20 = places_few 19 n in
-    let c : k ≡ places_of n = p.count ∙ rw (le-leb (places_of n) (length o - at) (omega arith)) in
-    omega arith
-
 pub count_prints : (n at k : ℕ) (o o' : List ℕ) → at + 20 ≤ length o → Put n o at o' k → Printed (decimal_of n) o at o' (at + k)
 count_prints n at k o o' h p =
     let f : places_of n ≤ 20 = places_few 19 n in
@@ -79,7 +73,3 @@ pub printed_counts : (bytes before after : List ℕ) (r : ℕ) → Printed bytes
 printed_counts bytes before after r p =
     let h : r ≤ length after = omega (arith, p.ends, simp length-append at (ap length p.text), length-take r after) in
     (h, sym (length-take-le r after h))
-
-pub refused_counts : (n : ℕ) (o o1 o2 o3 : List ℕ) (a b r : ℕ) → Printed (114 ∷ 101 ∷ 102 ∷ 117 ∷ 115 ∷ 101 ∷ 100 ∷ 32 ∷ []) o 0 o1 a → Printed (decimal_of n) o1 a o2 b →
-    Printed line_feed o2 b o3 r → (r ≤ length o3) × (r ≡ length (take r o3))
-refused_counts n o o1 o2 o3 a b r p q s = printed_counts (refused_text n) o o3 r (refused_prints n o o1 o2 o3 a b r p q s)

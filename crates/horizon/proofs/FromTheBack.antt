@@ -1,6 +1,8 @@
 -- The last entry of a list, the largest node from the back, and the final count from the back. Assumes nothing.
-use Rattle.std.proofs.Common.{◌≡◌, ℕ, zero, suc, ◌+◌, ◌-◌, ◌<◌, ◌≤◌, Bool, true, false, cond, List, [], ◌∷◌, length, get_or, drop, sym, refl, ap, ◌∙◌, le_refl, arith, length-drop, drop_of_length-le}
+use Rattle.std.proofs.Common.{◌≡◌, ℕ, zero, suc, ◌+◌, ◌-◌, ◌<◌, ◌≤◌, Bool, true, false, cond}
+use Rattle.std.proofs.Common.{List, [], ◌∷◌, length, get_or, drop, sym, refl, ap, ◌∙◌, le_refl, arith, length-drop, drop_of_length-le}
 use Rattle.std.specs.Prelude.{Option, None, Some}
+use Rattle.std.specs.List.{push}
 use Rattle.std.proofs.Common.{option_map, slice_get}
 use lib.Ieee.{Float, nan, lt}
 use Rattle.laws.specs.Floats.{◌⊖◌}
@@ -29,41 +31,32 @@ last_time_law ts = sym (same (slice_get ts (length ts - 1))) ∙ last_end (λ (t
     same None = refl
     same (Some t) = refl
 
--- ---- the largest node: what the later nodes give is the answer, if they give one
+-- ---- the largest node: the last one that passes
 
-pub later : (ok : Float → Bool) (ns : List Float) (i : ℕ) (z : Float) → largest ok (drop i ns) ≡ Some z → largest ok ns ≡ Some z
+else_first : (b : Bool) (z : Float) (o p : Option Float) → else (cond b (Some z) o) p ≡ cond b (Some z) (else o p)
+else_first true z o p = refl
+else_first false z o p = refl
+
+largest_more : (ok : Float → Bool) (ns : List Float) (z : Float) → largest ok (push ns z) ≡ cond (ok z) (Some z) (largest ok ns)
 unfolding largest
-later ok ns zero z h = h
-later ok [] (suc i) z h = h
-later ok (n ∷ ns) (suc i) z h = ap (λ (o : Option Float). else o (cond (ok n) (Some n) None)) (later ok ns i z h)
+largest_more ok [] z = refl
+largest_more ok (n ∷ ns) z =
+    let x : Option Float = cond (ok n) (Some n) None in
+    ap (λ (o : Option Float). else o x) (largest_more ok ns z) ∙ else_first (ok z) z (largest ok ns) x
 
-largest_at : (ok : Float → Bool) (ns : List Float) (i : ℕ) → i < length ns → largest ok (drop i ns) ≡ else (largest ok (drop (i + 1) ns)) (cond (ok (get_or ns i nan)) (Some (get_or ns i nan)) None)
+-- where the largest node of those that are left is that of all, and z is the last of them
+pub node_passes : (ok : Float → Bool) (all left ns : List Float) (z : Float) → left ≡ push ns z → true ≡ ok z → largest ok left ≡ largest ok all →
+    Some z ≡ largest ok all
+node_passes ok all left ns z e t inv = sym (ap (largest ok) e ∙ largest_more ok ns z ∙ ap (λ (b : Bool). cond b (Some z) (largest ok ns)) (sym t)) ∙ inv
+
+pub node_fails : (ok : Float → Bool) (all left ns : List Float) (z : Float) → left ≡ push ns z → false ≡ ok z → largest ok left ≡ largest ok all →
+    largest ok ns ≡ largest ok all
+node_fails ok all left ns z e t inv = sym (ap (largest ok) e ∙ largest_more ok ns z ∙ ap (λ (b : Bool). cond b (Some z) (largest ok ns)) (sym t)) ∙ inv
+
+pub none_left : (ok : Float → Bool) (ns : List Float) → length ns ≡ 0 → None ≡ largest ok ns
 unfolding largest
-largest_at ok ns i h = ap (largest ok) (head_at ns i nan h)
-
-pub node_passes : (ok : Float → Bool) (ns : List Float) (i : ℕ) (b : Bool) → 0 < i → i ≤ length ns → b ≡ ok (get_or ns (i - 1) nan) → b ≡ true → largest ok (drop i ns) ≡ None →
-    Some (get_or ns (i - 1) nan) ≡ largest ok ns
-node_passes ok ns i b h l e t inv =
-    let z : Float = get_or ns (i - 1) nan in
-    let k : i - 1 + 1 ≡ i = omega arith in
-    sym (later ok ns (i - 1) z
-    (largest_at ok ns (i - 1) (omega arith)
-    ∙ (λ j. else ((ap (λ (n : ℕ). largest ok (drop n ns)) k ∙ inv) j) (cond ((sym e ∙ t) j) (Some z) None))))
-
-pub node_fails : (ok : Float → Bool) (ns : List Float) (i : ℕ) (b : Bool) → 0 < i → i ≤ length ns → b ≡ ok (get_or ns (i - 1) nan) → b ≡ false → largest ok (drop i ns) ≡ None →
-    largest ok (drop (i - 1) ns) ≡ None
-node_fails ok ns i b h l e t inv =
-    let z : Float = get_or ns (i - 1) nan in
-    let k : i - 1 + 1 ≡ i = omega arith in
-    largest_at ok ns (i - 1) (omega arith) ∙ (λ j. else ((ap (λ (n : ℕ). largest ok (drop n ns)) k ∙ inv) j) (cond ((sym e ∙ t) j) (Some z) None))
-
-pub no_nodes : (ok : Float → Bool) (ns : List Float) → largest ok (drop (length ns) ns) ≡ None
-unfolding largest
-no_nodes ok ns = ap (largest ok) (drop_of_length-le ns (le_refl (length ns)))
-
-pub none_passes : (ok : Float → Bool) (ns : List Float) (i : ℕ) → i ≤ 0 → largest ok (drop i ns) ≡ None → None ≡ largest ok ns
-none_passes ok ns zero h inv = sym inv
-none_passes ok ns (suc i) h inv = absurd (omega arith)
+none_left ok [] h = refl
+none_left ok (n ∷ ns) h = absurd (omega arith)
 
 -- ---- the last epoch of a run
 
@@ -75,7 +68,8 @@ pub run_ends : (ts : List Float) (i : ℕ) (last : Float) → i + 1 < length ts 
 unfolding splits
 run_ends ts i last h e = sym (end_next ts i h ∙ ap (λ (b : Bool). cond b (get_or ts i nan) (end_at ts (i + 1))) e)
 
-pub run_goes_on : (ts : List Float) (i : ℕ) (last : Float) → i + 1 < length ts → lt longest_step (get_or ts (i + 1) nan ⊖ get_or ts i nan) ≡ false → (i + 1 < length ts → last ≡ end_at ts (i + 1))
+pub run_goes_on : (ts : List Float) (i : ℕ) (last : Float) → i + 1 < length ts →
+    lt longest_step (get_or ts (i + 1) nan ⊖ get_or ts i nan) ≡ false → (i + 1 < length ts → last ≡ end_at ts (i + 1))
     → last ≡ end_at ts i
 unfolding splits
 run_goes_on ts i last h e f = f h ∙ sym (end_next ts i h ∙ ap (λ (b : Bool). cond b (get_or ts i nan) (end_at ts (i + 1))) e)

@@ -10,10 +10,9 @@ use crate::Tracks;
 pub fn horizon(nodes: &[f64], tracks: Tracks<'_>) -> Option<f64>
     ensures { result ≡ horizon_of (ends_in tracks.entry) nodes.now }
 {
-    for i in (0..nodes.len()).rev() {
-        let z = nodes[i];
-        if tracks.reach_beyond(z) {
-            return Some(z);
+    for z in nodes.iter().rev() {
+        if tracks.reach_beyond(*z) {
+            return Some(*z);
         }
     }
     None

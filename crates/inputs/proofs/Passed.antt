@@ -1,8 +1,8 @@
 -- What the tests say where they pass. Assumes nothing.
-use mathlib.Core.Path.{◌≡◌, refl}
-use mathlib.Core.Bool.{Bool, true, false, ◌&&◌}
+use mathlib.Core.Path.{◌≡◌}
+use mathlib.Core.Bool.{Bool, true, ◌&&◌}
 use mathlib.Core.List.{List}
-use Prim.Native.Nat.{ℕ, ◌+◌, ◌-◌, ◌*◌, ◌≤◌, ◌<◌}
+use Prim.Native.Nat.{ℕ, ◌+◌, ◌*◌, ◌≤◌}
 use native.Mathlib.Nat.{mul-le-mul}
 use native.Mathlib.Omega.{arith}
 use lib.Dec.{leb, eqb}
@@ -15,7 +15,7 @@ use Rattle.laws.specs.Bools.{both_true}
 use Rattle.slices.proofs.Calls.{cond_passes}
 use Rattle.slices.specs.Calls.{Verdict, accepted}
 use Rattle.slices.specs.declared.refusal.Refusal.TheVariants.{Degree, Count, Length, Value, Order}
-use Rattle.inputs.specs.Inputs.{Model, sizes_fit, window_room, fit_room, kind, field_size, few, first_of, counts_fine, model_fits, states_fit, least_scratch, scratch_fits, lengths_fit, whole_scratch_fits}
+use Rattle.inputs.specs.Inputs.{Model, sizes_fit, fit_room, kind, field_size, few, first_of, counts_fine, model_fits, states_fit, least_scratch, scratch_fits, lengths_fit}
 use Rattle.inputs.specs.Inputs.{rise}
 
 -- all of five tests, and the rest

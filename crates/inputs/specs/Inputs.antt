@@ -1,6 +1,6 @@
 -- What the calls of modules 3 to 5 and the whole path are lent, as records of three parts, and what is tested of it (document 01, "Outcomes" and "Bounds").
 -- Assumes nothing.
-use Rattle.std.specs.Prelude.{◌≡◌, ℕ, ◌+◌, ◌-◌, ◌*◌, ◌≤◌, ◌<◌, Bool, ◌&&◌, cond, List, [], leb, eqb, ℤ, Float, length, Err}
+use Rattle.std.specs.Prelude.{◌≡◌, ℕ, ◌+◌, ◌-◌, ◌*◌, ◌≤◌, ◌<◌, Bool, ◌&&◌, cond, List, leb, eqb, ℤ, Float, length, Err}
 use Rattle.std.specs.Float.Ieee.Scale.{finite}
 use Rattle.std.specs.List.{list_all}
 use Rattle.laws.specs.Checks.{is_time, is_key, rising, rising_seconds}

@@ -21,12 +21,15 @@ pub const SLOT_ROOM: usize = 24_600;
 // Those of a pair of neighbouring nodes, which has a slot for each satellite.
 pub const WINDOW_ROOM: usize = 2 * SLOT_ROOM;
 
-// Places for the coefficients of one kind.
+// Places for the coefficients of one kind; none for a degree above 180.
 pub fn places(degree: usize) -> usize
-    requires { degree ≤ 180 }
-    ensures { (result ≡ kind degree) × (result ≤ 16471) }
+    ensures { (degree ≤ 180 → result ≡ kind degree) × (result ≤ 16471) × (180 < degree → result ≡ 0) }
 {
-    (degree + 1) * (degree + 2) / 2
+    if degree <= 180 {
+        numbers::triangle(degree + 1)
+    } else {
+        0
+    }
 }
 
 pub fn degree_fine(degree: usize) -> bool
@@ -58,7 +61,7 @@ pub fn first_of(
 pub fn front_size(degree: usize) -> usize
     ensures { (degree ≤ 180 → result ≡ front_size degree) × (result ≤ 131768) × (180 < degree → result ≡ 0) }
 {
-    if 180 < degree { 0 } else { 8 * places(degree) }
+    8 * places(degree)
 }
 
 pub fn fields_fine(fields: usize) -> bool
@@ -75,21 +78,42 @@ pub fn counts_fine(fields: usize, c: usize, d: usize, cacc: usize, dacc: usize) 
     fields_fine(fields) && ((c <= 200000 && d <= 200000) && (cacc <= 200000 && dacc <= 200000))
 }
 
-fn model_lengths(
+// A degree and a number of added fields, both within their bounds.
+#[derive(Clone, Copy)]
+struct Size {
     degree: usize,
     fields: usize,
-    field: usize,
-    added: usize,
-    a: usize,
-    b: usize,
-) -> bool
-    requires { (degree ≤ 180) × (fields ≤ 32) }
-    ensures { result ≡ (eqb field (field_size degree) && eqb added (fields * field_size degree)) && (eqb a (kind degree) && eqb b (kind degree)) }
-{
-    let l = places(degree);
-    let one = 2 + 2 * l;
-    let all = fields * one;
-    (field == one && added == all) && (a == l && b == l)
+    ghost within: { degree ≤ 180 },
+    ghost few: { fields ≤ 32 },
+}
+
+impl Size {
+    // Whether the static field, the added fields and the Legendre tables have the lengths that these ask for.
+    fn lists_fit(self, field: usize, added: usize, a: usize, b: usize) -> bool
+        ensures { result ≡ (eqb field (field_size self.degree) && eqb added (self.fields * field_size self.degree))
+            && (eqb a (kind self.degree) && eqb b (kind self.degree)) }
+    {
+        let l = places(self.degree);
+        let one = 2 + 2 * l;
+        let all = self.fields * one;
+        (field == one && added == all) && (a == l && b == l)
+    }
+
+    fn least_scratch(self, count: usize) -> usize
+        requires { count ≤ 100000 }
+        ensures { (result ≡ least_scratch self.degree self.fields count) × (result ≤ 4000000) }
+    {
+        let l = places(self.degree);
+        2 * (self.fields * l) + 8 * l + FIT_ROOM + 10 * count
+    }
+
+    // That of the whole path.
+    fn whole_scratch(self, nodes: usize, count: usize) -> usize
+        requires { (nodes ≤ 64) × (count ≤ 100000) }
+        ensures { result ≡ least_scratch self.degree self.fields count + window_room * (nodes - 1) }
+    {
+        self.least_scratch(count) + WINDOW_ROOM * nodes.saturating_sub(1)
+    }
 }
 
 // Lengths of the static field, the added fields and the Legendre tables.
@@ -104,7 +128,7 @@ pub fn model_fits(
 ) -> bool
     ensures { result ≡ model_fits degree fields field added a b }
 {
-    degree <= 180 && (fields <= 32 && model_lengths(degree, fields, field, added, a, b))
+    degree <= 180 && (fields <= 32 && Size { degree, fields }.lists_fit(field, added, a, b))
 }
 
 // Six numbers for each of n states.
@@ -132,20 +156,13 @@ pub fn tables_fit(
     (states_fit(c, cstates) && states_fit(d, dstates)) && (caccs == cacc && daccs == dacc)
 }
 
-fn least_scratch(degree: usize, fields: usize, count: usize) -> usize
-    requires { (degree ≤ 180) × (fields ≤ 32) × (count ≤ 100000) }
-    ensures { (result ≡ least_scratch degree fields count) × (result ≤ 4000000) }
-{
-    let l = places(degree);
-    2 * (fields * l) + 8 * l + FIT_ROOM + 10 * count
-}
-
 #[tactic(auto, unfolding(crate::specs::Inputs::scratch_fits))]
 pub fn scratch_fits(degree: usize, fields: usize, count: usize, scratch: usize) -> bool
     ensures { result ≡ scratch_fits degree fields count scratch }
 {
     degree <= 180
-        && (fields <= 32 && (count <= 100000 && least_scratch(degree, fields, count) <= scratch))
+        && (fields <= 32
+            && (count <= 100000 && Size { degree, fields }.least_scratch(count) <= scratch))
 }
 
 // Lengths of the model's slices and of the scratch, for a call on the model alone.
@@ -164,13 +181,6 @@ pub fn lengths_fit(
     model_fits(degree, fields, field, added, a, b) && scratch_fits(degree, fields, 0, scratch)
 }
 
-fn whole_scratch(degree: usize, fields: usize, nodes: usize, count: usize) -> usize
-    requires { (degree ≤ 180) × (fields ≤ 32) × (nodes ≤ 64) × (count ≤ 100000) }
-    ensures { result ≡ least_scratch degree fields count + window_room * (nodes - 1) }
-{
-    least_scratch(degree, fields, count) + WINDOW_ROOM * nodes.saturating_sub(1)
-}
-
 // The scratch of the whole path.
 #[tactic(auto, unfolding(crate::specs::Inputs::whole_scratch_fits))]
 pub fn whole_scratch_fits(
@@ -185,7 +195,8 @@ pub fn whole_scratch_fits(
     degree <= 180
         && (fields <= 32
             && (nodes <= 64
-                && (count <= 100000 && whole_scratch(degree, fields, nodes, count) <= scratch)))
+                && (count <= 100000
+                    && Size { degree, fields }.whole_scratch(nodes, count) <= scratch)))
 }
 
 #[tactic(auto, unfolding(crate::specs::Inputs::keyed_fine))]

@@ -28,67 +28,52 @@ use Rattle.integrate.specs.Steps.{Acceleration, along_of, weighed_of, step_of, s
 use Rattle.integrate.specs.Force.{gravity_at, full_force, attraction_of, argument_of, acceleration_of, strengths_of, run_of, run_fits}
 use Rattle.integrate.specs.Room.{run_size, state_in, Run, Only, Holds3, Orbit}
 use Rattle.integrate.specs.Work.{instant_of, front_at, Ready, ReadyFor, Refreshed, Pulled, Pushed, Moved, Stored, Advanced, Begun, Flown, Ran}
-use Rattle.integrate.proofs.Places.{only_same, only_then, orbit_first}
+use Rattle.integrate.proofs.Places.{only_then, orbit_first}
 use Rattle.integrate.proofs.Front.{at_length, at_again, front_length, front_gravity, put_front, put_only, take_only}
 
 -- ---- the instant
 
-front_part : (n : ℕ) (w : List Float) → n ≤ length w → mid_of 0 (n - 0) w ≡ take n w
-front_part n w h = let e : n - 0 ≡ n = omega arith in ap (λ (k : ℕ). take k w) e
-
-pub opened : (M : Model) (base : ℕ) (w y : List Float) (t : Float) (r : Instant) → base ≡ front_size M.fixed.degree → base ≤ length w →
-    y ≡ at_left M t (prepared M.fixed.degree (cleared (mid_of 0 (base - 0) w))) → r ≡ instant_of t →
-    Ready M (put_mid 0 (base - 0) w y) r × Only 0 (front_size M.fixed.degree) w (put_mid 0 (base - 0) w y)
+pub opened : (M : Model) (front y : List Float) (t : Float) (r : Instant) → length front ≡ front_size M.fixed.degree →
+    y ≡ at_left M t (prepared M.fixed.degree (cleared front)) → r ≡ instant_of t →
+    Ready M y r × (length y ≡ length front)
 unfolding front_at
-opened M base w y t r e h ey er =
-    let part : length (mid_of 0 (base - 0) w) ≡ front_size M.fixed.degree = ap length (front_part base w h) ∙ length-take-le base w h ∙ e in
-    let is : y ≡ front_at M t = ey ∙ ap (λ (k : ℕ). at_left M t (prepared M.fixed.degree (replicate k zero64))) part in
-    let long : length y ≡ base = ap length is ∙ front_length M t ∙ sym e in
-    let ready : Ready M (put_mid 0 (base - 0) w y) (instant_of t) =
-    record { front = subst (λ (k : ℕ). take k (put_mid 0 (base - 0) w y) ≡ front_at M t) e (put_front base w y h long ∙ is); sky = refl } in (
-      subst (λ (x : Instant). Ready M (put_mid 0 (base - 0) w y) x) (sym er) ready,
-      subst (λ (k : ℕ). Only 0 k w (put_mid 0 (base - 0) w y)) e (put_only base w y h long),
-    )
+opened M front y t r e ey er =
+    let is : y ≡ front_at M t = ey ∙ ap (λ (k : ℕ). at_left M t (prepared M.fixed.degree (replicate k zero64))) e in
+    let ready : Ready M y (instant_of t) = record { holds = is; sky = refl } in
+    (subst (λ (x : Instant). Ready M y x) (sym er) ready, ap length is ∙ front_length M t ∙ sym e)
 
-pub kept_instant : (M : Model) (w : List Float) (known : Instant) (t : Float) (b : Bool) → (b ≡ true → known.time ≡ t) → b ≡ true → Refreshed M w w known t known
-kept_instant M w known t b f h = record { ready = λ r. r; time = f h; only = only_same 0 (front_size M.fixed.degree) w }
+pub kept_instant : (M : Model) (front : List Float) (known : Instant) (t : Float) (b : Bool) → (b ≡ true → known.time ≡ t) → b ≡ true → Refreshed M front front known t known
+kept_instant M front known t b f h = record { ready = λ r. r; time = f h; long = refl }
 
-pub new_instant : (M : Model) (base : ℕ) (w y : List Float) (known : Instant) (t : Float) (r : Instant) → base ≡ front_size M.fixed.degree → base ≤ length w →
-    y ≡ at_left M t (mid_of 0 (base - 0) w) → r ≡ instant_of t →
-    Refreshed M w (put_mid 0 (base - 0) w y) known t r
+pub new_instant : (M : Model) (front y : List Float) (known : Instant) (t : Float) (r : Instant) → y ≡ at_left M t front → r ≡ instant_of t → Refreshed M front y known t r
 unfolding front_at
-new_instant M base w y known t r e h ey er =
-    let whole : List Float = put_mid 0 (base - 0) w y in
-    let long : length y ≡ base = ap length ey ∙ at_length M t (mid_of 0 (base - 0) w) ∙ ap length (front_part base w h) ∙ length-take-le base w h in
-    let fresh : Refreshed M w whole known t (instant_of t) = record {
-      ready = λ q.
-          let old : mid_of 0 (base - 0) w ≡ front_at M known.time = front_part base w h ∙ ap (λ (k : ℕ). take k w) e ∙ q.front in
-          record {
-            front = ap (λ (k : ℕ). take k whole) (sym e) ∙ put_front base w y h long ∙ ey ∙ ap (at_left M t) old
-                ∙ at_again M t known.time (prepared M.fixed.degree (replicate (front_size M.fixed.degree) zero64));
-            sky = refl;
-          };
+new_instant M front y known t r ey er =
+    let fresh : Refreshed M front y known t (instant_of t) = record {
+      ready = λ q. record {
+        holds = ey ∙ ap (at_left M t) q.holds ∙ at_again M t known.time (prepared M.fixed.degree (replicate (front_size M.fixed.degree) zero64));
+        sky = refl;
+      };
       time = refl;
-      only = subst (λ (k : ℕ). Only 0 k w whole) e (put_only base w y h long);
+      long = ap length ey ∙ at_length M t front;
     } in
-    subst (λ (x : Instant). Refreshed M w whole known t x) (sym er) fresh
+    subst (λ (x : Instant). Refreshed M front y known t x) (sym er) fresh
 
 -- ---- the force
 
-pub pulled : (M : Model) (base : ℕ) (w w' : List Float) (known here : Instant) (t : Float) (x g s p : Vector) (gm radius : Float) → base ≡ front_size M.fixed.degree → base ≤ length w' →
-    Refreshed M w w' known t here → gm ≡ get_or M.fixed.static 0 nan → radius ≡ get_or M.fixed.static 1 nan →
-    g ≡ gravity_with M.fixed.degree gm radius M.fixed.a M.fixed.b (mid_of 0 (base - 0) w') x → s ≡ tides_at here.moment x → p ≡ plus g s →
-    Pulled M w w' known t x (record { known = here; pull = p })
+pub pulled : (M : Model) (front front' : List Float) (known here : Instant) (t : Float) (x g s p : Vector) (gm radius : Float) →
+    Refreshed M front front' known t here → gm ≡ get_or M.fixed.static 0 nan → radius ≡ get_or M.fixed.static 1 nan →
+    g ≡ gravity_with M.fixed.degree gm radius M.fixed.a M.fixed.b front' x → s ≡ tides_at here.moment x → p ≡ plus g s →
+    Pulled M front front' known t x (record { known = here; pull = p })
 unfolding full_force tides_of
-pulled M base w w' known here t x g s p gm radius e h f em er eg es ep = record {
+pulled M front front' known here t x g s p gm radius f em er eg es ep = record {
   ready = f.ready;
   pull = λ r.
-      let r' : Ready M w' here = f.ready r in
-      let part : mid_of 0 (base - 0) w' ≡ front_at M t = front_part base w' h ∙ ap (λ (k : ℕ). take k w') e ∙ r'.front ∙ ap (front_at M) f.time in
+      let r' : Ready M front' here = f.ready r in
+      let part : front' ≡ front_at M t = r'.holds ∙ ap (front_at M) f.time in
       let sky : here.moment ≡ moment_of t = r'.sky ∙ ap moment_of f.time in
       let field : g ≡ gravity_at M t x = eg ∙ (λ i. gravity_with M.fixed.degree (em i) (er i) M.fixed.a M.fixed.b (part i) x) ∙ front_gravity M t x in
       ep ∙ (λ i. plus (field i) ((es ∙ ap (λ (m : Moment). tides_at m x) sky) i));
-  only = f.only;
+  long = f.long;
 }
 
 module _ (M : Model) (w w' : List Float) (known : Instant) (t : Float) (x : Vector) (force : Force) where
@@ -97,7 +82,7 @@ module _ (M : Model) (w w' : List Float) (known : Instant) (t : Float) (x : Vect
   full_chosen r e f = record {
     ready = λ g _. f.ready (g e);
     pull = λ g. f.pull (g e) ∙ sym (ap (λ (c : Force). attraction_of c M t x) e);
-    only = f.only;
+    long = f.long;
   }
 
   pub j2_chosen : (p : Vector) → force ≡ J2 → p ≡ j2_of x → Pushed force M w w known (attraction_of force M t x) (record { known = known; pull = p })
@@ -105,7 +90,7 @@ module _ (M : Model) (w w' : List Float) (known : Instant) (t : Float) (x : Vect
   j2_chosen p e f = record {
     ready = λ g. g;
     pull = λ g. f ∙ sym (ap (λ (c : Force). attraction_of c M t x) e);
-    only = only_same 0 (front_size M.fixed.degree) w;
+    long = refl;
   }
 
 pub accelerated : (force : Force) (M : Model) (w w' : List Float) (known : Instant) (arc : Arc) (e : List Float) (t u : Float) (x v f p i s : Vector) (g : Push) →
@@ -115,7 +100,7 @@ unfolding acceleration_of
 accelerated force M w w' known arc e t u x v f p i s g h ef eu ep ei es = record {
   ready = h.ready;
   pull = λ r. es ∙ simp (h.pull r, ei, ef, ep, eu);
-  only = h.only;
+  long = h.long;
 }
 
 -- ---- one step, from what each call gave
@@ -159,7 +144,6 @@ pub stepped : (force : Force) (M : Model) (w w1 w2 w3 w4 : List Float) (known : 
     velocity ≡ along_of s.velocity dv (step ⊘ number 6) →
     Moved force M w w4 known (step_of a t s) (record { known = p4.known; state = record { position = position; velocity = velocity } })
 stepped force M w w1 w2 w3 w4 known a t s p1 p2 p3 p4 x2 v2 x3 v3 x4 v4 dx position dv velocity q1 e2 e3 q2 e5 e6 q3 e8 e9 q4 e11 e12 e13 e14 =
-    let n : ℕ = front_size M.fixed.degree in
     record {
       ready = λ r. q4.ready (q3.ready (q2.ready (q1.ready r)));
       state = λ r.
@@ -167,35 +151,49 @@ stepped force M w w1 w2 w3 w4 known a t s p1 p2 p3 p4 x2 v2 x3 v3 x4 v4 dx posit
           let r2 = q2.ready r1 in
           let r3 = q3.ready r2 in
           rk a t s p1.pull x2 v2 p2.pull x3 v3 p3.pull x4 v4 p4.pull dx position dv velocity (q1.pull r) e2 e3 (q2.pull r1) e5 e6 (q3.pull r2) e8 e9 (q4.pull r3) e11 e12 e13 e14;
-      only = only_then 0 n 0 n 0 n w w2 w4
-          (only_then 0 n 0 n 0 n w w1 w2 q1.only q2.only (omega arith) (omega arith) (omega arith) (omega arith))
-          (only_then 0 n 0 n 0 n w2 w3 w4 q3.only q4.only (omega arith) (omega arith) (omega arith) (omega arith))
-          (omega arith) (omega arith) (omega arith) (omega arith);
+      long = q4.long ∙ q3.long ∙ q2.long ∙ q1.long;
     }
 
 -- ---- a run
 
-ready_kept : (M : Model) (a e : ℕ) (w w' : List Float) (known : Instant) → Only a e w w' → front_size M.fixed.degree ≤ a → front_size M.fixed.degree ≤ length w → Ready M w known
-    → Ready M w' known
-ready_kept M a e w w' known o h l r = record { front = take_only (front_size M.fixed.degree) a e w w' o h l ∙ r.front; sky = r.sky }
+-- the lent numbers w where those before the states, base of them, are made to be y, and then others behind them are changed
+module _ (base a e : ℕ) (w y w2 : List Float) (h : base ≤ length w) (long : length y ≡ base) (o : Only a e (put_mid 0 (base - 0) w y) w2) (g : base ≤ a) where
+  front_first : Only 0 base w (put_mid 0 (base - 0) w y)
+  front_first = put_only base w y h long
 
-pub advanced : (force : Force) (M : Model) (w w1 w2 : List Float) (base k : ℕ) (known : Instant) (a : Acceleration) (t0 t : Float) (s : State) (r : Stepped) →
-    k < 5302 → base ≡ front_size M.fixed.degree → base + run_size ≤ length w → t ≡ step_time t0 k → Moved force M w w1 known (step_of a t s) r → Stored w1 w2 (base + 6 * (k + 1)) r.state →
+  front_after : take base w2 ≡ y
+  front_after = take_only base a e (put_mid 0 (base - 0) w y) w2 o g (omega (arith, front_first.long)) ∙ put_front base w y h long
+
+front_part : (n : ℕ) (w : List Float) → take n w ≡ mid_of 0 (n - 0) w
+front_part n w = let e : n ≡ n - 0 = omega arith in ap (λ (k : ℕ). take k w) e
+
+pub advanced : (force : Force) (M : Model) (w y w2 : List Float) (base k : ℕ) (known : Instant) (a : Acceleration) (t0 t : Float) (s : State) (r : Stepped) →
+    k < 5302 → base + run_size ≤ length w → t ≡ step_time t0 k → Moved force M (mid_of 0 (base - 0) w) y known (step_of a t s) r →
+    Stored (put_mid 0 (base - 0) w y) w2 (base + 6 * (k + 1)) r.state →
     Advanced force M w w2 base k known (step_of a (step_time t0 k) s) r
-advanced force M w w1 w2 base k known a t0 t s r lk eb lw et m p =
+advanced force M w y w2 base k known a t0 t s r lk lw et m p =
+    let fits : base ≤ length w = omega arith in
+    let long : length y ≡ base = m.long ∙ ap length (sym (front_part base w)) ∙ length-take-le base w fits in
+    let first = front_first base (base + 6 * (k + 1)) (base + 6 * (k + 1) + 6) w y w2 fits long p.only (omega arith) in
+    let after : take base w2 ≡ y = front_after base (base + 6 * (k + 1)) (base + 6 * (k + 1) + 6) w y w2 fits long p.only (omega arith) in
+    let before : ReadyFor force M (take base w) known → ReadyFor force M (mid_of 0 (base - 0) w) known =
+    subst (λ (l : List Float). ReadyFor force M l known) (front_part base w) in
     record {
-      ready = λ g f. ready_kept M (base + 6 * (k + 1)) (base + 6 * (k + 1) + 6) w1 w2 r.known p.only (omega arith) (omega (arith, m.only.long)) (m.ready g f);
-      state = λ g. m.state g ∙ ap (λ (u : Float). step_of a u s) et;
-      position = p.position (omega (arith, m.only.long));
-      velocity = p.velocity (omega (arith, m.only.long));
-      states = λ i l h. p.only.same i (λ q z. omega arith) ∙ m.only.same i (λ q z. omega arith);
-      only = only_then 0 (base + run_size) 0 (front_size M.fixed.degree) (base + 6 * (k + 1)) (base + 6 * (k + 1) + 6) w w1 w2 m.only p.only (omega arith) (omega arith) (omega arith)
-          (omega arith);
+      ready = λ g. subst (λ (l : List Float). ReadyFor force M l r.known) (sym after) (m.ready (before g));
+      state = λ g. m.state (before g) ∙ ap (λ (u : Float). step_of a u s) et;
+      position = p.position (omega (arith, first.long));
+      velocity = p.velocity (omega (arith, first.long));
+      states = λ i l h. p.only.same i (λ q z. omega arith) ∙ first.same i (λ q z. omega arith);
+      only = only_then 0 (base + run_size) 0 base (base + 6 * (k + 1)) (base + 6 * (k + 1) + 6) w (put_mid 0 (base - 0) w y) w2 first p.only (omega arith) (omega arith)
+          (omega arith) (omega arith);
     }
 
-module _ (force : Force) (M : Model) (w w' : List Float) where
-  pub begun_j2 : (r : Instant) → force ≡ J2 → Begun force M w w r
-  begun_j2 r e = record { ready = λ f. absurd (other (sym e ∙ f)); only = only_same 0 (front_size M.fixed.degree) w }
+module _ (force : Force) (M : Model) (front front' : List Float) (r : Instant) where
+  pub begun_full : Ready M front' r × (length front' ≡ length front) → Begun force M front front' r
+  begun_full h = record { ready = λ f. h.0; long = h.1 }
+
+  pub begun_j2 : force ≡ J2 → Begun force M front front r
+  begun_j2 e = record { ready = λ f. absurd (other (sym e ∙ f)); long = refl }
     where
       other : J2 ≡ Full → ⊥
       other q = let z : ◌≡◌ {A = ℕ} 0 1 = cc in omega arith
@@ -204,19 +202,23 @@ module _ (force : Force) (M : Model) (w w' : List Float) where
 holds_kept : (w w' : List Float) (at : ℕ) (v : Vector) → ((i : ℕ) → at ≤ i → i < at + 3 → get_or w' i nan ≡ get_or w i nan) → Holds3 w at v → Holds3 w' at v
 holds_kept w w' at v f h = record { x = f at (omega arith) (omega arith) ∙ h.x; y = f (at + 1) (omega arith) (omega arith) ∙ h.y; z = f (at + 2) (omega arith) (omega arith) ∙ h.z }
 
-pub flown_first : (force : Force) (M : Model) (w w1 w2 : List Float) (base : ℕ) (known : Instant) (a : Acceleration) (t0 : Float) (start : State) →
-    base ≡ front_size M.fixed.degree → base + run_size ≤ length w → Begun force M w w1 known → Stored w1 w2 base start →
-    Orbit w2 base (state_at a t0 start) 1 × Only 0 (base + run_size) w w2 × ReadyFor force M w2 known
+pub flown_first : (force : Force) (M : Model) (w y w2 : List Float) (base : ℕ) (known : Instant) (a : Acceleration) (t0 : Float) (start : State) →
+    base + run_size ≤ length w → Begun force M (mid_of 0 (base - 0) w) y known → Stored (put_mid 0 (base - 0) w y) w2 base start →
+    Orbit w2 base (state_at a t0 start) 1 × Only 0 (base + run_size) w w2 × ReadyFor force M (take base w2) known
 unfolding state_at
-flown_first force M w w1 w2 base known a t0 start eb lw g p = (
-  orbit_first w1 w2 base (state_at a t0 start) start (omega (arith, g.only.long)) p refl,
-  only_then 0 (base + run_size) 0 (front_size M.fixed.degree) base (base + 6) w w1 w2 g.only p.only (omega arith) (omega arith) (omega arith) (omega arith),
-  λ f. ready_kept M base (base + 6) w1 w2 known p.only (omega arith) (omega (arith, g.only.long)) (g.ready f),
-)
+flown_first force M w y w2 base known a t0 start lw g p =
+    let fits : base ≤ length w = omega arith in
+    let long : length y ≡ base = g.long ∙ ap length (sym (front_part base w)) ∙ length-take-le base w fits in
+    let first = front_first base base (base + 6) w y w2 fits long p.only (omega arith) in
+    let after : take base w2 ≡ y = front_after base base (base + 6) w y w2 fits long p.only (omega arith) in (
+      orbit_first (put_mid 0 (base - 0) w y) w2 base (state_at a t0 start) start (omega (arith, first.long)) p refl,
+      only_then 0 (base + run_size) 0 base base (base + 6) w (put_mid 0 (base - 0) w y) w2 first p.only (omega arith) (omega arith) (omega arith) (omega arith),
+      subst (λ (l : List Float). ReadyFor force M l known) (sym after) g.ready,
+    )
 
 pub flown_more : (force : Force) (M : Model) (w w' : List Float) (base k : ℕ) (known : Instant) (a : Acceleration) (t0 : Float) (start s : State) (r : Stepped) →
-    s ≡ state_at a t0 start k → Orbit w base (state_at a t0 start) (k + 1) → ReadyFor force M w known → Advanced force M w w' base k known (step_of a (step_time t0 k) s) r →
-    (r.state ≡ state_at a t0 start (k + 1)) × Orbit w' base (state_at a t0 start) (k + 1 + 1) × ReadyFor force M w' r.known
+    s ≡ state_at a t0 start k → Orbit w base (state_at a t0 start) (k + 1) → ReadyFor force M (take base w) known → Advanced force M w w' base k known (step_of a (step_time t0 k) s) r →
+    (r.state ≡ state_at a t0 start (k + 1)) × Orbit w' base (state_at a t0 start) (k + 1 + 1) × ReadyFor force M (take base w') r.known
 unfolding state_at
 flown_more force M w w' base k known a t0 start s r es o g h =
     let run : Run = state_at a t0 start in

@@ -25,37 +25,37 @@ unfoldable pub front_at : Model → Float → List Float
 front_at M t = at_left M t (prepared M.fixed.degree (replicate (front_size M.fixed.degree) zero64))
 
 -- the numbers before the states are those of an instant, and so are Sun, Moon and tide
-pub record Ready (M : Model) (w : List Float) (known : Instant) : Type 0 where
-  pub front : take (front_size M.fixed.degree) w ≡ front_at M known.time
+pub record Ready (M : Model) (front : List Float) (known : Instant) : Type 0 where
+  pub holds : front ≡ front_at M known.time
   pub sky : known.moment ≡ moment_of known.time
 
 -- needed for the full force only
 abbrev pub ReadyFor : Force → Model → List Float → Instant → Type 0
-ReadyFor force M w known = force ≡ Full → Ready M w known
+ReadyFor force M front known = force ≡ Full → Ready M front known
 
 -- an instant was made that of time t
-pub record Refreshed (M : Model) (w w' : List Float) (known : Instant) (t : Float) (r : Instant) : Type 0 where
-  pub ready : Ready M w known → Ready M w' r
+pub record Refreshed (M : Model) (front front' : List Float) (known : Instant) (t : Float) (r : Instant) : Type 0 where
+  pub ready : Ready M front known → Ready M front' r
   pub time : r.time ≡ t
-  pub only : Only 0 (front_size M.fixed.degree) w w'
+  pub long : length front' ≡ length front
 
 -- the full attraction at t
-pub record Pulled (M : Model) (w w' : List Float) (known : Instant) (t : Float) (x : Vector) (r : Push) : Type 0 where
-  pub ready : Ready M w known → Ready M w' r.known
-  pub pull : Ready M w known → r.pull ≡ full_force M t x
-  pub only : Only 0 (front_size M.fixed.degree) w w'
+pub record Pulled (M : Model) (front front' : List Float) (known : Instant) (t : Float) (x : Vector) (r : Push) : Type 0 where
+  pub ready : Ready M front known → Ready M front' r.known
+  pub pull : Ready M front known → r.pull ≡ full_force M t x
+  pub long : length front' ≡ length front
 
 -- an acceleration, by the force chosen
-pub record Pushed (force : Force) (M : Model) (w w' : List Float) (known : Instant) (value : Vector) (r : Push) : Type 0 where
-  pub ready : ReadyFor force M w known → ReadyFor force M w' r.known
-  pub pull : ReadyFor force M w known → r.pull ≡ value
-  pub only : Only 0 (front_size M.fixed.degree) w w'
+pub record Pushed (force : Force) (M : Model) (front front' : List Float) (known : Instant) (value : Vector) (r : Push) : Type 0 where
+  pub ready : ReadyFor force M front known → ReadyFor force M front' r.known
+  pub pull : ReadyFor force M front known → r.pull ≡ value
+  pub long : length front' ≡ length front
 
 -- one step
-pub record Moved (force : Force) (M : Model) (w w' : List Float) (known : Instant) (value : State) (r : Stepped) : Type 0 where
-  pub ready : ReadyFor force M w known → ReadyFor force M w' r.known
-  pub state : ReadyFor force M w known → r.state ≡ value
-  pub only : Only 0 (front_size M.fixed.degree) w w'
+pub record Moved (force : Force) (M : Model) (front front' : List Float) (known : Instant) (value : State) (r : Stepped) : Type 0 where
+  pub ready : ReadyFor force M front known → ReadyFor force M front' r.known
+  pub state : ReadyFor force M front known → r.state ≡ value
+  pub long : length front' ≡ length front
 
 -- three numbers were put at a place, if they have room there
 pub record Placed (s s' : List Float) (at : ℕ) (v : Vector) : Type 0 where
@@ -70,17 +70,17 @@ pub record Stored (s s' : List Float) (at : ℕ) (state : State) : Type 0 where
 
 -- one step more, at its place
 pub record Advanced (force : Force) (M : Model) (w w' : List Float) (base k : ℕ) (known : Instant) (value : State) (r : Stepped) : Type 0 where
-  pub ready : ReadyFor force M w known → ReadyFor force M w' r.known
-  pub state : ReadyFor force M w known → r.state ≡ value
+  pub ready : ReadyFor force M (take base w) known → ReadyFor force M (take base w') r.known
+  pub state : ReadyFor force M (take base w) known → r.state ≡ value
   pub position : Holds3 w' (base + 6 * (k + 1)) r.state.position
   pub velocity : Holds3 w' (base + 6 * (k + 1) + 3) r.state.velocity
   pub states : (i : ℕ) → base ≤ i → i < base + 6 * (k + 1) → slice_index_or w' i nan ≡ slice_index_or w i nan
   pub only : Only 0 (base + run_size) w w'
 
 -- the first instant of a run
-pub record Begun (force : Force) (M : Model) (w w' : List Float) (r : Instant) : Type 0 where
-  pub ready : ReadyFor force M w' r
-  pub only : Only 0 (front_size M.fixed.degree) w w'
+pub record Begun (force : Force) (M : Model) (front front' : List Float) (r : Instant) : Type 0 where
+  pub ready : ReadyFor force M front' r
+  pub long : length front' ≡ length front
 
 -- a run of so many steps
 pub record Flown (w w' : List Float) (base steps : ℕ) (run : Run) : Type 0 where

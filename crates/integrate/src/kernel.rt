@@ -79,6 +79,7 @@ pub fn element(s: &[f64], i: usize) -> f64
 }
 
 // Whether two times are the same to the bit; a NaN is never known.
+// kept: `==` takes −0.0 for +0.0, and `to_bits` asks that its number is no NaN.
 fn same_bits(a: f64, b: f64) -> bool
     ensures { result ≡ true → a ≡ b }
 {
@@ -198,34 +199,32 @@ struct Flight<'a> {
 
 impl<'a> Flight<'a> {
     // The first instant of a run.
-    fn open(&self, w: &mut [f64]) -> Instant
-        requires { self.now.base ≤ length w.old }
-        ensures { Ready (model_of self.now.model) w.new result × Only 0 (front_size self.now.model.degree) w.old
-            w.new }
+    fn open(&self, front: &mut [f64]) -> Instant
+        requires { length front.old ≡ front_size self.now.model.degree }
+        ensures { Ready (model_of self.now.model) front.new result × (length front.new ≡ length front.old) }
     {
         let t = self.arc.t0;
-        fill(self.model, t, &mut w[0..self.base]);
+        fill(self.model, t, front);
         Instant::of(t)
     }
 
     // The instant of t; what is known stays where t is the same to the bit.
-    fn refresh(&self, known: Instant, t: f64, w: &mut [f64]) -> Instant
-        requires { self.now.base ≤ length w.old }
-        ensures { Refreshed (model_of self.now.model) w.old w.new known t result }
+    // kept: `known, t`: the instant that is held and the time that is wanted. Each call answers a new instant, so a struct of both would be made anew for each.
+    fn refresh(&self, known: Instant, t: f64, front: &mut [f64]) -> Instant
+        ensures { Refreshed (model_of self.now.model) front.old front.new known t result }
     {
         if same_bits(known.time, t) {
             return known;
         }
-        model::kernel::at(self.model, t, &mut w[0..self.base]);
+        model::kernel::at(self.model, t, front);
         Instant::of(t)
     }
 
     // The full model's attraction with the tides.
-    fn full_pull(&self, known: Instant, t: f64, x: vectors::Vector, w: &mut [f64]) -> Push
-        requires { self.now.base ≤ length w.old }
-        ensures { Pulled (model_of self.now.model) w.old w.new known t x result }
+    fn full_pull(&self, known: Instant, t: f64, x: vectors::Vector, front: &mut [f64]) -> Push
+        ensures { Pulled (model_of self.now.model) front.old front.new known t x result }
     {
-        let here = self.refresh(known, t, w);
+        let here = self.refresh(known, t, front);
         let model = self.model;
         let g = forces::kernel::gravity(
             model.degree,
@@ -233,20 +232,19 @@ impl<'a> Flight<'a> {
             element(model.static_field, 1),
             model.table_a,
             model.table_b,
-            &w[0..self.base],
+            &front[..],
             x,
         );
         let pull = vectors::add(g, forces::kernel::tides_at(here.moment, x));
         Push { known: here, pull }
     }
 
-    fn attraction(&self, known: Instant, t: f64, x: vectors::Vector, w: &mut [f64]) -> Push
-        requires { self.now.base ≤ length w.old }
-        ensures { Pushed self.now.force (model_of self.now.model) w.old w.new known
+    fn attraction(&self, known: Instant, t: f64, x: vectors::Vector, front: &mut [f64]) -> Push
+        ensures { Pushed self.now.force (model_of self.now.model) front.old front.new known
             (attraction_of self.now.force (model_of self.now.model) t x) result }
     {
         match self.force {
-            Force::Full => self.full_pull(known, t, x, w),
+            Force::Full => self.full_pull(known, t, x, front),
             Force::J2 => {
                 let pull = forces::kernel::j2_gravity(x);
                 Push { known, pull }
@@ -260,13 +258,12 @@ impl<'a> Flight<'a> {
         t: f64,
         x: vectors::Vector,
         v: vectors::Vector,
-        w: &mut [f64],
+        front: &mut [f64],
     ) -> Push
-        requires { self.now.base ≤ length w.old }
-        ensures { Pushed self.now.force (model_of self.now.model) w.old w.new known
+        ensures { Pushed self.now.force (model_of self.now.model) front.old front.new known
             (acceleration_of (attraction_of self.now.force (model_of self.now.model)) self.now.arc self.now.strengths t x v) result }
     {
-        let g = self.attraction(known, t, x, w);
+        let g = self.attraction(known, t, x, front);
         let f = forces::kernel::fictitious(x, v);
         let p = forces::kernel::empirical(x, v, argument(self.arc, t), self.strengths);
         let pull = vectors::add(g.pull, vectors::add(f, p));
@@ -277,27 +274,26 @@ impl<'a> Flight<'a> {
     }
 
     // One step by the classical Runge-Kutta rule.
-    fn step(&self, known: Instant, t: f64, s: State, w: &mut [f64]) -> Stepped
-        requires { self.now.base ≤ length w.old }
-        ensures { Moved self.now.force (model_of self.now.model) w.old w.new known
+    fn step(&self, known: Instant, t: f64, s: State, front: &mut [f64]) -> Stepped
+        ensures { Moved self.now.force (model_of self.now.model) front.old front.new known
             (step_of (acceleration_of (attraction_of self.now.force (model_of self.now.model)) self.now.arc self.now.strengths) t s) result }
     {
         let h = STEP;
         let x = s.position;
         let v = s.velocity;
-        let p1 = self.acceleration(known, t, x, v, w);
+        let p1 = self.acceleration(known, t, x, v, front);
         let a1 = p1.pull;
         let x2 = along(x, v, h / 2.0);
         let v2 = along(v, a1, h / 2.0);
-        let p2 = self.acceleration(p1.known, t + h / 2.0, x2, v2, w);
+        let p2 = self.acceleration(p1.known, t + h / 2.0, x2, v2, front);
         let a2 = p2.pull;
         let x3 = along(x, v2, h / 2.0);
         let v3 = along(v, a2, h / 2.0);
-        let p3 = self.acceleration(p2.known, t + h / 2.0, x3, v3, w);
+        let p3 = self.acceleration(p2.known, t + h / 2.0, x3, v3, front);
         let a3 = p3.pull;
         let x4 = along(x, v3, h);
         let v4 = along(v, a3, h);
-        let p4 = self.acceleration(p3.known, t + h, x4, v4, w);
+        let p4 = self.acceleration(p3.known, t + h, x4, v4, front);
         let a4 = p4.pull;
         let position = along(x, weighed(v, v2, v3, v4), h / 6.0);
         let velocity = along(v, weighed(a1, a2, a3, a4), h / 6.0);
@@ -316,18 +312,18 @@ impl<'a> Flight<'a> {
             (step_of (acceleration_of (attraction_of self.now.force (model_of self.now.model)) self.now.arc self.now.strengths) (step_time self.now.arc.t0 k) s) result }
     {
         let t = time(self.arc.t0, k);
-        let next = self.step(known, t, s, w);
+        let next = self.step(known, t, s, &mut w[0..self.base]);
         put_state(w, self.base + 6 * (k + 1), next.state);
         next
     }
 
     // The instant that a run begins with; the force without a model needs none.
-    fn begin(&self, w: &mut [f64]) -> Instant
-        requires { self.now.base ≤ length w.old }
-        ensures { Begun self.now.force (model_of self.now.model) w.old w.new result }
+    fn begin(&self, front: &mut [f64]) -> Instant
+        requires { length front.old ≡ front_size self.now.model.degree }
+        ensures { Begun self.now.force (model_of self.now.model) front.old front.new result }
     {
         match self.force {
-            Force::Full => self.open(w),
+            Force::Full => self.open(front),
             Force::J2 => Instant::of(self.arc.t0),
         }
     }
@@ -339,7 +335,7 @@ impl<'a> Flight<'a> {
         ensures { Flown w.old w.new self.now.base self.now.arc.steps
             (state_at (acceleration_of (attraction_of self.now.force (model_of self.now.model)) self.now.arc self.now.strengths) self.now.arc.t0 start) }
     {
-        let mut known = self.begin(w);
+        let mut known = self.begin(&mut w[0..self.base]);
         let mut state = start;
         put_state(w, self.base, state);
         for k in 0..self.arc.steps {

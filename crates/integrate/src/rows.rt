@@ -10,11 +10,11 @@ pub fn state_at(
     states: inputs::Keyed<'_>,
     second: numbers::GpsSecond,
 ) -> Option<crate::kernel::State>
-    requires { rising_seconds states.keys.now ≡ true }
-    ensures { result ≡ find_in second.0 (states_in (keyed_of states.entry)) }
+    ensures { rising_seconds states.entry.keys.now ≡ true
+        → result ≡ find_in second.0 (states_in (keyed_of states.entry)) }
 {
     let place = slices::find(states.keys, second.0)?;
-    Some(crate::kernel::state_in(states.values, 6 * place))
+    Some(crate::kernel::state_in(states.values, place.saturating_mul(6)))
 }
 
 // The number at a second.

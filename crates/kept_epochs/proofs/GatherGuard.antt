@@ -8,6 +8,7 @@ use lib.Dec.{leb, eqb}
 use lib.IntN.{ℤ}
 use lib.Ieee.{Float}
 use lib.ListN.{length, replicate, length-replicate}
+use Rattle.std.specs.Prelude.{None, Some}
 use borrow.Author.Tests.{leb-true, eqb-true}
 use Rattle.inputs.specs.Inputs.{front_size, Front}
 use Rattle.laws.specs.Floats.{zero64}
@@ -96,12 +97,12 @@ module _ (g : Given) (ts rs s : List Float) (base : ℕ)
 -- ---- the call
 
 module _ (g : Given) (ok serves : Bool) (e : ok ≡ serves) (ts rs s : List Float) where
-  pub gathered : (ts' rs' s' : List Float) (r : ℕ) → ok ≡ true → Done g (front_size g.model.fixed.degree) s s' ts' rs' r → Gathered g serves ts rs s ts' rs' s' r
+  pub gathered : (ts' rs' s' : List Float) (r : ℕ) → ok ≡ true → Done g (front_size g.model.fixed.degree) s s' ts' rs' r → Gathered g serves ts rs s ts' rs' s' (Some r)
   gathered ts' rs' s' r h d = record {
     long = d.long;
-    is = λ k x y sc sd. d.is x y (record { of_c = sc; of_d = sd });
+    is = λ k. (r, refl, λ x y sc sd. d.is x y (record { of_c = sc; of_d = sd }));
     unfit = λ k. absurd (false≢true (sym k ∙ sym e ∙ h));
   }
 
-  pub not_gathered : ok ≡ false → Gathered g serves ts rs s ts rs s 0
+  pub not_gathered : ok ≡ false → Gathered g serves ts rs s ts rs s None
   not_gathered h = record { long = refl; is = λ k. absurd (false≢true (sym h ∙ e ∙ k)); unfit = λ k. (refl, refl, refl, refl) }

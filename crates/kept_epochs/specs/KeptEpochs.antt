@@ -56,13 +56,13 @@ pub record Listed (m : ℕ) (es : List Epoch) (ts rs : List Float) (n : ℕ) : T
   pub times : ts ≡ published m (map time es)
   pub raws : rs ≡ published m (map residual es)
 
--- `gather`: the kept epochs are listed, whatever states the slots hold; nothing is done where the slices do not serve
-pub record Gathered (g : Given) (serves : Bool) (outtimes outraws s outtimes' outraws' s' : List Float) (r : ℕ) : Type 0 where
+-- `gather`: the kept epochs are listed and counted, whatever states the slots hold; no count, and nothing is done, where the slices do not serve
+pub record Gathered (g : Given) (serves : Bool) (outtimes outraws s outtimes' outraws' s' : List Float) (r : Option ℕ) : Type 0 where
   pub long : length s' ≡ length s
-  pub is : serves ≡ true → (c d : ℕ → Table State) → SlotsHold s (slot_at (front_size g.model.fixed.degree) 0 0) c g.windows
+  pub is : serves ≡ true → (n : ℕ) × (r ≡ Some n) × ((c d : ℕ → Table State) → SlotsHold s (slot_at (front_size g.model.fixed.degree) 0 0) c g.windows
       → SlotsHold s (slot_at (front_size g.model.fixed.degree) 1 0) d g.windows →
-      Listed (length g.observed.obs_times) (kept_in g c d) outtimes' outraws' r
-  pub unfit : serves ≡ false → (r ≡ 0) × (outtimes' ≡ outtimes) × (outraws' ≡ outraws) × (s' ≡ s)
+      Listed (length g.observed.obs_times) (kept_in g c d) outtimes' outraws' n)
+  pub unfit : serves ≡ false → (r ≡ None) × (outtimes' ≡ outtimes) × (outraws' ≡ outraws) × (s' ≡ s)
 
 -- ---- between the parts of the code
 

@@ -18,6 +18,7 @@ pub struct Given<'a> {
 }
 
 // Both satellites' states and accelerometer values at the whole part of t; `first` is the slot of C's first window.
+#[tactic(auto, using(crate::proofs::LookUps::found))]
 fn look(
     s: &[f64],
     first: usize,
@@ -37,6 +38,7 @@ fn look(
 }
 
 // Stores time and residual at the next place, where the epoch is kept.
+#[tactic(auto, using(crate::proofs::Turns::added_kept, crate::proofs::Turns::added_not))]
 fn add(
     made: Option<epoch_record::Epoch>,
     count: usize,
@@ -57,6 +59,7 @@ fn add(
 }
 
 // Observation i.
+#[tactic(auto, using(crate::proofs::Turns::room_left))]
 fn turn(
     given: Given<'_>,
     i: usize,
@@ -127,13 +130,19 @@ fn serves(given: Given<'_>, outtimes: usize, outraws: usize, room: usize) -> boo
 }
 
 // Times and residuals of the kept epochs, in order, +0.0 after the last, and how many there are. None, and nothing is done, where the slices do not serve.
-pub fn gather(given: Given<'_>, outtimes: &mut [f64], outraws: &mut [f64], s: &mut [f64]) -> usize
+#[tactic(auto, using(crate::proofs::GatherGuard::gathered, crate::proofs::GatherGuard::not_gathered))]
+pub fn gather(
+    given: Given<'_>,
+    outtimes: &mut [f64],
+    outraws: &mut [f64],
+    s: &mut [f64],
+) -> Option<usize>
     ensures { Gathered (given_of given.entry)
         (serves_of given.entry (length outtimes.old) (length outraws.old) (length s.old)) outtimes.old
         outraws.old s.old outtimes.new outraws.new s.new result }
 {
     if serves(given, outtimes.len(), outraws.len(), s.len()) {
-        return gather_all(given, outtimes, outraws, s);
+        return Some(gather_all(given, outtimes, outraws, s));
     }
-    0
+    None
 }

@@ -1,7 +1,8 @@
 -- What a call tests of its lists, as Bools that compute, and what each says of every element: finite, within 0 to 2^31, strictly rising. Assumes nothing.
 use Rattle.std.specs.List.{list_all}
-use Rattle.std.specs.Prelude.{◌≡◌, refl, Bool, true, ◌&&◌, List, [], ◌∷◌, ℕ, T, leb, ℤ, pos, negsuc, Float}
-use Rattle.std.proofs.Common.{subst, ltb→lt, lt→ltb, arith}
+use Rattle.std.specs.Prelude.{◌≡◌, refl, Bool, true, ◌&&◌, List, [], ◌∷◌, map, ℕ, T, leb, ℤ, pos, negsuc, Float}
+use Rattle.std.proofs.Common.{sym, subst, ltb→lt, lt→ltb, arith}
+use Rattle.std.proofs.lemmas.List.Folds.{list_all-map}
 use Rattle.std.specs.Int.Signed.{lt_z, le_z}
 use Rattle.std.specs.Float.Ieee.{of_bits, le, lt}
 use Rattle.std.specs.Float.Ieee.Fits.{and_l, and_r, and_i}
@@ -42,9 +43,15 @@ abbrev pub rising_seconds : List ℤ → Bool
 rising_seconds ks = ascending lt_z ks
 
 -- ---- what they say
+
+-- for types of any universe: std's `list_all` is of the lowest alone, so it is asked of the answers
+pub all_says_each {ℓ} : {A : Type ℓ} (test : A → Bool) (xs : List A) → T (list_all (λ (b : Bool). b) (map test xs)) → All (λ x. T (test x)) xs
+all_says_each test [] h = tt
+all_says_each test (x ∷ xs) h =
+    let rest : Bool = list_all (λ (b : Bool). b) (map test xs) in (and_l (test x) rest h, all_says_each test xs (and_r (test x) rest h))
+
 pub all_says : {A : Type 0} (test : A → Bool) (xs : List A) → T (list_all test xs) → All (λ x. T (test x)) xs
-all_says test [] h = tt
-all_says test (x ∷ xs) h = (and_l (test x) (list_all test xs) h, all_says test xs (and_r (test x) (list_all test xs) h))
+all_says test xs h = all_says_each test xs (subst T (sym (list_all-map (λ (b : Bool). b) test xs)) h)
 
 latest_is : latest ≡ bound
 unfolding of_bits
@@ -57,9 +64,14 @@ time_says t h =
     let high : T (le t bound) = subst (λ (x : Float). T (le t x)) latest_is (and_r (le zero64 t) (le t latest) h) in
     record { is_finite = between zero⁺ t bound tt tt low high; from_zero = low; to_bound = high }
 
+pub times_say_each {ℓ} : {A : Type ℓ} (time : A → Float) (xs : List A) → T (list_all is_time (map time xs)) → All (λ x. Time (time x)) xs
+times_say_each time [] h = tt
+times_say_each time (x ∷ xs) h =
+    let rest : Bool = list_all is_time (map time xs) in
+    (time_says (time x) (and_l (is_time (time x)) rest h), times_say_each time xs (and_r (is_time (time x)) rest h))
+
 pub times_say : {A : Type 0} (time : A → Float) (xs : List A) → T (list_all (λ x. is_time (time x)) xs) → All (λ x. Time (time x)) xs
-times_say {A = A} time xs h = all_map (λ (x : A). T (is_time (time x))) (λ (x : A). Time (time x)) xs (λ x k. time_says (time x) k)
-    (all_says (λ (x : A). is_time (time x)) xs h)
+times_say time xs h = times_say_each time xs (subst T (sym (list_all-map is_time time xs)) h)
 
 pub rising_says : (ts : List Float) → T (list_all finite ts) → T (rising ts) → Rising ts
 rising_says [] f r = tt

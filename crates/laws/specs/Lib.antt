@@ -20,8 +20,8 @@
 --                                                                                       whole_second_law, Rising,
 --                                                                                       RisingSeconds, end, reaches, appended
 -- what a call tests of its lists, as Bools                              Checks          is_time, is_key, degree_fine, ascending, rising, rising_seconds
--- what those tests say of each element                                  Checks          all_says, time_says, times_say, rising_says, rising_times_say,
---                                                                                       seconds_say
+-- what those tests say of each element                                  Checks          all_says_each, all_says, time_says, times_say_each, times_say,
+--                                                                                       rising_says, rising_times_say, seconds_say
 -- one turn of a loop that fills a list                                  Loops           head_at, turn, turn_done, take_set, fill_turn, fill_done, cleared,
 --                                                                                       same_cleared
 -- values at the front of m places, one more value; +0.0 or 0 in the rest Loops           filled_up, filled_length, filled_front, filled_none, filled_set

@@ -65,9 +65,9 @@ module _ (rows y : List Float) (p : ℕ) (b r : List Float) (h : refusal rows y 
   ols_none g = else_is ∙ simp (sym solvable_is ∙ g)
 
   -- what the residuals ask for
-  pub ols_room : t ≡ true → (length rows ≡ length y * p) × (length b' ≡ p) × (length r ≡ length y)
+  pub ols_room : t ≡ true → (length b' ≡ p) × (length r ≡ length y)
   unfolding solved
-  ols_room g = (passed.full, ap length (ols_found g) ∙ row_length _ p, passed.count)
+  ols_room g = (ap length (ols_found g) ∙ row_length _ p, passed.count)
 
   pub ols_failed : t ≡ false → (b'' r' : List Float) → b'' ≡ cleared b' → r' ≡ cleared r → left (Err Singular) (b'' ∷ r' ∷ []) [] ≡ least_squares_call rows y p b r
   unfolding least_squares_call failure
@@ -104,6 +104,6 @@ module _ (rows y : List Float) (p : ℕ) (b r : List Float) (h : refusal rows y 
         → left (Err NotFinite) (b'' ∷ r'' ∷ []) [] ≡ least_squares_call rows y p b r
     unfolding least_squares_call
     ols_unfit q b'' r'' e1 e2 =
-        let lb : length b' ≡ length b = (ols_room g).1 ∙ sym passed.room in
+        let lb : length b' ≡ length b = (ols_room g).0 ∙ sym passed.room in
         (λ i. left (Err NotFinite) ((e1 ∙ same_cleared b' b lb) i ∷ (e2 ∙ same_cleared r' r same_long) i ∷ []) [])
         ∙ call_handed _ (b ∷ r ∷ []) [] _ _ tt false h no_failure (fine_is false q)

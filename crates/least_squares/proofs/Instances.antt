@@ -23,12 +23,16 @@ four = bits 0x4010000000000000
 abbrev minus_one : Float
 minus_one = bits 0xbff0000000000000
 
-pub fits : least_squares_call (one64 ∷ one64 ∷ []) (two64 ∷ four ∷ []) 1 (zero64 ∷ []) (zero64 ∷ zero64 ∷ []) ≡ left accepted ((three ∷ []) ∷ (minus_one ∷ one64 ∷ []) ∷ []) []
-unfolding of_bits of_fields odd units round sum add sub mul div neg lt le ne eq span climb size sum_to magnitude row swapped eliminated reaches largest pivot_row too_small turn stage singular fine value_at
+pub fits : least_squares_call (one64 ∷ one64 ∷ []) (two64 ∷ four ∷ []) 1 (zero64 ∷ []) (zero64 ∷ zero64 ∷ [])
+    ≡ left accepted ((three ∷ []) ∷ (minus_one ∷ one64 ∷ []) ∷ []) []
+unfolding of_bits of_fields odd units round sum add sub mul div neg lt le ne eq span climb size sum_to magnitude
+    row swapped eliminated reaches largest pivot_row too_small turn stage singular fine value_at
     normal_at solvable coefficient_at solved fitted_at residual_at residuals_of up_to refusal failure least_squares_call
 fits = refl
 
-pub refused : least_squares_call (zero64 ∷ zero64 ∷ []) (two64 ∷ four ∷ []) 1 (one64 ∷ []) (one64 ∷ one64 ∷ []) ≡ left (Err Singular) ((zero64 ∷ []) ∷ (zero64 ∷ zero64 ∷ []) ∷ []) []
-unfolding of_bits of_fields odd units round sum add sub mul div neg lt le ne eq span climb size sum_to magnitude row swapped eliminated reaches largest pivot_row too_small turn stage singular fine value_at
+pub refused : least_squares_call (zero64 ∷ zero64 ∷ []) (two64 ∷ four ∷ []) 1 (one64 ∷ []) (one64 ∷ one64 ∷ [])
+    ≡ left (Err Singular) ((zero64 ∷ []) ∷ (zero64 ∷ zero64 ∷ []) ∷ []) []
+unfolding of_bits of_fields odd units round sum add sub mul div neg lt le ne eq span climb size sum_to magnitude
+    row swapped eliminated reaches largest pivot_row too_small turn stage singular fine value_at
     normal_at solvable coefficient_at solved fitted_at residual_at residuals_of up_to refusal failure least_squares_call
 refused = refl

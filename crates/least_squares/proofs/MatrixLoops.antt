@@ -67,10 +67,6 @@ ltb_step j k h =
     (λ e. e ∙ sym (lt-ltb j (k + 1) (omega (arith, ltb-true j k e))))
     (λ e. e ∙ sym (le-ltb j (k + 1) (omega (arith, ltb-false j k e))))
 
--- an element of a flat list of n rows of p
-pub row_in : (r n p j : ℕ) → r < n → j < p → r * p + j < n * p
-row_in r n p j a b = omega (arith, mul-le-mul_right p a, suc-mul r p)
-
 pub holds_same : (l : List Float) (m m' : Matrix) → Holds l m → ((i j : ℕ) → i < 15 → j < 16 → m i j ≡ m' i j) → Holds l m'
 holds_same l m m' h e = record { long = h.long; at = λ i j a b. h.at i j a b ∙ e i j a b }
 
@@ -261,9 +257,6 @@ fine_not p l c (suc n) h s =
     by (fine_in p l n) (λ t. simp (t, q)) (λ t. simp t))
     (λ e. simp (fine_not p l c n (omega (arith, eqb-false c n e)) s))
 
-pub length_flatten : (m : Matrix) → length (flatten m) ≡ 240
-length_flatten m = (flat_holds m).long
-
 -- an element of a flat list of n rows of p, and the row's end
 pub row_end : (r n p : ℕ) → r < n → r * p + p ≤ n * p
 row_end r n p a = omega (arith, mul-le-mul_right p a, suc-mul r p)
@@ -277,7 +270,3 @@ filled_all rows y p l l₀ e h =
     by (ltb i p)
     (λ t. by (ltb j (p + 1)) (λ u. simp (t, u)) (λ u. simp (t, u) z))
     (λ t. by (eqb i p) (λ u. simp (t, u, le-ltb j 0 (omega arith)) z) (λ u. simp (t, u) z))))
-
-pub length_equations : (rows y : List Float) (p : ℕ) → length (equations rows y p) ≡ 240
-unfolding equations
-length_equations rows y p = length_flatten (augmented p (normal_at rows y p))

@@ -1,6 +1,6 @@
 -- Least squares by the normal equations (document 01, module 4, `ols`). The design's rows lie end to end, p numbers each; the normal equations are
 -- summed over the rows in order. Assumes nothing.
-use Rattle.std.specs.Prelude.{ℕ, ◌+◌, ◌*◌, Bool, cond, List, ltb, Float, get_or, length}
+use Rattle.std.specs.Prelude.{ℕ, ◌+◌, ◌*◌, Bool, cond, List, ltb, Float, get_or, length, min}
 use Rattle.std.specs.Float.{nan}
 use Rattle.laws.specs.Floats.{◌⊖◌, ◌⊗◌, ◌⊘◌}
 use Rattle.laws.specs.Sums.{sum_to}
@@ -25,6 +25,10 @@ coefficient_at m p i = m i p ⊘ m i i
 
 unfoldable pub solved : List Float → List Float → ℕ → List Float
 solved rows y p = row (coefficient_at (stage p (normal_at rows y p) p) p) p
+
+-- what the coefficients give for a row, as far as both reach
+unfoldable pub fitted : List Float → List Float → Float
+fitted row beta = sum_to (λ (j : ℕ). get_or row j nan ⊗ get_or beta j nan) (min (length row) (length beta))
 
 -- what the coefficients give for row r
 unfoldable pub fitted_at : List Float → List Float → ℕ → ℕ → Float

@@ -3,7 +3,8 @@ ghost use Rattle.std.specs.Prelude.{◌≡◌, true, ◌+◌, ◌*◌, ◌-◌, 
 ghost use Rattle.laws.specs.Tables.{row};
 ghost use Rattle.least_squares.specs.Elimination.{reaches as reaches_of, largest, too_small};
 ghost use Rattle.least_squares.specs.Flat.{view, flatten, swapped_to, reduced_to, eliminated_to, stage_in, fine_in, equations};
-ghost use Rattle.least_squares.specs.LeastSquares.{value_at, normal_at, coefficient_at};
+ghost use Rattle.least_squares.specs.LeastSquares.{value_at, normal_at, coefficient_at, solvable, residuals_of};
+ghost use Rattle.least_squares.specs.Kernel.{solved_else};
 
 use numbers::magnitude;
 
@@ -78,6 +79,31 @@ impl<'a> Design<'a> {
         }
         Equations { a, p: self.p }
     }
+
+    // Whether there are coefficients. They go to beta, which stays otherwise.
+    pub fn solve(self, beta: &mut [f64]) -> bool
+        requires { length beta.old ≡ self.p }
+        ensures { (result ≡ solvable self.entry.rows.now self.entry.y.now self.entry.p)
+            × (beta.new ≡ solved_else self.entry.rows.now self.entry.y.now self.entry.p beta.old) }
+    {
+        let mut equations = self.equations();
+        let solved = equations.solve();
+        if solved {
+            equations.solution(beta);
+        }
+        solved
+    }
+
+    // Each observation less what the coefficients give for its row.
+    pub fn residuals(self, beta: &[f64], residuals: &mut [f64])
+        requires { (length beta.now ≡ self.p) × (length residuals.old ≡ length self.y.now) }
+        ensures { residuals.new ≡ residuals_of self.entry.rows.now self.entry.y.now self.entry.p beta.now }
+    {
+        for r in 0..self.y.len() {
+            let at = r * self.p;
+            residuals[r] = self.y[r] - crate::fitted(&self.rows[at..at + self.p], beta);
+        }
+    }
 }
 
 impl Equations {
@@ -96,16 +122,14 @@ impl Equations {
         best
     }
 
+    // kept: `c < self.old.p` bounds an index, which `solve` counts: a struct of both would be built anew for each call.
     fn swap_rows(&mut self, c: usize, q: usize)
         requires { (c < self.old.p) × (q < self.old.p) }
         ensures { (self.new.a ≡ flatten (swapped_to c q (self.old.p + 1) (view self.old.a))) × (self.new.p ≡ self.old.p) }
     {
         let w = self.p + 1;
         for k in 0..w {
-            let u = self.a[c * 16 + k];
-            let v = self.a[q * 16 + k];
-            self.a[c * 16 + k] = v;
-            self.a[q * 16 + k] = u;
+            self.a.swap(c * 16 + k, q * 16 + k);
         }
     }
 

@@ -1,23 +1,10 @@
 // Least squares without residuals, with no tests of what the slices hold.
-ghost use Rattle.std.specs.Prelude.{◌≡◌, ◌*◌, ◌≤◌, length};
-ghost use Rattle.least_squares.specs.LeastSquares.{solvable};
-ghost use Rattle.least_squares.specs.Kernel.{shape_fits, solved_else, solvable_for, coefficients_of, estimate, estimate15};
+ghost use Rattle.std.specs.Prelude.{◌≡◌, length};
+ghost use Rattle.least_squares.specs.Kernel.{shape_fits, solvable_for, coefficients_of, estimate, estimate15};
 
 use crate::equations::Design;
 
-fn solve_for(rows: &[f64], y: &[f64], p: usize, beta: &mut [f64]) -> bool
-    requires { (length rows.now ≡ length y.now * p) × (p ≤ 15) × (length beta.old ≡ p) }
-    ensures { (result ≡ solvable rows.now y.now p)
-        × (beta.new ≡ solved_else rows.now y.now p beta.old) }
-{
-    let mut equations = Design { rows, y, p }.equations();
-    let solved = equations.solve();
-    if solved {
-        equations.solution(beta);
-    }
-    solved
-}
-
+// kept: here and in the public calls `rows, y` are lent one by one, as document 01 has them: a `Design` is made where this has said that they fit.
 // Whether rows has p columns, at most 15, for each of y, and there is a place for each coefficient.
 #[tactic(auto, unfolding(crate::specs::Kernel::shape_fits))]
 fn shape(rows: &[f64], y: &[f64], p: usize, nb: usize) -> bool
@@ -33,7 +20,7 @@ pub fn coefficients(rows: &[f64], y: &[f64], p: usize, beta: &mut [f64]) -> bool
     ensures { (result ≡ solvable_for rows.now y.now p (length beta.old))
         × (beta.new ≡ coefficients_of rows.now y.now p beta.old) }
 {
-    shape(rows, y, p, beta.len()) && solve_for(rows, y, p, beta)
+    shape(rows, y, p, beta.len()) && Design { rows, y, p }.solve(beta)
 }
 
 // The same for a number of columns that is known beforehand.

@@ -4,33 +4,25 @@
 mod equations;
 pub mod kernel;
 
-ghost use Rattle.std.specs.Prelude.{◌≡◌, [], ◌∷◌, ◌+◌, ◌*◌, ◌≤◌, ◌<◌, length};
+ghost use Rattle.std.specs.Prelude.{◌≡◌, [], ◌∷◌};
 ghost use Rattle.slices.specs.Calls.{left};
-ghost use Rattle.least_squares.specs.LeastSquares.{fitted_at, residuals_of};
+ghost use Rattle.least_squares.specs.LeastSquares.{fitted};
 ghost use Rattle.least_squares.specs.Calls.{up_to, refusal as refusal_of, least_squares_call};
 
+use crate::equations::Design;
 use slices::Refusal;
 
-// What the coefficients give for row r.
-#[tactic(auto, using(laws::specs::Sums::sum_more), unfolding(laws::specs::Sums::sum_to, crate::specs::LeastSquares::fitted_at))]
-pub fn fitted(rows: &[f64], beta: &[f64], p: usize, r: usize) -> f64
-    requires { (length beta.now ≡ p) × (r * p + p ≤ length rows.now) }
-    ensures { result ≡ fitted_at rows.now beta.now p r }
+// What the coefficients give for a row: the sum of the products, as far as both reach.
+#[tactic(auto, using(laws::specs::Sums::sum_more), unfolding(laws::specs::Sums::sum_to, crate::specs::LeastSquares::fitted))]
+pub fn fitted(row: &[f64], beta: &[f64]) -> f64
+    ensures { result ≡ fitted row.now beta.now }
 {
+    let n = row.len().min(beta.len());
     let mut s = 0.0;
-    for j in 0..p {
-        s = s + rows[r * p + j] * beta[j];
+    for j in 0..n {
+        s = s + row[j] * beta[j];
     }
     s
-}
-
-fn residuals_of(rows: &[f64], y: &[f64], p: usize, beta: &[f64], residuals: &mut [f64])
-    requires { (length rows.now ≡ length y.now * p) × (length beta.now ≡ p) × (length residuals.old ≡ length y.now) }
-    ensures { residuals.new ≡ residuals_of rows.now y.now p beta.now }
-{
-    for r in 0..y.len() {
-        residuals[r] = y[r] - fitted(rows, beta, p, r);
-    }
 }
 
 // From 1 to n.
@@ -73,7 +65,12 @@ pub fn ols(
         slices::clear(residuals);
         return Err(Refusal::Singular);
     }
-    residuals_of(rows, y, columns, beta, residuals);
+    Design {
+        rows,
+        y,
+        p: columns,
+    }
+    .residuals(beta, residuals);
     if slices::all_finite(beta) && slices::all_finite(residuals) {
         return Ok(());
     }

@@ -1,16 +1,13 @@
 -- An array filled from its first place on. Assumes nothing.
 use Rattle.legendre.specs.Arrays.{Begins, Has}
 use Prim.Native.Nat.{ℕ, ◌+◌, ◌<◌}
-use mathlib.Core.Path.{◌≡◌, refl, sym, ◌∙◌, subst}
+use mathlib.Core.Path.{◌≡◌, ◌∙◌, subst}
 use mathlib.Core.List.{List}
 use native.Mathlib.Decide.{dec_le}
 use native.Mathlib.Omega.{arith}
 use lib.ListN.{length, get_or, set, length-set}
 use lib.Seq.{get_or-set_same, get_or-set_other}
 use lib.Ieee.{Float, nan}
-
-pub pre_none : {g : ℕ → Float} {w : List Float} → Begins 0 g w w
-pre_none = record { len = refl; set = λ i h. absurd (omega arith); rest = λ i h. refl }
 
 -- one store more
 pub pre_more : {j : ℕ} {g : ℕ → Float} {w₀ w : List Float} (v : Float) → Begins j g w₀ w → j < length w → v ≡ g j → Begins (j + 1) g w₀ (set w j v)
@@ -40,13 +37,6 @@ has_more {j} {g} {w} v r inside ev = record {
         | no h ↦ get_or-set_other w j i v nan (λ q. absurd (omega arith)) ∙ r.set i (omega arith)
       ];
 }
-
-pub has_one : {g : ℕ → Float} (w : List Float) (v : Float) → length w ≡ 184 → v ≡ g 0 → Has 1 g (set w 0 v)
-has_one w v e ev = has_more {w = w} v (has_none e) (omega arith) ev
-
--- a row of one
-pub has_first : {g : ℕ → Float} (w : List Float) (n : ℕ) (v : Float) → n ≡ 0 → length w ≡ 184 → v ≡ g 0 → Has (n + 1) g (set w 0 v)
-has_first {g} w n v e l ev = subst (λ (x : ℕ). Has (x + 1) g (set w 0 v)) (sym e) (has_one w v l ev)
 
 pub has_as : {j : ℕ} {g f : ℕ → Float} {w : List Float} → Has j g w → ((i : ℕ) → i < j → g i ≡ f i) → Has j f w
 has_as r e = record { len = r.len; set = λ i h. r.set i h ∙ e i h }

@@ -1,14 +1,13 @@
 -- Tables and the diagonal filled from the front; what the guards say. Assumes nothing.
 use Prim.Native.Nat.{ℕ, ◌+◌, ◌*◌, ◌≤◌, ◌<◌}
 use mathlib.Core.Path.{◌≡◌, refl, sym, ap, ap₂, ◌∙◌}
-use mathlib.Core.Bool.{Bool, true, false, ◌&&◌}
+use mathlib.Core.Bool.{true, ◌&&◌}
 use mathlib.Core.List.{List, [], ◌∷◌, ◌++◌}
 use native.Mathlib.Omega.{arith}
 use native.Mathlib.Numerals.{add-one}
-use borrow.Author.Tests.{le-leb, lt-leb, leb-true, eqb-true}
+use borrow.Author.Tests.{leb-true, eqb-true}
 use lib.Dec.{eqb, leb}
 use lib.ListN.{length, take, set}
-use lib.Seq.{take_all}
 use lib.Ieee.{Float, binary64}
 use Rattle.root.specs.Root.{sqrt}
 use Rattle.laws.specs.Floats.{◌⊗◌}
@@ -19,9 +18,6 @@ use Rattle.legendre.specs.Legendre.{ratio, diagonal}
 use Rattle.legendre.specs.Field.{size, fits_in, Fits}
 
 -- ---- a row
-
-pub row_full : (g : ℕ → Float) (p out : List Float) (k m n : ℕ) → take (k + m) out ≡ p ++ row g m → m ≡ n + 1 → take (k + (n + 1)) out ≡ p ++ row g (n + 1)
-row_full g p out k m n inv e = ap (λ (i : ℕ). take (k + i) out) (sym e) ∙ inv ∙ ap (λ (i : ℕ). p ++ row g i) e
 
 -- ---- rows
 
@@ -34,6 +30,12 @@ pub rows_more : (f : ℕ → ℕ → Float) (out out' : List Float) (k n : ℕ) 
 rows_more f out out' k n e inv h =
     ap (λ (i : ℕ). take i out') {x = tri (n + 1)} {y = k + (n + 1)} (omega (arith, tri_next n))
     ∙ rows_turn f out out' k n (ap (λ (i : ℕ). take i out) e ∙ inv) h
+
+-- the row of the degree m, which begins at k
+pub rows_next : (f : ℕ → ℕ → Float) (out out' : List Float) (n k m : ℕ) → take (tri n) out ≡ rows f n → m ≡ n → k ≡ tri m → take (k + (m + 1)) out' ≡ take k out ++ row (f m) (m + 1) →
+    take (tri (n + 1)) out' ≡ rows f (n + 1)
+rows_next f out out' n k m inv e b h =
+    rows_more f out out' k n (b ∙ ap tri e) inv (rw e at h)
 
 pub rows_full : (f : ℕ → ℕ → Float) (out : List Float) (n N : ℕ) → take (tri n) out ≡ rows f n → n ≡ N + 1 → length out ≡ tri (N + 1) → out ≡ rows f (N + 1)
 rows_full f out n N inv e h = rows_done f out (tri n) n (N + 1) inv e (omega (arith, ap tri e))
@@ -53,16 +55,7 @@ pub diagonal_more : (m : ℕ) (x v : Float) → x ≡ diagonal m → v ≡ x ⊗
 unfolding diagonal
 diagonal_more m x v e f = f ∙ rw (e, add-one)
 
-pub diagonal_full : (out : List Float) (m N : ℕ) → take m out ≡ row diagonal m → m ≡ N + 1 → length out ≡ N + 1 → out ≡ row diagonal (N + 1)
-diagonal_full out m N inv e h = sym (take_all m out (omega arith)) ∙ inv ∙ ap (row diagonal) e
-
 -- ---- the guard of an evaluation
-
-pub fits_not : (N a b w : ℕ) → 180 < N → false ≡ fits_in N a b w
-fits_not N a b w h = rw (lt-leb N 180 h)
-
-pub fits_is : (N a b w l : ℕ) (x y : Bool) → N ≤ 180 → l ≡ tri (N + 1) → x ≡ eqb b l && leb (8 * l) w → y ≡ eqb a l && x → y ≡ fits_in N a b w
-fits_is N a b w l x y h e ex ey = rw (le-leb N 180 h) (ey ∙ ap (λ (z : Bool). eqb a l && z) ex ∙ ap (λ (k : ℕ). eqb a k && (eqb b k && leb (8 * k) w)) e)
 
 pub fits_says : (N a b w : ℕ) → fits_in N a b w ≡ true → Fits N a b w
 fits_says N a b w h =

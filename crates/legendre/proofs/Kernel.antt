@@ -1,11 +1,11 @@
 -- The guarded calls: a work slice prepared part by part, a table where its length fits, an evaluation from the parts of a work slice. Assumes nothing.
 use Prim.Native.Nat.{ℕ, ◌+◌, ◌-◌, ◌*◌, ◌≤◌, ◌<◌}
-use mathlib.Core.Path.{◌≡◌, sym, ap, ap₂, subst, ◌∙◌}
+use mathlib.Core.Path.{◌≡◌, sym, ap, ap₂, ◌∙◌}
 use mathlib.Core.Bool.{Bool, true, false}
 use mathlib.Core.List.{List, ◌++◌, append_assoc}
 use native.Mathlib.Omega.{arith}
 use borrow.Author.Tests.{le-leb, lt-leb, eq-eqb, ne_eqb}
-use borrow.Rule.Slice.PartMut.{put_mid, Post-is, mid_len}
+use borrow.Rule.Slice.PartMut.{put_mid, Post-is}
 use lib.ListN.{length, take, drop, length-append, take-append-drop}
 use lib.Seq.{take_at, drop_at, length-take-le}
 use lib.Ieee.{Float}
@@ -14,13 +14,12 @@ use Rattle.laws.specs.Tables.{tri, row, rows, rows_length}
 use Rattle.numbers.specs.Numbers.{sine_cosine}
 use Rattle.numbers.specs.declared.SineCosine.{SineCosine}
 use Rattle.legendre.specs.Legendre.{lower_of, upper_of, diagonal}
-use Rattle.legendre.specs.Rows.{Tables, Room}
-use Rattle.legendre.specs.Sums.{evaluation, degrees, FieldRoom}
+use Rattle.legendre.specs.Rows.{Tables}
+use Rattle.legendre.specs.Sums.{evaluation, degrees}
 use Rattle.legendre.specs.Field.{totals, finished, size, part, tables_in, evaluation_in, fits_in, Fits, nothing, partials_with}
 use Rattle.legendre.specs.Prepared.{tabulated, prepared}
 use Rattle.legendre.specs.declared.Totals.{Totals}
-use Rattle.legendre.proofs.Index.{in_table}
-use Rattle.legendre.proofs.Filling.{fits_says, heads_in}
+use Rattle.legendre.proofs.Filling.{fits_says}
 
 -- ---- a table
 
@@ -78,26 +77,6 @@ prepared_is N l w x y z h g e ex ey ez =
 
 -- ---- an evaluation
 
-part_length : (w : List Float) (a e : ℕ) → e ≤ length w → length (part w a e) ≡ e - a
-part_length w a e h = mid_len a e w h
-
-pub room_in : (N l : ℕ) (a b work : List Float) (T : Tables) (t u lon : Float) → Fits N (length a) (length b) (length work) → l ≡ tri (N + 1) → T ≡ tables_in N a b work →
-    (N ≤ 180) × Room N T × FieldRoom N (evaluation T t u lon (part work 0 l) (part work l (2 * l)))
-room_in N l a b work T t u lon f e q =
-    let i = in_table N N N (omega arith) (omega arith) in
-    let k = heads_in N in
-    let g = f.work in (
-      f.degree,
-      subst (Room N) (sym q) (record {
-        a = omega (arith, f.a);
-        b = omega (arith, f.b);
-        lower = omega (arith, part_length work (2 * size N) (3 * size N) (omega arith));
-        upper = omega (arith, part_length work (3 * size N) (4 * size N) (omega arith));
-        heads = omega (arith, part_length work (4 * size N) (4 * size N + (N + 1)) (omega arith));
-      }),
-      record { c = omega (arith, part_length work 0 l (omega arith)); s = omega (arith, part_length work l (2 * l) (omega arith)) },
-    )
-
 pub fits_true : (N a b w : ℕ) → Fits N a b w → fits_in N a b w ≡ true
 fits_true N a b w f = rw (le-leb N 180 f.degree, eq-eqb a (size N) f.a, eq-eqb b (size N) f.b, le-leb (8 * size N) w f.work)
 
@@ -106,12 +85,12 @@ module _ (N : ℕ) (gm radius : Float) (a b work : List Float) (r lat lon : Floa
   unfolding partials_with
   evaluated f = rw (fits_true N (length a) (length b) (length work) f)
 
-  pub partials_are : (l : ℕ) (w : SineCosine) (T : Tables) (z : Totals) → Fits N (length a) (length b) (length work) → l ≡ tri (N + 1) → w ≡ sine_cosine lat → T ≡ tables_in N a b work →
-      z ≡ totals (degrees (evaluation T w.sine w.cosine lon (part work 0 l) (part work l (2 * l)))) (radius ⊘ r) (N + 1) → finished gm r z ≡ partials_with N gm radius a b work r lat lon
+  pub partials_are : (l M : ℕ) (w : SineCosine) (T : Tables) (z : Totals) → Fits N (length a) (length b) (length work) → l ≡ tri (N + 1) → M ≡ N → w ≡ sine_cosine lat → T ≡ tables_in N a b work →
+      z ≡ totals (degrees (evaluation T w.sine w.cosine lon (part work 0 l) (part work l (2 * l)))) (radius ⊘ r) (M + 1) → finished gm r z ≡ partials_with N gm radius a b work r lat lon
   unfolding sine_cosine
-  partials_are l w T z f el ew eT ez =
+  partials_are l M w T z f el eM ew eT ez =
       ap (finished gm r) ez
-      ∙ (λ i. finished gm r (totals (degrees (evaluation (eT i) (ew i).sine (ew i).cosine lon (part work 0 (el i)) (part work (el i) (2 * el i)))) (radius ⊘ r) (N + 1)))
+      ∙ (λ i. finished gm r (totals (degrees (evaluation (eT i) (ew i).sine (ew i).cosine lon (part work 0 (el i)) (part work (el i) (2 * el i)))) (radius ⊘ r) (eM i + 1)))
       ∙ evaluated f
 
   pub partials_none : (y : Bool) → y ≡ fits_in N (length a) (length b) (length work) → y ≡ false → nothing ≡ partials_with N gm radius a b work r lat lon

@@ -18,22 +18,13 @@ pub next_mid : (n k : ℕ) (t h : Float) (a b q1 q2₀ : List Float) {q2 : List 
 next_mid n k t h a b q1 q2₀ {m = m} r l =
     ap (λ (x : Float). step_at a b t (k + m) (get_or q1 m nan) x) (r.rest m (omega arith)) ∙ rw (lt-ltb m n l)
 
-pub next_last : (n k : ℕ) (t h : Float) (a b : List Float) (q1 q2 : ℕ → Float) → h ≡ next_row n k t h a b q1 q2 n
-next_last n k t h a b q1 q2 = rw (le-ltb n n (omega arith))
-
 -- the derivative's
 module _ (n : ℕ) (low up p : ℕ → Float) where
-  pub der_first : 1 ≤ n → up 0 ⊗ p 1 ≡ derived_row n low up p 0
-  der_first h = rw (ne_eqb n 0 (λ e. absurd (omega arith)))
-
   pub der_mid : (m : ℕ) → 1 ≤ m → m < n → neg half64 ⊗ (low m ⊗ p (m - 1) ⊖ up m ⊗ p (m + 1)) ≡ derived_row n low up p m
   der_mid m h l = rw (ne_eqb n 0 (λ e. absurd (omega arith)), ne_eqb m 0 (λ e. absurd (omega arith)), lt-ltb m n l)
 
   pub der_last : 1 ≤ n → neg half64 ⊗ (low n ⊗ p (n - 1) ⊖ zero64) ≡ derived_row n low up p n
   der_last h = rw (ne_eqb n 0 (λ e. absurd (omega arith)), le-ltb n n (omega arith))
-
-  pub der_none : n ≡ 0 → zero64 ≡ derived_row n low up p 0
-  der_none e = rw (eq-eqb n 0 e)
 
 -- the derivative's row is determined by what it reads
 pub der_cong : (n : ℕ) (low up : ℕ → Float) {p p' : ℕ → Float} → ((i : ℕ) → i ≤ n → p i ≡ p' i) → (m : ℕ) → m ≤ n → derived_row n low up p m ≡ derived_row n low up p' m

@@ -43,13 +43,13 @@ both_fit_law : (N : ℕ) (a b work p dp : List Float) → Fits N (length a) (len
 both_fit_law N a b work p dp f g = rw (fits_true N (length a) (length b) (length work) f, fits_true N (length p) (length dp) (length work) g)
 
 module _ (N : ℕ) (a b work : List Float) (lat : Float) (p dp : List Float) where
-  pub computed_is : (w : SineCosine) (T : Tables) (x y : List Float) → Fits N (length a) (length b) (length work) → Fits N (length p) (length dp) (length work) → w ≡ sine_cosine lat →
-      T ≡ tables_in N a b work → x ≡ rows (legendre_by T w.sine w.cosine) (N + 1) → y ≡ rows (derived_by T w.sine w.cosine) (N + 1) →
+  pub computed_is : (M : ℕ) (w : SineCosine) (T : Tables) (x y : List Float) → Fits N (length a) (length b) (length work) → Fits N (length p) (length dp) (length work) → M ≡ N → w ≡ sine_cosine lat →
+      T ≡ tables_in N a b work → x ≡ rows (legendre_by T w.sine w.cosine) (M + 1) → y ≡ rows (derived_by T w.sine w.cosine) (M + 1) →
       (x ≡ legendre_with N a b work lat p dp) × (y ≡ derivative_with N a b work lat p dp)
   unfolding legendre_with derivative_with sine_cosine
-  computed_is w T x y f g ew eT ex ey = (
-    ex ∙ (λ i. rows (legendre_by (eT i) (ew i).sine (ew i).cosine) (N + 1)) ∙ rw (both_fit_law N a b work p dp f g),
-    ey ∙ (λ i. rows (derived_by (eT i) (ew i).sine (ew i).cosine) (N + 1)) ∙ rw (both_fit_law N a b work p dp f g),
+  computed_is M w T x y f g eM ew eT ex ey = (
+    ex ∙ (λ i. rows (legendre_by (eT i) (ew i).sine (ew i).cosine) (eM i + 1)) ∙ rw (both_fit_law N a b work p dp f g),
+    ey ∙ (λ i. rows (derived_by (eT i) (ew i).sine (ew i).cosine) (eM i + 1)) ∙ rw (both_fit_law N a b work p dp f g),
   )
 
   pub computed_not : both_fit N a b work p dp ≡ false → (p ≡ legendre_with N a b work lat p dp) × (dp ≡ derivative_with N a b work lat p dp)

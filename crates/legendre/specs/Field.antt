@@ -5,9 +5,10 @@ use Rattle.laws.specs.Floats.{◌⊗◌, ◌⊘◌, zero64}
 use Rattle.laws.specs.Tables.{tri, row, rows}
 use Rattle.numbers.specs.Numbers.{sine, cosine}
 use Rattle.legendre.specs.Legendre.{lower_of, upper_of, diagonal}
-use Rattle.legendre.specs.Rows.{Tables, tables_of}
+use Rattle.legendre.specs.Rows.{Tables, tables_of, lent}
 use Rattle.legendre.specs.Sums.{Degree, Evaluation, evaluation, degrees, published, all_v, all_r, all_lat, all_lon}
 use Rattle.legendre.specs.declared.Totals.{Totals}
+use Rattle.legendre.specs.declared.evaluation.Terms.{Terms}
 use Rattle.legendre.specs.declared.Partials.{Partials}
 
 -- the four sums of a series over its first j degrees
@@ -48,6 +49,10 @@ part w a e = take (e - a) (drop a w)
 abbrev pub tables_in : ℕ → List Float → List Float → List Float → Tables
 tables_in N a b work =
     tables_of a b (part work (2 * size N) (3 * size N)) (part work (3 * size N) (4 * size N)) (part work (4 * size N) (4 * size N + (N + 1)))
+
+-- of what the code carries as one
+abbrev pub evaluation_of : Terms → Evaluation
+evaluation_of g = evaluation (lent g.latitude.tables) g.latitude.sine g.latitude.cosine g.lon g.c.now g.s.now
 
 abbrev pub evaluation_in : ℕ → List Float → List Float → List Float → Float → Float → Evaluation
 evaluation_in N a b work lat lon =

@@ -1,12 +1,12 @@
 -- The tables of factors as lists, and the work slice with the tables that depend on the degree alone. Assumes nothing.
-use Rattle.std.specs.Prelude.{◌≡◌, ◌≤◌, ℕ, ◌+◌, ◌*◌, cond, ◌&&◌, List, ◌++◌, eqb, leb, length, take, drop, Float}
+use Rattle.std.specs.Prelude.{◌≡◌, ℕ, ◌+◌, ◌*◌, cond, ◌&&◌, List, ◌++◌, eqb, leb, length, take, drop, Float}
 use Rattle.laws.specs.Tables.{row, rows}
 use Rattle.legendre.specs.Legendre.{lower_of, upper_of, diagonal}
 use Rattle.legendre.specs.Field.{size}
 
 -- what a call returns at degree n and order m of a table is f n m
 abbrev pub Gives : (ℕ → ℕ → Float → Type 0) → (ℕ → ℕ → Float) → Type 0
-Gives post f = (n m : ℕ) (x : Float) → m ≤ n → n ≤ 180 → post n m x → x ≡ f n m
+Gives post f = (n m : ℕ) (x : Float) → post n m x → x ≡ f n m
 
 -- the table of the factor f to degree N, in place of a list of L numbers
 unfoldable pub tabulated : (ℕ → ℕ → Float) → ℕ → List Float → List Float

@@ -6,7 +6,7 @@ use Rattle.laws.specs.Floats.{◌⊖◌, ◌⊗◌, zero64}
 use Rattle.laws.specs.Tables.{tri}
 use Rattle.legendre.specs.Legendre.{unscale, derived_row}
 use Rattle.legendre.specs.Arrays.{from}
-use Rattle.legendre.specs.declared.Tables.{Tables as LentTables}
+use Rattle.legendre.specs.declared.tables.Tables.{Tables as LentTables}
 
 -- the recursion's factors a, b and the derivative's, each by degree and order, and the diagonal by order
 pub record Tables : Type 0 where
@@ -31,12 +31,16 @@ step_at a b t k q1 q2 = get_or a k nan ⊗ t ⊗ q1 ⊖ get_or b k nan ⊗ q2
 abbrev pub next_row : ℕ → ℕ → Float → Float → List Float → List Float → (ℕ → Float) → (ℕ → Float) → ℕ → Float
 next_row n k t head a b q1 q2 m = cond (ltb m n) (step_at a b t (k + m) (q1 m) (q2 m)) head
 
+-- the same from tables
+abbrev pub next_by : Tables → Float → ℕ → (ℕ → Float) → (ℕ → Float) → ℕ → Float
+next_by T t n q1 q2 = next_row n (tri n) t (get_or T.heads n nan) T.a T.b q1 q2
+
 -- P̄nm / cosᵐφ, scaled, as row n + 2: two rows of +0.0 stand before the first, and +0.0 past the diagonal
 unfoldable pub scaled_row : Tables → Float → ℕ → ℕ → Float
 scaled_row T t zero m = zero64
 scaled_row T t (suc zero) m = zero64
 scaled_row T t (suc (suc n)) m =
-    cond (ltb n m) zero64 (next_row n (tri n) t (get_or T.heads n nan) T.a T.b (scaled_row T t (suc n)) (scaled_row T t n) m)
+    cond (ltb n m) zero64 (next_by T t n (scaled_row T t (suc n)) (scaled_row T t n) m)
 
 -- P̄nm
 abbrev pub legendre_by : Tables → Float → Float → ℕ → ℕ → Float
@@ -52,11 +56,3 @@ derived_by T t u n = derived_row n (from T.lower (tri n)) (from T.upper (tri n))
 pub record Holds (T : Tables) (t : Float) (j : ℕ) (w : List Float) : Type 0 where
   pub len : length w ≡ 184
   pub at : (m : ℕ) → m < 184 → get_or w m nan ≡ scaled_row T t j m
-
--- the tables are long enough for degree n
-pub record Room (n : ℕ) (T : Tables) : Type 0 where
-  pub a : tri n + n < length T.a
-  pub b : tri n + n < length T.b
-  pub lower : tri n + n < length T.lower
-  pub upper : tri n + n < length T.upper
-  pub heads : n < length T.heads

@@ -1,6 +1,6 @@
 -- The sums of the spherical harmonic series of the potential and its derivatives (synthesis.rs, `partials`): over the orders of a degree,
 -- then over the degrees, from +0.0 on and in list order. Assumes nothing.
-use Rattle.std.specs.Prelude.{ℕ, zero, suc, ◌+◌, ◌<◌, ◌≡◌, List, length, Float}
+use Rattle.std.specs.Prelude.{ℕ, zero, suc, ◌+◌, ◌≡◌, List, Float}
 use Rattle.laws.specs.Floats.{◌⊕◌, ◌⊖◌, ◌⊗◌, zero64, one64}
 use Rattle.laws.specs.WholeNumbers.{number}
 use Rattle.laws.specs.Tables.{tri}
@@ -8,8 +8,7 @@ use Rattle.laws.specs.Sums.{sum_to}
 use Rattle.numbers.specs.Numbers.{sine, cosine}
 use Rattle.legendre.specs.Arrays.{from}
 use Rattle.legendre.specs.Legendre.{legendre, derived}
-use Rattle.legendre.specs.Rows.{Tables, lent, legendre_by, derived_by}
-use Rattle.legendre.specs.declared.Terms.{Terms}
+use Rattle.legendre.specs.Rows.{Tables, legendre_by, derived_by}
 
 -- one degree, by order m: the coefficients, cos mλ, sin mλ, and the Legendre row with its derivative
 pub record Degree : Type 0 where
@@ -91,10 +90,6 @@ pub record Evaluation : Type 0 where
 abbrev pub evaluation : Tables → Float → Float → Float → List Float → List Float → Evaluation
 evaluation T t u lon c s = record { tables = T; t = t; u = u; lon = lon; c = c; s = s }
 
--- of what the code carries as one
-abbrev pub evaluation_of : Terms → Evaluation
-evaluation_of g = evaluation (lent g.tables) g.point.sine g.point.cosine g.point.lon g.c.now g.s.now
-
 abbrev pub degrees : Evaluation → ℕ → Degree
 degrees f n =
     degree_of (from f.c (tri n)) (from f.s (tri n)) (cosines f.lon) (sines f.lon) (legendre_by f.tables f.t f.u n)
@@ -115,8 +110,3 @@ pub record AllSums (f : Evaluation) (q : Float) (j : ℕ) (v r lat lon qn : Floa
   pub alat : lat ≡ all_lat (degrees f) q j
   pub alon : lon ≡ all_lon (degrees f) q j
   pub aq : qn ≡ power q j
-
--- the coefficients reach to degree n
-pub record FieldRoom (n : ℕ) (f : Evaluation) : Type 0 where
-  pub c : tri n + n < length f.c
-  pub s : tri n + n < length f.s

@@ -1,51 +1,61 @@
 -- Laws of the rows that the blend writes. Assumes nothing.
-use mathlib.Core.Path.{◌≡◌, refl, ap, ap₂, ◌∙◌}
+use mathlib.Core.Path.{◌≡◌, ap, ap₂, ◌∙◌}
 use mathlib.Core.List.{List, ◌++◌}
-use mathlib.Core.Bool.{Bool, true, false, cond, ◌&&◌}
-use Prim.Native.Nat.{ℕ, ◌+◌, ◌-◌, ◌*◌, ◌/◌, ◌≤◌}
+use mathlib.Core.Bool.{true, cond, ◌&&◌}
+use Prim.Native.Nat.{ℕ, ◌+◌, ◌-◌, ◌*◌, ◌/◌, ◌<◌, ◌≤◌}
 use native.Mathlib.Nat.{add-mul, mul-le-mul_right, div-mul-le_self, le_trans}
 use native.Mathlib.Omega.{arith}
-use borrow.Author.Tests.{le-leb, leb-true, eqb-true}
+use borrow.Author.Tests.{le-leb, leb-true, eqb-true, lt-ltb, le-ltb}
 use lib.Dec.{leb, ltb, eqb}
 use Rattle.std.proofs.Common.{Option, Some, None}
+use Rattle.std.specs.Prelude.{MatchOption}
 use lib.ListN.{length, take, drop, get_or}
 use lib.Ieee.{Float, nan}
 use Rattle.inputs.specs.Inputs.{Model, field_size}
 use Rattle.laws.specs.Floats.{◌⊕◌, ◌⊖◌, ◌⊗◌, one64}
-use Rattle.laws.specs.Tables.{tri, rows, rows_at}
+use Rattle.laws.specs.Tables.{tri, rows}
 use Rattle.laws.specs.Bools.{both_true}
 use Rattle.fields.specs.Rescaled.{factor_of, factor_with, rescaled_at}
 use Rattle.model.specs.Field.{gm, radius, cosines, sines}
 use Rattle.model.specs.Calls.{at_fits, sized, FieldRoom}
-use Rattle.model.specs.Model.{bracket, weight, combined, factor_from_two, with_added, blended, blend_of, added_field, kind_at, field_at}
+use Rattle.model.specs.Model.{bracket, weight, combined, blended, blend_of, kind_at, field_at}
 
 factor_is : (g r : Float) (field : List Float) (n : ℕ) → 2 ≤ length field → n ≤ 180 → factor_with g r field n ≡ factor_of g r field n
 unfolding factor_with
 factor_is g r field n h k = rw (le-leb 2 (length field) h, le-leb n 180 k)
 
-with_factor : (b : Bool) (c a f : Float) → with_added c a (cond b None (Some f)) ≡ cond b c (c ⊕ a ⊗ f)
-with_factor true c a f = refl
-with_factor false c a f = refl
+-- c with a in the factor of row n, which is none where nothing is added
+abbrev Factor : Float → Float → List Float → ℕ → Option Float → Type 0
+Factor g r added n factor = MatchOption factor (n < 2) (λ f. (2 ≤ n) × (f ≡ factor_with g r added n))
+
+abbrev Added : Float → Float → Option Float → Float → Type 0
+Added c a factor x = MatchOption factor (x ≡ c) (λ f. x ≡ c ⊕ a ⊗ f)
+
+added_is : (g r : Float) (added : List Float) (n : ℕ) (c a x : Float) (factor : Option Float) → Factor g r added n factor → Added c a factor x →
+    x ≡ cond (ltb n 2) c (c ⊕ a ⊗ factor_with g r added n)
+added_is g r added n c a x None h e = rw (lt-ltb n 2 h) e
+added_is g r added n c a x (Some f) h e = rw (le-ltb n 2 h.0) (e ∙ ap (λ (z : Float). c ⊕ a ⊗ z) h.1)
 
 -- what is blended at place m of row n
-pub combined_here : (start n m : ℕ) (field a : List Float) → 2 ≤ length a → n ≤ 180 →
-    with_added (get_or field (start + (tri n + m)) nan) (get_or a (start + (tri n + m)) nan) (factor_from_two (gm field) (radius field) a n)
-    ≡ combined start field a n m
-unfolding combined rescaled_at factor_from_two
-combined_here start n m field a h k =
-    with_factor (ltb n 2) (get_or field (start + (tri n + m)) nan) (get_or a (start + (tri n + m)) nan) (factor_with (gm field) (radius field) a n)
+pub combined_here : (start n m : ℕ) (field a : List Float) (x : Float) (factor : Option Float) → 2 ≤ length a → n ≤ 180 →
+    Factor (gm field) (radius field) a n factor →
+    Added (get_or field (start + (tri n + m)) nan) (get_or a (start + (tri n + m)) nan) factor x →
+    x ≡ combined start field a n m
+unfolding combined rescaled_at
+combined_here start n m field a x factor h k f e =
+    added_is (gm field) (radius field) a n (get_or field (start + (tri n + m)) nan) (get_or a (start + (tri n + m)) nan) x factor f e
     ∙ ap (λ (f : Float). cond (ltb n 2) (get_or field (start + (tri n + m)) nan)
     (get_or field (start + (tri n + m)) nan ⊕ get_or a (start + (tri n + m)) nan ⊗ f)) (factor_is (gm field) (radius field) a n h k)
 
 pub blended_here : (start k n m : ℕ) (w : Float) (field a b : List Float) (fa fb : Option Float) (x y : Float) → k ≡ tri n → 2 ≤ length a → 2 ≤ length b → n ≤ 180 →
-    fa ≡ factor_from_two (gm field) (radius field) a n → fb ≡ factor_from_two (gm field) (radius field) b n →
-    x ≡ with_added (get_or field (start + (k + m)) nan) (get_or a (start + (k + m)) nan) fa →
-    y ≡ with_added (get_or field (start + (k + m)) nan) (get_or b (start + (k + m)) nan) fb →
+    Factor (gm field) (radius field) a n fa → Factor (gm field) (radius field) b n fb →
+    Added (get_or field (start + (k + m)) nan) (get_or a (start + (k + m)) nan) fa x →
+    Added (get_or field (start + (k + m)) nan) (get_or b (start + (k + m)) nan) fb y →
     (one64 ⊖ w) ⊗ x ⊕ w ⊗ y ≡ blended start w field a b n m
 unfolding blended
 blended_here start k n m w field a b fa fb x y e la lb top ea eb ex ey =
-    ap₂ (λ (u v : Float). (one64 ⊖ w) ⊗ u ⊕ w ⊗ v) (rw (e, ea) at ex ∙ combined_here start n m field a la top)
-    (rw (e, eb) at ey ∙ combined_here start n m field b lb top)
+    ap₂ (λ (u v : Float). (one64 ⊖ w) ⊗ u ⊕ w ⊗ v) (combined_here start n m field a x fa la top ea (rw e at ex))
+    (combined_here start n m field b y fb lb top eb (rw e at ey))
 
 -- ---- fields end to end
 
@@ -105,9 +115,3 @@ field_is M out t w j out' ew ej e =
     e ∙ ap (λ (x : Float). (blend_of N cosines M.fixed.static M.fields.added x j ++ blend_of N (sines N) M.fixed.static M.fields.added x j) ++ rest) ew
     ∙ ap (λ (i : ℕ). (blend_of N cosines M.fixed.static M.fields.added (weight M.fields.field_times t i) i ++ blend_of N (sines N) M.fixed.static M.fields.added
     (weight M.fields.field_times t i) i) ++ rest) ej
-
--- the coefficient of degree n and order m
-pub blend_at : (N k : ℕ) (field fs : List Float) (w : Float) (j n m : ℕ) → n ≤ N → m ≤ n →
-    get_or (blend_of N k field fs w j) (tri n + m) nan ≡ blended k w field (added_field N fs j) (added_field N fs (j + 1)) n m
-unfolding blend_of
-blend_at N k field fs w j n m h l = rows_at (blended k w field (added_field N fs j) (added_field N fs (j + 1))) (N + 1) n m (omega arith) l

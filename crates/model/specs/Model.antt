@@ -1,11 +1,11 @@
 -- The time-variable model (document 01, module 3; the source's `Model`): a static field, and fields with times that are added to it. Assumes nothing.
-use Rattle.std.specs.Prelude.{ℕ, suc, ◌+◌, ◌*◌, cond, List, [], ◌∷◌, ◌++◌, ltb, take, drop, get_or, Float, Option, Some, None}
+use Rattle.std.specs.Prelude.{ℕ, suc, ◌+◌, ◌*◌, cond, List, [], ◌∷◌, ◌++◌, ltb, take, drop, get_or, Float}
 use Rattle.std.specs.Float.{nan}
 use Rattle.std.specs.Float.Ieee.{le}
 use Rattle.inputs.specs.Inputs.{Model, field_size}
 use Rattle.laws.specs.Floats.{◌⊕◌, ◌⊖◌, ◌⊗◌, ◌⊘◌, one64}
 use Rattle.laws.specs.Tables.{rows}
-use Rattle.fields.specs.Rescaled.{factor_with, rescaled_at}
+use Rattle.fields.specs.Rescaled.{rescaled_at}
 use Rattle.model.specs.Field.{gm, radius, cosines, sines, coefficient}
 
 -- ---- the bracket of t and the weight
@@ -35,14 +35,6 @@ added_field N added j = take (field_size N) (drop (j * field_size N) added)
 unfoldable pub combined : ℕ → List Float → List Float → ℕ → ℕ → Float
 combined k field added n m =
     cond (ltb n 2) (coefficient k field n m) (coefficient k field n m ⊕ rescaled_at k (gm field) (radius field) added n m)
-
--- the same from the factor of row n, which is none where nothing is added
-unfoldable pub factor_from_two : Float → Float → List Float → ℕ → Option Float
-factor_from_two g r added n = cond (ltb n 2) None (Some (factor_with g r added n))
-
-abbrev pub with_added : Float → Float → Option Float → Float
-with_added c a None = c
-with_added c a (Some f) = c ⊕ a ⊗ f
 
 -- (1 − w)·a + w·b, computed at every weight
 abbrev pub mix : Float → Float → Float → Float

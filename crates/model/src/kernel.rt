@@ -1,14 +1,17 @@
 // The model on lent slices, with no tests of what they hold.
-ghost use Rattle.std.specs.Prelude.{◌≡◌, ℕ, ◌+◌, ◌*◌, ◌≤◌, length, take, drop, ◌++◌};
+ghost use Rattle.std.specs.Prelude.{◌≡◌, ℕ, ◌+◌, ◌*◌, ◌<◌, ◌≤◌, length, take, drop, ◌++◌, MatchOption};
+ghost use Rattle.laws.specs.Floats.{◌⊕◌, ◌⊗◌};
 ghost use Rattle.laws.specs.Tables.{tri, row, rows};
 ghost use Rattle.finality.specs.Brackets.{covers as covers_of};
 ghost use Rattle.inputs.specs.Inputs.{field_size};
 ghost use Rattle.inputs.specs.Lent.{model_of};
 ghost use Rattle.model.specs.Field.{gm, radius, cosines, sines};
-ghost use Rattle.model.specs.Model.{bracket as bracket_of, factor_from_two, with_added, blended, blend_of, field_at};
+ghost use Rattle.fields.specs.Rescaled.{factor_with};
+ghost use Rattle.model.specs.Model.{bracket as bracket_of, blended, blend_of, field_at};
 ghost use Rattle.model.specs.Calls.{Weighed, sized, FieldRoom, at_left};
 
 // First field time ≤ t < last.
+// kept: `times, t`: one list is asked at many times, so a struct of both would be made for each question and taken apart in its answer.
 #[tactic(auto, using(crate::proofs::Times::covers_is, crate::proofs::Times::covers_none))]
 pub fn covers(times: &[f64], t: f64) -> bool
     ensures { result ≡ covers_of times.now t }
@@ -45,10 +48,9 @@ pub fn weight(times: &[f64], t: f64, j: usize) -> f64
 }
 
 // What takes row n of an added field to the static field's GM and radius; none below degree 2, where nothing is added.
-#[tactic(auto, unfolding(crate::specs::Model::factor_from_two))]
 fn factor_from_two(field: &[f64], added: &[f64], n: usize) -> Option<f64>
     requires { 2 ≤ length field.now }
-    ensures { result ≡ factor_from_two (gm field.now) (radius field.now) added.now n }
+    ensures { MatchOption result (n < 2) (λ f. (2 ≤ n) × (f ≡ factor_with (gm field.now) (radius field.now) added.now n)) }
 {
     if n < 2 {
         None
@@ -58,7 +60,7 @@ fn factor_from_two(field: &[f64], added: &[f64], n: usize) -> Option<f64>
 }
 
 fn with_added(c: f64, a: f64, factor: Option<f64>) -> f64
-    ensures { result ≡ with_added c a factor }
+    ensures { MatchOption factor (result ≡ c) (λ f. result ≡ c ⊕ a ⊗ f) }
 {
     match factor {
         Some(f) => c + a * f,
@@ -66,80 +68,66 @@ fn with_added(c: f64, a: f64, factor: Option<f64>) -> f64
     }
 }
 
-// Row n, which begins at k.
-fn blend_row(
-    n: usize,
-    k: usize,
-    start: usize,
-    w: f64,
-    field: &[f64],
-    a: &[f64],
-    b: &[f64],
-    out: &mut [f64],
-)
-    requires { (n ≤ 180) × (k ≡ tri n) × (2 ≤ start) × (start + (k + (n + 1)) ≤ length field.now) × (start + (k + (n + 1)) ≤ length a.now)
-        × (start + (k + (n + 1)) ≤ length b.now) × (k + (n + 1) ≤ length out.old) }
-    ensures { take (k + (n + 1)) out.new ≡ take k out.old ++ row
-        (blended start w field.now a.now b.now n) (n + 1) }
-{
-    let fa = factor_from_two(field, a, n);
-    let fb = factor_from_two(field, b, n);
-    for m in 0..n + 1 {
-        let i = k + m;
-        let p = start + i;
-        let c = field[p];
-        out[i] = (1.0 - w) * with_added(c, a[p], fa) + w * with_added(c, b[p], fb);
-    }
+// The coefficients of one kind, which begin at `start` in each field.
+#[derive(Clone, Copy)]
+pub(crate) struct Kind {
+    pub degree: usize,
+    pub start: usize,
+    pub ghost within: { degree ≤ 180 },
+    pub ghost after_two: { 2 ≤ start },
+    pub ghost in_field: { start ≤ sines degree },
 }
 
-// The coefficients of one kind, which begins at `start` in each field.
-fn blend_rows(
-    degree: usize,
-    start: usize,
-    w: f64,
-    field: &[f64],
-    a: &[f64],
-    b: &[f64],
-    out: &mut [f64],
-)
-    requires { (degree ≤ 180) × (2 ≤ start) × (start + tri (degree + 1) ≤ length field.now) × (start + tri (degree + 1) ≤ length a.now)
-        × (start + tri (degree + 1) ≤ length b.now) × (length out.old ≡ tri (degree + 1)) }
-    ensures { out.new ≡ rows (blended start w field.now a.now b.now) (degree + 1) }
-{
-    let mut k = 0;
-    for n in 0..degree + 1 {
-        blend_row(n, k, start, w, field, a, b, out);
-        k += n + 1;
+impl Kind {
+    // Row n, which begins at k, of two added fields.
+    fn blend_row(
+        self,
+        n: usize,
+        k: usize,
+        w: f64,
+        field: &[f64],
+        a: &[f64],
+        b: &[f64],
+        out: &mut [f64],
+    )
+        requires { (n ≤ self.degree) × (k ≡ tri n) × (self.start + (k + (n + 1)) ≤ length field.now)
+            × (self.start + (k + (n + 1)) ≤ length a.now) × (self.start + (k + (n + 1)) ≤ length b.now)
+            × (k + (n + 1) ≤ length out.old) }
+        ensures { take (k + (n + 1)) out.new ≡ take k out.old ++ row
+            (blended self.start w field.now a.now b.now n) (n + 1) }
+    {
+        let fa = factor_from_two(field, a, n);
+        let fb = factor_from_two(field, b, n);
+        for m in 0..n + 1 {
+            let i = k + m;
+            let p = self.start + i;
+            let c = field[p];
+            out[i] = (1.0 - w) * with_added(c, a[p], fa) + w * with_added(c, b[p], fb);
+        }
     }
-}
 
-// The same from the fields end to end, of which j and the next are blended.
-pub(crate) fn blend_kind(
-    degree: usize,
-    start: usize,
-    field: &[f64],
-    added: &[f64],
-    w: f64,
-    j: usize,
-    out: &mut [f64],
-)
-    requires { (degree ≤ 180) × (2 ≤ start) × (start ≤ sines degree) × (length field.now ≡ field_size degree)
-        × ((j + 2) * field_size degree ≤ length added.now) × (length out.old ≡ tri (degree + 1)) }
-    ensures { out.new ≡ blend_of degree start field.now added.now w j }
-{
-    let size = 2 + 2 * inputs::places(degree);
-    let first = j * size;
-    let next = first + size;
-    let end = next + size;
-    blend_rows(
-        degree,
-        start,
-        w,
-        field,
-        &added[first..next],
-        &added[next..end],
-        out,
-    );
+    fn blend_rows(self, w: f64, field: &[f64], a: &[f64], b: &[f64], out: &mut [f64])
+        requires { (self.start + tri (self.degree + 1) ≤ length field.now) × (self.start + tri (self.degree + 1) ≤ length a.now)
+            × (self.start + tri (self.degree + 1) ≤ length b.now) × (length out.old ≡ tri (self.degree + 1)) }
+        ensures { out.new ≡ rows (blended self.start w field.now a.now b.now) (self.degree + 1) }
+    {
+        for n in 0..self.degree + 1 {
+            self.blend_row(n, numbers::triangle(n), w, field, a, b, out);
+        }
+    }
+
+    // The same from the fields end to end, of which j and the next are blended.
+    pub(crate) fn blend(self, field: &[f64], added: &[f64], w: f64, j: usize, out: &mut [f64])
+        requires { (length field.now ≡ field_size self.degree) × ((j + 2) * field_size self.degree ≤ length added.now)
+            × (length out.old ≡ tri (self.degree + 1)) }
+        ensures { out.new ≡ blend_of self.degree self.start field.now added.now w j }
+    {
+        let size = 2 + 2 * inputs::places(self.degree);
+        let first = j * size;
+        let next = first + size;
+        let end = next + size;
+        self.blend_rows(w, field, &added[first..next], &added[next..end], out);
+    }
 }
 
 #[tactic(auto, unfolding(crate::specs::Calls::at_fits))]
@@ -164,8 +152,13 @@ fn blend_both(degree: usize, field: &[f64], added: &[f64], w: f64, j: usize, out
 {
     let l = inputs::places(degree);
     let end = 2 * l;
-    blend_kind(degree, 2, field, added, w, j, &mut out[0..l]);
-    blend_kind(degree, 2 + l, field, added, w, j, &mut out[l..end]);
+    let cosine = Kind { degree, start: 2 };
+    let sine = Kind {
+        degree,
+        start: 2 + l,
+    };
+    cosine.blend(field, added, w, j, &mut out[0..l]);
+    sine.blend(field, added, w, j, &mut out[l..end]);
 }
 
 fn field_at(model: inputs::Model<'_>, t: f64, out: &mut [f64])

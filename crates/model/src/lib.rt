@@ -76,62 +76,57 @@ fn at_refusal(
 
 // ---- the work
 
-// The coefficients at t of one kind, which begins at `start` in each field.
-fn kind_at(model: inputs::Model<'_>, start: usize, t: f64, out: &mut [f64])
-    requires model_sized { KindRoom (model_of model) }
-    requires after_two { 2 ≤ start }
-    requires kind_starts { start ≤ sines_from model.degree }
-    requires room { length out.old ≡ tri (model.degree + 1) }
-    ensures { out.new ≡ kind_at start (model_of model.entry) t }
-{
-    let j = kernel::bracket(model.field_times, t);
-    let w = kernel::weight(model.field_times, t, j);
-    kernel::blend_kind(
-        model.degree,
-        start,
-        model.static_field,
-        model.added,
-        w,
-        j,
-        out,
-    );
+// A model of whole fields: the static field and one for each of two times or more, as long as its degree asks.
+#[derive(Clone, Copy)]
+struct Whole<'a> {
+    model: inputs::Model<'a>,
+    ghost room: { KindRoom (model_of model) },
 }
 
-fn both_at(
-    model: inputs::Model<'_>,
-    t: f64,
-    cosines: &mut [f64],
-    sines: &mut [f64],
-) -> Result<(), Refusal>
-    requires model_sized { KindRoom (model_of model) }
-    requires cosine_room { length cosines.old ≡ tri (model.degree + 1) }
-    requires sine_room { length sines.old ≡ tri (model.degree + 1) }
-    ensures { left result (cosines.new ∷ sines.new ∷ []) [] ≡ handed_two (kind_at 2 (model_of model.entry) t)
-        (kind_at (sines_from model.entry.degree) (model_of model.entry) t) }
-{
-    kind_at(model, 2, t, cosines);
-    kind_at(model, 2 + inputs::places(model.degree), t, sines);
-    fields::hand_two(cosines, sines)
-}
-
-fn work(
-    model: inputs::Model<'_>,
-    t: f64,
-    cosines: &mut [f64],
-    sines: &mut [f64],
-) -> Result<(), Refusal>
-    requires model_sized { KindRoom (model_of model) }
-    requires cosine_room { length cosines.old ≡ tri (model.degree + 1) }
-    requires sine_room { length sines.old ≡ tri (model.degree + 1) }
-    ensures { left result (cosines.new ∷ sines.new ∷ []) [] ≡ at_work (model_of model.entry) t cosines.old
-        sines.old }
-{
-    if kernel::covers(model.field_times, t) {
-        return both_at(model, t, cosines, sines);
+// kept: `t` beside the model: one model is asked at many times, so a struct of both would be made for each call and taken apart in it.
+impl<'a> Whole<'a> {
+    // The coefficients of one kind at t.
+    fn kind_at(self, kind: kernel::Kind, t: f64, out: &mut [f64])
+        requires same_degree { kind.degree ≡ self.model.degree }
+        requires room { length out.old ≡ tri (self.model.degree + 1) }
+        ensures { out.new ≡ kind_at kind.start (model_of self.entry.model) t }
+    {
+        let model = self.model;
+        let j = kernel::bracket(model.field_times, t);
+        let w = kernel::weight(model.field_times, t, j);
+        kind.blend(model.static_field, model.added, w, j, out);
     }
-    slices::clear(cosines);
-    slices::clear(sines);
-    Err(Refusal::Uncovered)
+
+    fn both_at(self, t: f64, cosines: &mut [f64], sines: &mut [f64]) -> Result<(), Refusal>
+        requires cosine_room { length cosines.old ≡ tri (self.model.degree + 1) }
+        requires sine_room { length sines.old ≡ tri (self.model.degree + 1) }
+        ensures { left result (cosines.new ∷ sines.new ∷ []) [] ≡ handed_two (kind_at 2 (model_of self.entry.model) t)
+            (kind_at (sines_from self.entry.model.degree) (model_of self.entry.model) t) }
+    {
+        let degree = self.model.degree;
+        let cosine = kernel::Kind { degree, start: 2 };
+        let sine = kernel::Kind {
+            degree,
+            start: 2 + inputs::places(degree),
+        };
+        self.kind_at(cosine, t, cosines);
+        self.kind_at(sine, t, sines);
+        fields::hand_two(cosines, sines)
+    }
+
+    // The field at t, where it is covered.
+    fn work(self, t: f64, cosines: &mut [f64], sines: &mut [f64]) -> Result<(), Refusal>
+        requires cosine_room { length cosines.old ≡ tri (self.model.degree + 1) }
+        requires sine_room { length sines.old ≡ tri (self.model.degree + 1) }
+        ensures { left result (cosines.new ∷ sines.new ∷ []) [] ≡ at_work (model_of self.entry.model) t cosines.old sines.old }
+    {
+        if kernel::covers(self.model.field_times, t) {
+            return self.both_at(t, cosines, sines);
+        }
+        slices::clear(cosines);
+        slices::clear(sines);
+        Err(Refusal::Uncovered)
+    }
 }
 
 // ---- the calls
@@ -157,5 +152,6 @@ pub fn at(
 {
     at_refusal(model, t, cosines.len(), sines.len(), scratch.len())?;
     slices::clear(scratch);
-    work(model, t, cosines, sines)
+    let whole = Whole { model };
+    whole.work(t, cosines, sines)
 }

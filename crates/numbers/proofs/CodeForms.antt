@@ -1,5 +1,5 @@
 -- What the definitions satisfy, in the form that the code has them. Assumes nothing.
-use Rattle.std.proofs.Common.{◌≡◌, ℕ, zero, suc, ◌+◌, ◌-◌, ◌*◌, ◌/◌, ◌%◌, ◌<◌, ◌≤◌, Bool, true, false, cond, not, ◌&&◌, T, eqb, ltb, List, get_or, ℤ, sym, refl, ap, ◌∙◌, subst, not-suc-le-zero, add-one, arith, eqb→eq, ltb→lt, eq-eqb}
+use Rattle.std.proofs.Common.{◌≡◌, ℕ, zero, suc, ◌+◌, ◌-◌, ◌*◌, ◌/◌, ◌%◌, ◌<◌, ◌≤◌, Bool, true, false, cond, not, ◌&&◌, T, eqb, ltb, List, get_or, ℤ, pos, negsuc, sym, refl, ap, ◌∙◌, subst, not-suc-le-zero, add-one, arith, eqb→eq, ltb→lt, eq-eqb}
 use mathlib.Core.Bool.{beq}
 use native.Mathlib.Nat.{div-eq_of_lt, div-eq-sub-div}
 use lib.Dec.{eqb-suc-zero}
@@ -235,6 +235,19 @@ module _ (a b c d : Float) where
   choose_3 (suc zero) f g h = absurd (g refl)
   choose_3 (suc (suc zero)) f g h = absurd (h refl)
   choose_3 (suc (suc (suc n))) f g h = refl
+
+  -- a quarter of a turn more
+  pub choose_next : (j : ℕ) → j < 4 → choose ((j + 1) % 4) a b c d ≡ choose j b c d a
+  choose_next zero h = refl
+  choose_next (suc zero) h = refl
+  choose_next (suc (suc zero)) h = refl
+  choose_next (suc (suc (suc zero))) h = refl
+  choose_next (suc (suc (suc (suc n)))) h = absurd (omega arith)
+
+pub quarter_small : (k : ℤ) → quarter k < 4
+unfolding quarter
+quarter_small (pos n) = omega arith
+quarter_small (negsuc n) = omega arith
 
 pub sine_is : (x : Float) (k : ℤ) (r : Float) (j : ℕ) → r ≡ rest x k → j ≡ quarter k
     → choose j (sine_near r) (cosine_near r) (neg (sine_near r)) (neg (cosine_near r)) ≡ sine_at x k

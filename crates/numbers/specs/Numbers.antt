@@ -1,7 +1,7 @@
 -- The elementary numbers of document 01 ("Elementary numbers"), over binary64; its square root is `root`'s. Assumes nothing.
-use Rattle.std.specs.Prelude.{ℕ, zero, suc, ◌+◌, ◌-◌, ◌*◌, ◌/◌, ◌%◌, Bool, cond, ◌&&◌, ◌||◌, List, [], ◌∷◌, map, ℤ, pos, negsuc, neg_ℤ, ◌==◌, is_nan, slice_index_or, Float}
+use Rattle.std.specs.Prelude.{ℕ, zero, suc, ◌+◌, ◌-◌, ◌*◌, ◌/◌, ◌%◌, Bool, cond, ◌&&◌, ◌||◌, List, [], ◌∷◌, map, ℤ, pos, negsuc, neg_ℤ, ◌==◌, is_nan, slice_index_or, nat_le, Float}
 use Rattle.std.specs.Float.{nan, inf, fin, binary64}
-use Rattle.std.specs.Float.Ieee.{neg, lt, le, eq, of_int, up, down}
+use Rattle.std.specs.Float.Ieee.{neg, lt, le, eq, of_int, to_unsigned, up, down}
 use Rattle.laws.specs.Floats.{◌⊕◌, ◌⊖◌, ◌⊗◌, ◌⊘◌, bits, zero64, one64}
 use Rattle.laws.specs.WholeNumbers.{number}
 use Rattle.root.specs.Root.{sqrt}
@@ -182,3 +182,9 @@ carried a n c = carried_in n a n c
 -- the power of a to n: carried in 1 "at first"
 abbrev pub power : Float → ℕ → Float
 power a n = carried a n one64
+
+-- ---- a count that is kept as a float
+
+-- x without its fraction; 0 where that is below zero or above `most`, and for NaN
+unfoldable pub count_of : Float → ℕ → ℕ
+count_of x most = let n = to_unsigned 64 x in cond (nat_le n most) n 0

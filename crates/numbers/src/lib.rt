@@ -3,12 +3,12 @@
 
 ghost use Rattle.std.specs.Prelude.{◌≡◌, suc, ◌/◌, ◌<◌, ◌≤◌, true, false, T, length};
 ghost use Rattle.std.specs.Int.Signed.{mag};
-ghost use Rattle.std.specs.Float.Ieee.{lt};
+ghost use Rattle.std.specs.Float.Ieee.{neg, lt};
 ghost use Rattle.std.specs.Float.Ieee.Scale.{finite};
 ghost use Rattle.numbers.specs.Numbers.{carried, power, horner, alternating, downward, magnitude, angle_near, angle, eighth, left, below};
-ghost use Rattle.numbers.specs.Numbers.{arctangent, arcsine, sine_near, cosine_near, near, rounded, quarter, rest, sine_at, cosine_at, sine, cosine};
-ghost use Rattle.numbers.specs.Numbers.{sine_cosine_at, sine_cosine, halved, half_pi};
-ghost use Rattle.laws.specs.Floats.{◌⊘◌, zero64};
+ghost use Rattle.numbers.specs.Numbers.{arctangent, arcsine, sine_near, cosine_near, near, rounded, quarter, rest, choose, sine, cosine};
+ghost use Rattle.numbers.specs.Numbers.{sine_cosine_at, sine_cosine, halved, half_pi, count_of};
+ghost use Rattle.laws.specs.Floats.{◌⊕◌, ◌⊗◌, ◌⊘◌, zero64, one64};
 ghost use Rattle.laws.specs.WholeNumbers.{number};
 ghost use Rattle.laws.specs.Tables.{tri};
 ghost use Rattle.numbers.specs.Seconds.{whole_second};
@@ -52,7 +52,7 @@ fn horner(z: f64, table: &[f64], first: usize, step: usize, sign: f64) -> f64
     requires { (0 < step) × (first < length table.now) }
     ensures { result ≡ horner z (alternating sign (downward table.now step first (suc (first / step)))) }
 {
-    // kept: the place falls by `step`, and this is the innermost loop of sine and cosine
+    // kept: `for i in (first % step..first).step_by(step).rev()` gives the same places, but a sine then takes 1.4 times as long, its turns no longer unrolled.
     let mut i = first;
     let mut s = sign;
     let mut p = s / table[i];
@@ -90,12 +90,20 @@ fn rest(x: f64, k: i64) -> f64
     (x - f * HALF_PI_HIGH) - f * HALF_PI_LOW
 }
 
+// x + x·(z·p), z = x², where p's signs begin with −.
+fn odd_series(x: f64, table: &[f64], first: usize, step: usize) -> f64
+    requires { (0 < step) × (first < length table.now) }
+    ensures { let z = x ⊗ x in result ≡ x ⊕ x ⊗ (z ⊗ horner z (alternating (neg one64) (downward table.now step first (suc (first / step))))) }
+{
+    let z = x * x;
+    x + x * (z * horner(z, table, first, step, -1.0))
+}
+
 // From 15! at place 13 by twos to 3!.
 fn sine_near(r: f64) -> f64
     ensures { result ≡ sine_near r }
 {
-    let z = r * r;
-    r + r * (z * horner(z, &FACTORIALS, 13, 2, -1.0))
+    odd_series(r, &FACTORIALS, 13, 2)
 }
 
 // From 16! at place 14 by twos to 2!.
@@ -114,11 +122,10 @@ fn quarter(k: i64) -> u64
     if m < 0 { (m + 4) as u64 } else { m as u64 }
 }
 
-fn sine_at(x: f64, k: i64) -> f64
-    ensures { result ≡ sine_at x k }
+// The sine of j quarters of a turn and r more.
+fn sine_past(j: u64, r: f64) -> f64
+    ensures { result ≡ choose j (sine_near r) (cosine_near r) (neg (sine_near r)) (neg (cosine_near r)) }
 {
-    let r = rest(x, k);
-    let j = quarter(k);
     if j == 0 {
         sine_near(r)
     } else if j == 1 {
@@ -130,39 +137,31 @@ fn sine_at(x: f64, k: i64) -> f64
     }
 }
 
-fn cosine_at(x: f64, k: i64) -> f64
-    ensures { result ≡ cosine_at x k }
+// The sine of x, or of a quarter of a turn more; NaN where x is not finite or its magnitude exceeds 2^20.
+fn sine_ahead(x: f64, quarters: u64) -> f64
+    requires { quarters ≤ 1 }
+    ensures sine { quarters ≡ 0 → result ≡ sine x }
+    ensures cosine { quarters ≡ 1 → result ≡ cosine x }
 {
-    let r = rest(x, k);
-    let j = quarter(k);
-    if j == 0 {
-        cosine_near(r)
-    } else if j == 1 {
-        -sine_near(r)
-    } else if j == 2 {
-        -cosine_near(r)
-    } else {
-        sine_near(r)
+    if x >= -1048576.0 && x <= 1048576.0 {
+        let k = turns(x);
+        return sine_past((quarter(k) + quarters) % 4, rest(x, k));
     }
+    0.0 / 0.0
 }
 
 // NaN where x is not finite or its magnitude exceeds 2^20.
 pub fn sine(x: f64) -> f64
     ensures { result ≡ sine x }
 {
-    if x >= -1048576.0 && x <= 1048576.0 {
-        return sine_at(x, turns(x));
-    }
-    0.0 / 0.0
+    sine_ahead(x, 0)
 }
 
+// The sine of a quarter of a turn more.
 pub fn cosine(x: f64) -> f64
     ensures { result ≡ cosine x }
 {
-    if x >= -1048576.0 && x <= 1048576.0 {
-        return cosine_at(x, turns(x));
-    }
-    0.0 / 0.0
+    sine_ahead(x, 1)
 }
 
 #[derive(Clone, Copy)]
@@ -221,8 +220,7 @@ pub fn magnitude(x: f64) -> f64
 fn angle_near(q: f64) -> f64
     ensures { result ≡ angle_near q }
 {
-    let w = q * q;
-    q + q * (w * horner(w, &ODDS, 20, 1, -1.0))
+    odd_series(q, &ODDS, 20, 1)
 }
 
 // The angle whose tangent is q, for q from 0 to 1.
@@ -347,20 +345,28 @@ pub fn is_finite(x: f64) -> bool
     d == d
 }
 
-// A small whole number as a float.
+// The float nearest a whole number.
 pub fn float_of(n: usize) -> f64
-    requires { n ≤ 9007199254740992 }
     ensures { result ≡ number n }
 {
-    n as f64
+    std::num::nearest_usize_to_f64(n)
+}
+
+// A count that is kept as a float, without its fraction; 0 where that is below zero or above `most`, and for NaN.
+#[tactic(auto, using(std::proofs::lemmas::Bool::Decides::nat_tests), unfolding(crate::specs::Numbers::count_of))]
+pub fn count_of(x: f64, most: usize) -> usize
+    ensures { (result ≡ count_of x most) × (result ≤ most) }
+{
+    let n = std::num::saturating_f64_to_usize(x);
+    if n <= most { n } else { 0 }
 }
 
 // Where row n of a triangular table begins, a place for each order up to the degree: so also how many places the rows before it have.
+// Of a row above 181, which no table has, the bound alone is promised.
 pub fn triangle(n: usize) -> usize
-    requires { n ≤ 181 }
-    ensures { (result ≡ tri n) × (result ≤ 16471) }
+    ensures { (n ≤ 181 → result ≡ tri n) × (result ≤ 16471) }
 {
-    n * (n + 1) / 2
+    if n <= 181 { n * (n + 1) / 2 } else { 0 }
 }
 
 // A whole GPS second, which keys a list.

@@ -2,7 +2,7 @@
 // (S. Butterworth, Experimental Wireless 7, 1930), where the bilinear transform of the RBJ cookbook makes x the ratio of tan(w / 2) to that of the corner.
 ghost use Rattle.std.specs.Prelude.{◌≤◌};
 
-use crate::table::Tally;
+use crate::table::{Heading, Tally};
 use slices::Refusal;
 use std::f64::consts::PI;
 
@@ -45,7 +45,7 @@ fn side_power(s: [f64; 20], k: usize, w: f64) -> f64
 }
 
 // A section's sums cancel to (2 pi f dt)^2, at least 3.9e-5 here, so that some roundings of 2.2e-16 leave 1e-10.
-fn power_row(t: Tally, what: &[u8], published: f64, ours: Result<f64, Refusal>) -> Tally {
+fn power_row(t: Tally, what: &str, published: f64, ours: Result<f64, Refusal>) -> Tally {
     crate::table::row(t, what, 12, published, ours, 1e-10)
 }
 
@@ -60,19 +60,19 @@ fn design(t: Tally, low: f64, high: f64, dt: f64) -> Tally {
     let off_rise = band.map(|s| side_power(s, HIGH_PASS, rise / 2.0));
     let at_fall = band.map(|s| side_power(s, LOW_PASS, fall));
     let off_fall = band.map(|s| side_power(s, LOW_PASS, 2.0 * fall));
-    let a = power_row(t, b"low corner", 0.5, at_rise);
-    let b = power_row(a, b"half the low corner", below, off_rise);
-    let c = power_row(b, b"high corner", 0.5, at_fall);
-    power_row(c, b"twice the high corner", above, off_fall)
+    let a = power_row(t, "low corner", 0.5, at_rise);
+    let b = power_row(a, "half the low corner", below, off_rise);
+    let c = power_row(b, "high corner", 0.5, at_fall);
+    power_row(c, "twice the high corner", above, off_fall)
 }
 
 pub fn group(t: Tally) -> Tally {
-    crate::table::say_heading(
-        b"Power passed by the band of 1 to 10 mHz, samples 2 s apart (Butterworth 1930; RBJ cookbook)",
-    );
+    crate::text::say(Heading(
+        "Power passed by the band of 1 to 10 mHz, samples 2 s apart (Butterworth 1930; RBJ cookbook)",
+    ));
     let a = design(t, 1e-3, 10e-3, 2.0);
-    crate::table::say_heading(b"The same for 0.5 to 20 mHz, samples 5 s apart");
+    crate::text::say(Heading("The same for 0.5 to 20 mHz, samples 5 s apart"));
     let b = design(a, 0.5e-3, 20e-3, 5.0);
-    crate::table::say_heading(b"The same for 3 to 50 mHz, samples 1 s apart");
+    crate::text::say(Heading("The same for 3 to 50 mHz, samples 1 s apart"));
     design(b, 3e-3, 50e-3, 1.0)
 }

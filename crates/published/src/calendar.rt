@@ -1,23 +1,20 @@
 // Dates of the Gregorian calendar as seconds past 2000-01-01 12:00.
 ghost use Rattle.std.specs.Prelude.{◌≤◌};
 
-// The value of a decimal digit, 0 for any other byte.
-fn digit(b: u8) -> u64
+// The value of the decimal digit at a place, 0 where none stands.
+fn value_at(text: &str, at: usize) -> u64
     ensures { result ≤ 9 }
 {
-    if b.is_ascii_digit() {
-        u64::from(b - b'0')
-    } else {
-        0
-    }
+    let byte = text.as_bytes().get(at).copied().unwrap_or(0);
+    u64::from(char::from(byte).to_digit(10).unwrap_or(0))
 }
 
-// The number of two digits.
-fn two(text: &[u8; 19], at: usize) -> u64
+// The number of two digits, each 0 where none stands.
+fn two(text: &str, at: usize) -> u64
     requires { at ≤ 17 }
     ensures { result ≤ 99 }
 {
-    10 * digit(text[at]) + digit(text[at + 1])
+    10 * value_at(text, at) + value_at(text, at + 1)
 }
 
 // The Julian day number of a date (H. F. Fliegel and T. C. Van Flandern, Communications of the ACM 11, 1968).
@@ -31,7 +28,7 @@ fn julian_day(year: u64, month: u64, day: u64) -> u64
 }
 
 // The seconds from 2000-01-01 12:00 to the time of a text such as 2001-06-21 12:04:46, in its own scale.
-pub fn seconds(text: &[u8; 19]) -> f64 {
+pub fn seconds(text: &str) -> f64 {
     let year = 100 * two(text, 0) + two(text, 2);
     let day = julian_day(year, two(text, 5), two(text, 8));
     let second = 3600 * two(text, 11) + 60 * two(text, 14) + two(text, 17);

@@ -3,7 +3,7 @@
 ghost use Rattle.std.specs.Prelude.{◌≡◌};
 ghost use Rattle.published.specs.Shown.{magnitude_of_sum};
 
-use crate::table::Tally;
+use crate::table::{Heading, Tally};
 use slices::Refusal;
 use vectors::Vector;
 
@@ -75,12 +75,10 @@ fn normal_gravity(x: f64, y: f64, z: f64) -> Result<f64, Refusal> {
 }
 
 pub fn group(t: Tally) -> Tally {
-    crate::table::say_heading(
-        b"Normal gravity of the reference system GRS 80 (Moritz 2000), m/s^2",
-    );
+    crate::text::say(Heading("Normal gravity of the reference system GRS 80 (Moritz 2000), m/s^2"));
     let equator = crate::table::row(
         t,
-        b"at the equator",
+        "at the equator",
         10,
         AT_EQUATOR,
         normal_gravity(A, 0.0, 0.0),
@@ -88,7 +86,7 @@ pub fn group(t: Tally) -> Tally {
     );
     crate::table::row(
         equator,
-        b"at the pole",
+        "at the pole",
         10,
         AT_POLE,
         normal_gravity(0.0, 0.0, B),

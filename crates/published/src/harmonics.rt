@@ -2,10 +2,11 @@
 // §1-14), and two sums of squares to degree 180 that follow from the addition theorem (§1-15).
 ghost use Rattle.std.specs.Prelude.{◌≤◌};
 
-use crate::table::Tally;
+use crate::table::{Heading, Tally};
 use slices::Refusal;
+use std::f64::consts::PI;
 
-const DEGREE: f64 = 3.141592653589793 / 180.0;
+const DEGREE: f64 = PI / 180.0;
 
 // ---- closed forms
 
@@ -40,7 +41,7 @@ fn to_degree_3(lat: f64) -> Result<[f64; 10], Refusal> {
 // The function at k. Rounding to 2.2e-16 a few times leaves 1e-14.
 fn form(
     t: Tally,
-    what: &[u8],
+    what: &str,
     k: usize,
     published: [f64; 10],
     ours: Result<[f64; 10], Refusal>,
@@ -54,23 +55,23 @@ fn forms_at(t: Tally, lat: f64) -> Tally {
     let sc = numbers::sine_cosine(lat);
     let q = closed(sc.sine, sc.cosine);
     let ours = to_degree_3(lat);
-    let a = form(t, b"P(1,0)", 1, q, ours);
-    let b = form(a, b"P(1,1)", 2, q, ours);
-    let c = form(b, b"P(2,0)", 3, q, ours);
-    let d = form(c, b"P(2,1)", 4, q, ours);
-    let e = form(d, b"P(2,2)", 5, q, ours);
-    let f = form(e, b"P(3,0)", 6, q, ours);
-    let g = form(f, b"P(3,1)", 7, q, ours);
-    let h = form(g, b"P(3,2)", 8, q, ours);
-    form(h, b"P(3,3)", 9, q, ours)
+    let a = form(t, "P(1,0)", 1, q, ours);
+    let b = form(a, "P(1,1)", 2, q, ours);
+    let c = form(b, "P(2,0)", 3, q, ours);
+    let d = form(c, "P(2,1)", 4, q, ours);
+    let e = form(d, "P(2,2)", 5, q, ours);
+    let f = form(e, "P(3,0)", 6, q, ours);
+    let g = form(f, "P(3,1)", 7, q, ours);
+    let h = form(g, "P(3,2)", 8, q, ours);
+    form(h, "P(3,3)", 9, q, ours)
 }
 
 pub fn closed_forms(t: Tally) -> Tally {
-    crate::table::say_heading(
-        b"Normalised Legendre functions at latitude 30 degrees, closed forms (Heiskanen and Moritz 1967)",
-    );
+    crate::text::say(Heading(
+        "Normalised Legendre functions at latitude 30 degrees, closed forms (Heiskanen and Moritz 1967)",
+    ));
     let north = forms_at(t, 30.0 * DEGREE);
-    crate::table::say_heading(b"The same at latitude -65 degrees");
+    crate::text::say(Heading("The same at latitude -65 degrees"));
     forms_at(north, -65.0 * DEGREE)
 }
 
@@ -90,9 +91,10 @@ fn published_sum(n: f64, derived: bool) -> f64 {
     }
 }
 
+// kept: `a, b` are two operands here and in two more functions; below they are the tables that document 01's call takes one by one.
 // Of two ratios the one farther from 1; a NaN stays.
 fn farther(a: f64, b: f64) -> f64 {
-    if crate::text::magnitude(a - 1.0) < crate::text::magnitude(b - 1.0) {
+    if numbers::magnitude(a - 1.0) < numbers::magnitude(b - 1.0) {
         return b;
     }
     if b.is_nan() { b } else { a }
@@ -118,7 +120,7 @@ fn farthest(table: &[f64], derived: bool) -> f64 {
 // Two rows at a latitude, in degrees. A recursion of 180 steps, each rounded to 2.2e-16 a few times, leaves 1e-12 near the pole.
 fn sums_at(
     t: Tally,
-    what: &[u8],
+    what: &str,
     tables: Result<(), Refusal>,
     a: &[f64],
     b: &[f64],
@@ -140,25 +142,25 @@ fn sums_at(
     let values = answer.map(|()| farthest(&p, false));
     let derivatives = answer.map(|()| farthest(&dp, true));
     let first = crate::table::row(t, what, 14, 1.0, values, 1e-12);
-    crate::table::row(first, b"  derivatives", 14, 1.0, derivatives, 1e-12)
+    crate::table::row(first, "  derivatives", 14, 1.0, derivatives, 1e-12)
 }
 
 // With the tables of degree 180, o says whether they were filled.
 fn sums_with(t: Tally, o: Result<(), Refusal>, a: &[f64], b: &[f64]) -> Tally {
-    let c = sums_at(t, b"latitude -75", o, a, b, -75.0);
-    let d = sums_at(c, b"latitude -20", o, a, b, -20.0);
-    let e = sums_at(d, b"latitude 5", o, a, b, 5.0);
-    let f = sums_at(e, b"latitude 45", o, a, b, 45.0);
-    sums_at(f, b"latitude 89", o, a, b, 89.0)
+    let c = sums_at(t, "latitude -75", o, a, b, -75.0);
+    let d = sums_at(c, "latitude -20", o, a, b, -20.0);
+    let e = sums_at(d, "latitude 5", o, a, b, 5.0);
+    let f = sums_at(e, "latitude 45", o, a, b, 45.0);
+    sums_at(f, "latitude 89", o, a, b, 89.0)
 }
 
 pub fn sums(t: Tally) -> Tally {
     let mut a = [0.0; 16471];
     let mut b = [0.0; 16471];
     let mut scratch = [0.0; 131768];
-    crate::table::say_heading(
-        b"Sum over m of P(n,m)^2 / (2n+1), of P'(n,m)^2 / (n(n+1)(2n+1)/2): of n = 1 to 180 the farthest from 1",
-    );
+    crate::text::say(Heading(
+        "Sum over m of P(n,m)^2 / (2n+1), of P'(n,m)^2 / (n(n+1)(2n+1)/2): of n = 1 to 180 the farthest from 1",
+    ));
     let outcome = fields::legendre_new(180, &mut a, &mut b, &mut scratch);
     sums_with(t, outcome, &a, &b)
 }

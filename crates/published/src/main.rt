@@ -29,10 +29,10 @@ fn groups() -> Tally {
 
 fn main() {
     text::say(
-        b"Published values beside the engine's own, each through a public call. Accuracy: what the source states, or",
+        "Published values beside the engine's own, each through a public call. Accuracy: what the source states, or",
     );
     text::say(
-        b"what its digits and the terms that it leaves out allow; for an identity, what rounding leaves.",
+        "what its digits and the terms that it leaves out allow; for an identity, what rounding leaves.",
     );
-    table::say_total(groups());
+    text::say(groups());
 }

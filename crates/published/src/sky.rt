@@ -2,7 +2,7 @@
 ghost use Rattle.std.specs.Prelude.{◌≡◌};
 ghost use Rattle.published.specs.Shown.{axis_distance, gamma_of, sun_distance_of, tide_c20, c20_of, plus_of, times_of};
 
-use crate::table::Tally;
+use crate::table::{Heading, Tally};
 use slices::Refusal;
 use solid_tide::SolidTide;
 use sun_moon::SunMoon;
@@ -36,24 +36,24 @@ fn gamma(places: Result<SunMoon, Refusal>) -> Result<f64, Refusal>
 }
 
 // At the greatest eclipse, in terrestrial time.
-fn eclipse(t: Tally, greatest: &[u8; 19], published: f64) -> Tally {
+fn eclipse(t: Tally, greatest: &str, published: f64) -> Tally {
     let places = forces::sun_moon(crate::calendar::seconds(greatest) - TT_LESS_GPS);
     crate::table::row(t, greatest, 4, published, gamma(places), SOME_ARCMINUTES)
 }
 
 // Eight eclipses of NASA's catalogue (F. Espenak and J. Meeus, Five Millennium Catalog of Solar Eclipses, NASA/TP-2006-214141).
 pub fn eclipses(t: Tally) -> Tally {
-    crate::table::say_heading(
-        b"Greatest eclipse, TT: distance of the shadow's axis from the Earth's centre, equatorial radii (NASA)",
-    );
-    let a = eclipse(t, b"2001-06-21 12:04:46", 0.5701);
-    let b = eclipse(a, b"2006-03-29 10:12:23", 0.3843);
-    let c = eclipse(b, b"2009-07-22 02:36:25", 0.0698);
-    let d = eclipse(c, b"2015-03-20 09:46:47", 0.9454);
-    let e = eclipse(d, b"2017-08-21 18:26:40", 0.4367);
-    let f = eclipse(e, b"2019-07-02 19:24:08", 0.6466);
-    let g = eclipse(f, b"2020-06-21 06:41:15", 0.1209);
-    eclipse(g, b"2024-04-08 18:18:29", 0.3431)
+    crate::text::say(Heading(
+        "Greatest eclipse, TT: distance of the shadow's axis from the Earth's centre, equatorial radii (NASA)",
+    ));
+    let a = eclipse(t, "2001-06-21 12:04:46", 0.5701);
+    let b = eclipse(a, "2006-03-29 10:12:23", 0.3843);
+    let c = eclipse(b, "2009-07-22 02:36:25", 0.0698);
+    let d = eclipse(c, "2015-03-20 09:46:47", 0.9454);
+    let e = eclipse(d, "2017-08-21 18:26:40", 0.4367);
+    let f = eclipse(e, "2019-07-02 19:24:08", 0.6466);
+    let g = eclipse(f, "2020-06-21 06:41:15", 0.1209);
+    eclipse(g, "2024-04-08 18:18:29", 0.3431)
 }
 
 // ---- the Sun's distance
@@ -69,17 +69,17 @@ fn sun_distance(places: Result<SunMoon, Refusal>) -> Result<f64, Refusal>
 }
 
 // The series is a Kepler orbit with three decimals, without the pull of the Moon and the planets: one part in ten thousand.
-fn distance(t: Tally, utc: &[u8; 19], published: f64) -> Tally {
+fn distance(t: Tally, utc: &str, published: f64) -> Tally {
     let places = forces::sun_moon(crate::calendar::seconds(utc) + GPS_LESS_UTC);
     crate::table::row(t, utc, 6, published, sun_distance(places), published * 1e-4)
 }
 
 pub fn distances(t: Tally) -> Tally {
-    crate::table::say_heading(
-        b"Distance of the Sun at aphelion and perihelion, UTC, million km (almanacs)",
-    );
-    let a = distance(t, b"2019-07-04 22:11:00", 152.104_285);
-    distance(a, b"2020-01-05 07:48:00", 147.091_144)
+    crate::text::say(Heading(
+        "Distance of the Sun at aphelion and perihelion, UTC, million km (almanacs)",
+    ));
+    let a = distance(t, "2019-07-04 22:11:00", 152.104_285);
+    distance(a, "2020-01-05 07:48:00", 147.091_144)
 }
 
 // ---- the permanent tide
@@ -137,13 +137,13 @@ fn mean_c20() -> Result<f64, Refusal> {
 
 // The source has four to five digits, and the Moon's distance is good to 500 km: a tenth of a percent.
 pub fn tide(t: Tally) -> Tally {
-    crate::table::say_heading(
-        b"Permanent part of the solid tide's C(2,0), 1e-9 (IERS Conventions 2010, section 6.2.2)",
-    );
+    crate::text::say(Heading(
+        "Permanent part of the solid tide's C(2,0), 1e-9 (IERS Conventions 2010, section 6.2.2)",
+    ));
     let published = A0 * H0 * K20;
     crate::table::row(
         t,
-        b"mean of 37.2268 years",
+        "mean of 37.2268 years",
         6,
         published,
         mean_c20(),

@@ -29,7 +29,8 @@ put_upto_all [] vs e = refl
 put_upto_all (x ∷ xs) [] e = absurd (omega arith)
 put_upto_all (x ∷ xs) (v ∷ vs) e = put_upto_cons x xs v vs (length xs) ∙ ap (λ (l : List Epoch). with_residual x v ∷ l) (put_upto_all xs vs (omega arith))
 
-pub put_upto_done : (xs : List Epoch) (vs : List Float) (i : ℕ) (l : List Epoch) → length xs ≤ length vs → i ≤ length xs → length l ≤ i → l ≡ put_upto xs vs i → l ≡ put_back xs vs
+pub put_upto_done : (xs : List Epoch) (vs : List Float) (i : ℕ) (l : List Epoch) → length xs ≤ length vs → i ≤ length xs → length l ≤ i →
+    l ≡ put_upto xs vs i → l ≡ put_back xs vs
 put_upto_done xs vs i l h a b e =
     let n : i ≡ length xs = omega (arith, length_put_upto xs vs i, ap length e) in
     e ∙ ap (put_upto xs vs) n ∙ put_upto_all xs vs h

@@ -11,6 +11,7 @@ ghost use Rattle.std.specs.Float.Ieee.{to_bits};
 ghost use Rattle.std.specs.Int.{w64};
 ghost use Rattle.std.proofs.Common.{to_z, of_z};
 ghost use Rattle.std.specs.List.{list_all};
+ghost use Rattle.std.specs.Iterator.{at_most};
 
 use slices::Refusal;
 
@@ -23,16 +24,28 @@ pub fn next() -> Option<u64> {
     hexadecimal::word(&line, 0)
 }
 
-// Answers the calls of a list by their numbers, until it ends.
-pub fn answer_each<F: Fn(u64)>(answer: F)
-    requires { F.IsAlwaysCallable answer }
-{
-    for _ in 0..100000 {
-        let Some(call) = next() else {
-            return;
-        };
-        answer(call);
+// The calls of a list by their numbers, until it ends. No list has more than `left` of them.
+#[derive(Drop)]
+pub struct Calls {
+    pub left: u32,
+}
+
+impl Iterator for Calls {
+    type Item = u64;
+
+    ghost remaining = { λ calls. at_most calls.left };
+
+    fn next(&mut self) -> Option<u64> {
+        self.left = self.left.checked_sub(1)?;
+        next()
     }
+}
+
+// kept: each program has its own loop over these: a function that runs it would be handed the answer, and would have to ask that it may be called.
+pub fn each_call() -> Calls
+    ensures { result.left ≡ 100000 }
+{
+    Calls { left: 100000 }
 }
 
 // What one word says.
@@ -148,8 +161,9 @@ pub fn unsigned(key: i64) -> u64
 pub fn fill<T: Word>(out: &mut [T], count: usize)
     ensures { drop count out.new ≡ drop count out.old }
 {
-    for i in 0..count.min(out.len()) {
-        out[i] = T::read();
+    let n = count.min(out.len());
+    for place in out[..n].iter_mut() {
+        *place = T::read();
     }
 }
 
@@ -179,6 +193,7 @@ pub fn front<'a, T>(room: &'a mut [T]) -> &'a mut [T] {
 }
 
 // What is written as lines.
+// kept: `say`, not `Display`: a line is a word of 16 digits, which `hexadecimal::put_word` writes with a promise; `Display` promises none.
 pub trait Said {
     fn say(&self);
 }

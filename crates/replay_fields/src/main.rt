@@ -148,5 +148,7 @@ fn answer(call: u64) {
 }
 
 fn main() {
-    replay::answer_each(answer);
+    for call in replay::each_call() {
+        answer(call);
+    }
 }

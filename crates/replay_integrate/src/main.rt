@@ -6,6 +6,7 @@ use inputs::Model;
 use integrate::kernel::{Arc, Force};
 use replay::{Said, Word};
 
+// kept: `replay_orbits` has this function too: `Arc` is a type of `integrate`, on which crate `replay` does not depend.
 fn arc_of() -> Arc {
     let t0 = replay::float();
     let steps = usize::read();
@@ -49,7 +50,7 @@ fn with_model(model: Model<'_>) {
     replay::say_left(scratch, 7.0);
 }
 
-fn answer(_call: u64) {
+fn answer() {
     let mut f = [0.0; 200];
     let mut p = [0.0; 100];
     let mut q = [0.0; 100];
@@ -72,5 +73,7 @@ fn answer(_call: u64) {
 }
 
 fn main() {
-    replay::answer_each(answer);
+    for _ in replay::each_call() {
+        answer();
+    }
 }

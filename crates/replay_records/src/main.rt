@@ -54,8 +54,8 @@ fn read_epochs(n: usize) -> [Epoch; 128]
         vel: [0.0; 3],
     };
     let mut epochs = [none; 128];
-    for i in 0..n {
-        epochs[i] = read_epoch();
+    for epoch in epochs[..n].iter_mut() {
+        *epoch = read_epoch();
     }
     epochs
 }
@@ -70,7 +70,7 @@ fn removed(mut epochs: [Epoch; 128], n: usize, nodes: &[f64], scratch: &mut [f64
     Left { answer, epochs }
 }
 
-fn answer(_call: u64) {
+fn answer() {
     let mut u = [0.0; 66];
     let mut w = [7.0; 1100];
     let n = replay::count(128);
@@ -86,5 +86,7 @@ fn answer(_call: u64) {
 }
 
 fn main() {
-    replay::answer_each(answer);
+    for _ in replay::each_call() {
+        answer();
+    }
 }

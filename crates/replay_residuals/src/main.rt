@@ -70,13 +70,25 @@ fn run_list(inputs: Inputs<'_>, scratch: &mut [f64]) {
     replay::say_left(scratch, 7.0);
 }
 
-// The model, the states, the accelerometer values and the length of the scratch come next.
-fn answer(call: u64) {
-    let mut f = [0.0; 80];
-    let mut x = [0.0; 40];
-    let mut y = [0.0; 40];
-    let mut t = [0.0; 40];
-    let mut g = [0.0; 700];
+// The length of the scratch comes next.
+fn with_inputs(call: u64, inputs: Inputs<'_>) {
+    let mut w = [7.0; 160000];
+    let scratch = replay::front(&mut w);
+    match call {
+        0 => run_epoch(inputs, scratch),
+        _ => run_list(inputs, scratch),
+    }
+}
+
+fn keyed<'a>(keys: &'a mut [i64], values: &'a mut [f64]) -> Keyed<'a> {
+    Keyed {
+        keys: replay::full_list(keys),
+        values: replay::full_list(values),
+    }
+}
+
+// The states and the accelerometer values come next.
+fn with_model(call: u64, model: Model<'_>) {
     let mut ck = [0i64; 32];
     let mut cs = [0.0; 200];
     let mut dk = [0i64; 32];
@@ -85,7 +97,29 @@ fn answer(call: u64) {
     let mut av = [0.0; 32];
     let mut bk = [0i64; 32];
     let mut bv = [0.0; 32];
-    let mut w = [7.0; 160000];
+    let states = Pair {
+        c: keyed(&mut ck, &mut cs),
+        d: keyed(&mut dk, &mut ds),
+    };
+    let accs = Pair {
+        c: keyed(&mut ak, &mut av),
+        d: keyed(&mut bk, &mut bv),
+    };
+    let inputs = Inputs {
+        model,
+        states,
+        accs,
+    };
+    with_inputs(call, inputs);
+}
+
+// The model comes next.
+fn answer(call: u64) {
+    let mut f = [0.0; 80];
+    let mut x = [0.0; 40];
+    let mut y = [0.0; 40];
+    let mut t = [0.0; 40];
+    let mut g = [0.0; 700];
     let model = Model {
         degree: replay::count(1000000),
         static_field: replay::full_list(&mut f),
@@ -94,38 +128,11 @@ fn answer(call: u64) {
         field_times: replay::full_list(&mut t),
         added: replay::full_list(&mut g),
     };
-    let states = Pair {
-        c: Keyed {
-            keys: replay::full_list(&mut ck),
-            values: replay::full_list(&mut cs),
-        },
-        d: Keyed {
-            keys: replay::full_list(&mut dk),
-            values: replay::full_list(&mut ds),
-        },
-    };
-    let accs = Pair {
-        c: Keyed {
-            keys: replay::full_list(&mut ak),
-            values: replay::full_list(&mut av),
-        },
-        d: Keyed {
-            keys: replay::full_list(&mut bk),
-            values: replay::full_list(&mut bv),
-        },
-    };
-    let inputs = Inputs {
-        model,
-        states,
-        accs,
-    };
-    let scratch = replay::front(&mut w);
-    match call {
-        0 => run_epoch(inputs, scratch),
-        _ => run_list(inputs, scratch),
-    }
+    with_model(call, model);
 }
 
 fn main() {
-    replay::answer_each(answer);
+    for call in replay::each_call() {
+        answer(call);
+    }
 }

@@ -21,31 +21,26 @@ fn key_list(out: &mut [i64], from: usize) -> usize
     n
 }
 
-// Where the keys of C and those of D end in one array, as each list may be long.
-#[derive(Clone, Copy)]
-struct Ends {
-    first: usize,
-    both: usize,
-}
-
-fn key_lists(out: &mut [i64]) -> Ends {
-    let first = key_list(out, 0);
-    let more = key_list(out, first);
-    if more > 1000000 {
-        return Ends { first, both: first };
-    }
-    if first > 1000000 {
-        return Ends { first: 0, both: 0 };
-    }
-    Ends {
-        first,
-        both: first + more,
-    }
-}
-
 // A part of a list, empty where the list does not reach.
 fn part(all: &[i64], from: usize, to: usize) -> &[i64] {
     all.get(from..to).unwrap_or(&[])
+}
+
+// The keys of C and those of D, which stand in one array, as each list may be long.
+#[derive(Clone, Copy)]
+struct Keys<'a> {
+    c: &'a [i64],
+    d: &'a [i64],
+}
+
+fn key_lists<'a>(room: &'a mut [i64]) -> Keys<'a> {
+    let first = key_list(room, 0);
+    let more = key_list(room, first);
+    let both = first.saturating_add(more);
+    Keys {
+        c: part(room, 0, first),
+        d: part(room, first, both),
+    }
 }
 
 // The kept entries, and what is left after them.
@@ -96,46 +91,29 @@ fn observed(inputs: Inputs<'_>) {
     });
 }
 
-// All lists but nodes and observations come next.
-fn answer(_call: u64) {
-    let mut f = [0.0; 200];
-    let mut x = [0.0; 100];
-    let mut y = [0.0; 100];
-    let mut t = [0.0; 40];
-    let mut g = [0.0; 1200];
-    let mut room = [0i64; 202000];
-    let mut accroom = [0i64; 202000];
+// The numbers behind the keys come next, those of the states first.
+fn with_values(model: Model<'_>, states: Keys<'_>, accs: Keys<'_>) {
     let mut cs = [0.0; 6000];
     let mut ds = [0.0; 6000];
     let mut av = [0.0; 1000];
     let mut bv = [0.0; 1000];
-    let model = Model {
-        degree: usize::read(),
-        static_field: replay::list(&mut f),
-        table_a: replay::list(&mut x),
-        table_b: replay::list(&mut y),
-        field_times: replay::list(&mut t),
-        added: replay::list(&mut g),
-    };
-    let k = key_lists(&mut room);
-    let l = key_lists(&mut accroom);
     let states = Pair {
         c: Keyed {
-            keys: part(&room, 0, k.first),
+            keys: states.c,
             values: replay::list(&mut cs),
         },
         d: Keyed {
-            keys: part(&room, k.first, k.both),
+            keys: states.d,
             values: replay::list(&mut ds),
         },
     };
     let accs = Pair {
         c: Keyed {
-            keys: part(&accroom, 0, l.first),
+            keys: accs.c,
             values: replay::list(&mut av),
         },
         d: Keyed {
-            keys: part(&accroom, l.first, l.both),
+            keys: accs.d,
             values: replay::list(&mut bv),
         },
     };
@@ -146,6 +124,32 @@ fn answer(_call: u64) {
     });
 }
 
+// The keys of the states come next, and then those of the accelerometer values.
+fn with_keys(model: Model<'_>) {
+    let mut states = [0i64; 202000];
+    let mut accs = [0i64; 202000];
+    with_values(model, key_lists(&mut states), key_lists(&mut accs));
+}
+
+// All lists but nodes and observations come next.
+fn answer() {
+    let mut f = [0.0; 200];
+    let mut x = [0.0; 100];
+    let mut y = [0.0; 100];
+    let mut t = [0.0; 40];
+    let mut g = [0.0; 1200];
+    with_keys(Model {
+        degree: usize::read(),
+        static_field: replay::list(&mut f),
+        table_a: replay::list(&mut x),
+        table_b: replay::list(&mut y),
+        field_times: replay::list(&mut t),
+        added: replay::list(&mut g),
+    });
+}
+
 fn main() {
-    replay::answer_each(answer);
+    for _ in replay::each_call() {
+        answer();
+    }
 }

@@ -16,14 +16,13 @@ use Rattle.inputs.proofs.Passed.{AllPass, all_pass}
 use Rattle.slices.specs.Calls.{Verdict, accepted}
 use Rattle.slices.specs.declared.refusal.Refusal.{Refusal}
 use Rattle.slices.specs.declared.refusal.Refusal.TheVariants.{NotFinite}
-use Rattle.std.specs.Prelude.{Ok, Err}
+use Rattle.std.specs.Prelude.{Ok, Err, Some, None}
 use Rattle.laws.specs.Loops.{cleared, same_cleared}
-use Rattle.residuals.specs.declared.filling.Filled.{Filled}
 use Rattle.residuals.specs.Work.{Ready}
 use Rattle.residuals.specs.Calls.{EpochColumns, samples_fit, outputs_fit, residuals_refusal, columns_left, handed_out, settled_columns, kept_in, residuals_call, epoch_finite}
 use Rattle.residuals.specs.Filling.{blank, Long, Done}
 use Rattle.residuals.proofs.Answers.{ready}
-use Rattle.residuals.proofs.Turns.{blank_is, done_long}
+use Rattle.residuals.proofs.Turns.{blank_is, counted_some, counted_none}
 
 record Samples (obs : Observed) (l : EpochColumns) : Type 0 where
   pub values : length obs.values ≡ length obs.obs_times
@@ -89,16 +88,17 @@ module _ (inp : Inputs) (obs : Observed) (l : EpochColumns) (s : List Float) (sa
   residuals_refused e z = settles (Err e) z
 
   module _ (z : residuals_refusal inp obs samples (length s) ≡ accepted) where
-    handed : (x : Bool) → x ≡ list_all epoch_finite (kept_in inp obs) → handed_out x (length obs.obs_times) (kept_in inp obs) s ≡ residuals_call inp obs l s
-    handed x f = ap (λ (y : Bool). handed_out y (length obs.obs_times) (kept_in inp obs) s) f ∙ settles accepted z
+    handed : (x : Bool) → list_all epoch_finite (kept_in inp obs) ≡ x → handed_out x (length obs.obs_times) (kept_in inp obs) s ≡ residuals_call inp obs l s
+    handed x f = ap (λ (y : Bool). handed_out y (length obs.obs_times) (kept_in inp obs) s) (sym f) ∙ settles accepted z
 
-    pub residuals_handed : (r : Filled) (l' : EpochColumns) (s' w : List Float) → Done inp obs r l' → s' ≡ cleared w → length w ≡ length s → r.fine ≡ true →
-        columns_left (Ok r.count) l' s' ≡ residuals_call inp obs l s
-    residuals_handed r l' s' w d g h f =
-        (λ i. columns_left (Ok (d.count i)) (d.outputs i) ((g ∙ same_cleared w s h) i)) ∙ handed true (sym f ∙ d.fine)
+    pub residuals_handed : (k : ℕ) (l' : EpochColumns) (s' w : List Float) → Done inp obs (Some k) l' → s' ≡ cleared w → length w ≡ length s →
+        columns_left (Ok k) l' s' ≡ residuals_call inp obs l s
+    residuals_handed k l' s' w d g h =
+        let is = counted_some k (kept_in inp obs) d.count in
+        (λ i. columns_left (Ok (is.0 i)) (d.outputs is.1 i) ((g ∙ same_cleared w s h) i)) ∙ handed true is.1
 
-    pub residuals_unfit : (r : Filled) (l' l'' : EpochColumns) (s' w : List Float) → Done inp obs r l' → s' ≡ cleared w → length w ≡ length s → r.fine ≡ false → l'' ≡ blank l' →
+    pub residuals_unfit : (l' l'' : EpochColumns) (s' w : List Float) → Done inp obs None l' → s' ≡ cleared w → length w ≡ length s → Long (length obs.obs_times) l' → l'' ≡ blank l' →
         columns_left (Err NotFinite) l'' s' ≡ residuals_call inp obs l s
-    residuals_unfit r l' l'' s' w d g h f c =
-        (λ i. columns_left (Err NotFinite) ((c ∙ blank_is (length obs.obs_times) l' (done_long inp obs r l' d)) i) ((g ∙ same_cleared w s h) i))
-        ∙ handed false (sym f ∙ d.fine)
+    residuals_unfit l' l'' s' w d g h long c =
+        (λ i. columns_left (Err NotFinite) ((c ∙ blank_is (length obs.obs_times) l' long) i) ((g ∙ same_cleared w s h) i))
+        ∙ handed false (counted_none (kept_in inp obs) d.count)

@@ -1,5 +1,5 @@
 -- What the loop over the observations has done so far. Assumes nothing.
-use Rattle.std.specs.Prelude.{ℕ, ◌+◌, ◌≤◌, ◌≡◌, ◌&&◌, List, [], Float, length, take, set, replicate, Option, Some, None}
+use Rattle.std.specs.Prelude.{ℕ, ◌+◌, ◌≤◌, ◌≡◌, true, cond, List, [], Float, length, take, set, replicate, Option, Some, None}
 use Rattle.inputs.specs.Inputs.{Observed, Inputs}
 use Rattle.finality.specs.Sheet.{kept_of}
 use Rattle.std.specs.List.{list_all}
@@ -8,7 +8,6 @@ use Rattle.laws.specs.Loops.{cleared}
 use Rattle.epoch_record.specs.declared.Epoch.{Epoch}
 use Rattle.epoch.specs.Kept.{observations_in}
 use Rattle.epoch.specs.Work.{Usable}
-use Rattle.residuals.specs.declared.filling.Filled.{Filled}
 use Rattle.residuals.specs.Inputs.{epoch_of}
 use Rattle.residuals.specs.Calls.{EpochColumns, epoch_columns, filled_columns, epoch_finite, kept_in}
 
@@ -37,15 +36,18 @@ pub record Long (m : ℕ) (l : EpochColumns) : Type 0 where
 abbrev pub blank : EpochColumns → EpochColumns
 blank l = epoch_columns (cleared l.times) (cleared l.residuals) (zeros (length l.terms) 5) (zeros (length l.mids) 3) (zeros (length l.vels) 3)
 
--- what was made is stored and counted, where it is kept
-pub record Added (made : Option Epoch) (f r : Filled) (l l' : EpochColumns) : Type 0 where
-  pub put : (e : Epoch) → made ≡ Some e → (r ≡ record { count = f.count + 1; fine = f.fine && epoch_finite e }) × (l' ≡ stored f.count e l)
-  pub still : made ≡ None → (r ≡ f) × (l' ≡ l)
+-- how many records there are, where all their numbers are finite
+abbrev pub counted : List Epoch → Option ℕ
+counted es = cond (list_all epoch_finite es) (Some (length es)) None
 
-pub record SoFar (inp : Inputs) (obs : Observed) (base i : ℕ) (f : Filled) (l : EpochColumns) (w : List Float) : Type 0 where
-  pub count : f.count ≡ length (kept_to inp obs i)
-  pub fine : f.fine ≡ list_all epoch_finite (kept_to inp obs i)
-  pub outputs : l ≡ filled_columns (length obs.obs_times) (kept_to inp obs i)
+-- what was made is stored at place k and counted, where it is kept; none are counted where a number of it is not finite
+pub record Added (made : Option Epoch) (k : ℕ) (r : Option ℕ) (l l' : EpochColumns) : Type 0 where
+  pub put : (e : Epoch) → made ≡ Some e → (r ≡ cond (epoch_finite e) (Some (k + 1)) None) × (epoch_finite e ≡ true → l' ≡ stored k e l)
+  pub still : made ≡ None → (r ≡ Some k) × (l' ≡ l)
+
+pub record SoFar (inp : Inputs) (obs : Observed) (base i : ℕ) (r : Option ℕ) (l : EpochColumns) (w : List Float) : Type 0 where
+  pub count : r ≡ counted (kept_to inp obs i)
+  pub outputs : list_all epoch_finite (kept_to inp obs i) ≡ true → l ≡ filled_columns (length obs.obs_times) (kept_to inp obs i)
   pub room : base ≤ length w
   pub usable : Usable inp.model (take base w)
 
@@ -56,7 +58,6 @@ pub record Begun (inp : Inputs) (obs : Observed) (base : ℕ) (l : EpochColumns)
   pub usable : Usable inp.model (take base w)
 
 -- all observations are done
-pub record Done (inp : Inputs) (obs : Observed) (r : Filled) (l : EpochColumns) : Type 0 where
-  pub count : r.count ≡ length (kept_in inp obs)
-  pub fine : r.fine ≡ list_all epoch_finite (kept_in inp obs)
-  pub outputs : l ≡ filled_columns (length obs.obs_times) (kept_in inp obs)
+pub record Done (inp : Inputs) (obs : Observed) (r : Option ℕ) (l : EpochColumns) : Type 0 where
+  pub count : r ≡ counted (kept_in inp obs)
+  pub outputs : list_all epoch_finite (kept_in inp obs) ≡ true → l ≡ filled_columns (length obs.obs_times) (kept_in inp obs)

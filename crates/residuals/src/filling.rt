@@ -1,7 +1,7 @@
 // All epochs over lent lists: the records of those that are kept, in order.
-// kept: the outputs are lent one by one, as the call has them; a struct of `&mut` slices would be taken apart in each function. Whether values and
-// bytes are as many as times is what the call tests, so `Observed` cannot promise it.
-ghost use Rattle.std.specs.Prelude.{◌≡◌, ◌+◌, ◌<◌, ◌≤◌, length};
+// kept: the outputs are lent one by one, as the call has them. The contract of each function that is lent a struct of them has to promise that its fields are
+// still the same references (their ghost names): five functions here, of five fields.
+ghost use Rattle.std.specs.Prelude.{◌≡◌, ◌+◌, ◌<◌, ◌≤◌, Some, length};
 ghost use Rattle.inputs.specs.Inputs.{front_size};
 ghost use Rattle.inputs.specs.Lent.{inputs_of, observed_of};
 ghost use Rattle.residuals.specs.Work.{Ready};
@@ -11,12 +11,12 @@ ghost use Rattle.residuals.specs.Filling.{zeros, blank, Long, Added, SoFar, Begu
 use crate::work::Rows;
 use epoch_record::Epoch;
 
-// How many records are stored, and whether all their numbers are finite.
-// kept: no Option, since the next record goes where the count says, whether or not all are finite.
+// Observations that have passed the call's tests: values and bytes are as many as times.
 #[derive(Clone, Copy)]
-pub struct Filled {
-    pub count: usize,
-    pub fine: bool,
+pub(crate) struct Samples<'a> {
+    pub observed: inputs::Observed<'a>,
+    pub ghost values: { length observed.values.now ≡ length observed.times.now },
+    pub ghost good: { length observed.good.now ≡ length observed.times.now },
 }
 
 fn clear_arrays<const N: usize>(list: &mut [[f64; N]])
@@ -26,44 +26,43 @@ fn clear_arrays<const N: usize>(list: &mut [[f64; N]])
     list.fill([0.0; N]);
 }
 
-// Stores a record at the next place, where it is kept.
+// Stores a record behind the first k, where it is kept, and counts it; none are counted where a number of it is not finite.
 fn add(
     made: Option<Epoch>,
-    filled: Filled,
+    k: usize,
     outtimes: &mut [f64],
     outresiduals: &mut [f64],
     outterms: &mut [[f64; 5]],
     outmids: &mut [[f64; 3]],
     outvels: &mut [[f64; 3]],
-) -> Filled
-    requires { (filled.count < length outtimes.old) × (filled.count < length outresiduals.old) × (filled.count < length outterms.old)
-        × (filled.count < length outmids.old) × (filled.count < length outvels.old) }
-    ensures { Added made filled result (epoch_columns outtimes.old outresiduals.old outterms.old outmids.old
+) -> Option<usize>
+    requires { (k < length outtimes.old) × (k < length outresiduals.old) × (k < length outterms.old)
+        × (k < length outmids.old) × (k < length outvels.old) }
+    ensures { Added made k result (epoch_columns outtimes.old outresiduals.old outterms.old outmids.old
         outvels.old)
         (epoch_columns outtimes.new outresiduals.new outterms.new outmids.new outvels.new) }
 {
-    match made {
-        Some(e) => {
-            let k = filled.count;
-            outtimes[k] = e.t;
-            outresiduals[k] = e.residual;
-            let (terms, mid, vel) = (e.terms, e.mid, e.vel);
-            outterms[k] = terms;
-            outmids[k] = mid;
-            outvels[k] = vel;
-            let fine = filled.fine && crate::epoch_finite(e);
-            Filled { count: k + 1, fine }
-        }
-        None => filled,
+    let Some(e) = made else {
+        return Some(k);
+    };
+    if !crate::epoch_finite(e) {
+        return None;
     }
+    outtimes[k] = e.t;
+    outresiduals[k] = e.residual;
+    let (terms, mid, vel) = (e.terms, e.mid, e.vel);
+    outterms[k] = terms;
+    outmids[k] = mid;
+    outvels[k] = vel;
+    Some(k + 1)
 }
 
 // Observation i.
 fn turn(
     rows: Rows<'_>,
-    observed: inputs::Observed<'_>,
+    samples: Samples<'_>,
     i: usize,
-    filled: Filled,
+    k: usize,
     base: usize,
     outtimes: &mut [f64],
     outresiduals: &mut [f64],
@@ -71,32 +70,23 @@ fn turn(
     outmids: &mut [[f64; 3]],
     outvels: &mut [[f64; 3]],
     w: &mut [f64],
-) -> Filled
-    requires { (base ≡ front_size rows.inputs.model.degree) × (i < length observed.times.now) × (length observed.values.now ≡ length observed.times.now)
-        × (length observed.good.now ≡ length observed.times.now)
-        × SoFar (inputs_of rows.inputs) (observed_of observed) base i
-        filled (epoch_columns outtimes.old outresiduals.old outterms.old outmids.old outvels.old) w.old }
-    ensures { SoFar (inputs_of rows.entry.inputs) (observed_of observed.entry) base (i + 1) result
+) -> Option<usize>
+    requires { (base ≡ front_size rows.inputs.model.degree) × (i < length samples.observed.times.now)
+        × SoFar (inputs_of rows.inputs) (observed_of samples.observed) base i
+        (Some k) (epoch_columns outtimes.old outresiduals.old outterms.old outmids.old outvels.old) w.old }
+    ensures { SoFar (inputs_of rows.entry.inputs) (observed_of samples.entry.observed) base (i + 1) result
         (epoch_columns outtimes.new outresiduals.new outterms.new outmids.new outvels.new) w.new }
 {
-    let t = integrate::kernel::element(observed.times, i);
-    let value = integrate::kernel::element(observed.values, i);
-    let made = crate::work::try_epoch(rows, t, value, observed.good[i], base, w);
-    add(
-        made,
-        filled,
-        outtimes,
-        outresiduals,
-        outterms,
-        outmids,
-        outvels,
-    )
+    let t = integrate::kernel::element(samples.observed.times, i);
+    let value = integrate::kernel::element(samples.observed.values, i);
+    let made = crate::work::try_epoch(rows, t, value, samples.observed.good[i], base, w);
+    add(made, k, outtimes, outresiduals, outterms, outmids, outvels)
 }
 
 // From an empty beginning.
 fn fill_from(
     rows: Rows<'_>,
-    observed: inputs::Observed<'_>,
+    samples: Samples<'_>,
     base: usize,
     outtimes: &mut [f64],
     outresiduals: &mut [f64],
@@ -104,24 +94,20 @@ fn fill_from(
     outmids: &mut [[f64; 3]],
     outvels: &mut [[f64; 3]],
     w: &mut [f64],
-) -> Filled
-    requires { (base ≡ front_size rows.inputs.model.degree) × (length observed.values.now ≡ length observed.times.now)
-        × (length observed.good.now ≡ length observed.times.now)
-        × Begun (inputs_of rows.inputs) (observed_of observed) base
+) -> Option<usize>
+    requires { (base ≡ front_size rows.inputs.model.degree)
+        × Begun (inputs_of rows.inputs) (observed_of samples.observed) base
         (epoch_columns outtimes.old outresiduals.old outterms.old outmids.old outvels.old) w.old }
-    ensures { Done (inputs_of rows.entry.inputs) (observed_of observed.entry) result
+    ensures { Done (inputs_of rows.entry.inputs) (observed_of samples.entry.observed) result
         (epoch_columns outtimes.new outresiduals.new outterms.new outmids.new outvels.new) }
 {
-    let mut filled = Filled {
-        count: 0,
-        fine: true,
-    };
-    for i in 0..observed.times.len() {
-        filled = turn(
+    let mut count = 0;
+    for i in 0..samples.observed.times.len() {
+        let more = turn(
             rows,
-            observed,
+            samples,
             i,
-            filled,
+            count,
             base,
             outtimes,
             outresiduals,
@@ -130,8 +116,9 @@ fn fill_from(
             outvels,
             w,
         );
+        count = more?;
     }
-    filled
+    Some(count)
 }
 
 // +0.0 in every output.
@@ -152,21 +139,20 @@ pub(crate) fn clear_lists(
     clear_arrays(outvels);
 }
 
-// The records of the epochs that are kept, in order; +0.0 after the last.
+// The records of the epochs that are kept, in order, and how many they are; +0.0 after the last. None where a number of them is not finite.
 pub(crate) fn fill(
     inputs: inputs::Inputs<'_>,
-    observed: inputs::Observed<'_>,
+    samples: Samples<'_>,
     outtimes: &mut [f64],
     outresiduals: &mut [f64],
     outterms: &mut [[f64; 5]],
     outmids: &mut [[f64; 3]],
     outvels: &mut [[f64; 3]],
     w: &mut [f64],
-) -> Filled
+) -> Option<usize>
     requires { Ready (inputs_of inputs) (length w.old)
-        × (length observed.values.now ≡ length observed.times.now) × (length observed.good.now ≡ length observed.times.now)
-        × Long (length observed.times.now) (epoch_columns outtimes.old outresiduals.old outterms.old outmids.old outvels.old) }
-    ensures { Done (inputs_of inputs.entry) (observed_of observed.entry) result
+        × Long (length samples.observed.times.now) (epoch_columns outtimes.old outresiduals.old outterms.old outmids.old outvels.old) }
+    ensures { Done (inputs_of inputs.entry) (observed_of samples.entry.observed) result
         (epoch_columns outtimes.new outresiduals.new outterms.new outmids.new outvels.new) }
 {
     let base = inputs::front_size(inputs.model.degree);
@@ -174,7 +160,7 @@ pub(crate) fn fill(
     epoch::open(inputs.model.degree, base, w);
     fill_from(
         Rows { inputs },
-        observed,
+        samples,
         base,
         outtimes,
         outresiduals,

@@ -125,6 +125,7 @@ pub fn epoch(
 }
 
 // The records of the epochs that are kept, in order: how many, and their numbers in five lists.
+// kept: document 01 lends the outputs of this call one by one.
 pub fn residuals(
     inputs: inputs::Inputs<'_>,
     observed: inputs::Observed<'_>,
@@ -150,7 +151,7 @@ pub fn residuals(
     residuals_refusal(inputs, observed, samples, scratch.len())?;
     let filled = filling::fill(
         inputs,
-        observed,
+        filling::Samples { observed },
         outtimes,
         outresiduals,
         outterms,
@@ -159,9 +160,9 @@ pub fn residuals(
         scratch,
     );
     slices::clear(scratch);
-    if filled.fine {
-        return Ok(filled.count);
-    }
-    filling::clear_lists(outtimes, outresiduals, outterms, outmids, outvels);
-    Err(Refusal::NotFinite)
+    let Some(count) = filled else {
+        filling::clear_lists(outtimes, outresiduals, outterms, outmids, outvels);
+        return Err(Refusal::NotFinite);
+    };
+    Ok(count)
 }

@@ -15,7 +15,7 @@ use Rattle.std.specs.List.{list_all}
 use Rattle.laws.specs.Checks.{all_says, is_time, rising, rising_seconds, degree_fine}
 use Rattle.laws.specs.Bools.{both_true, holds}
 use Rattle.slices.specs.Calls.{accepted}
-use Rattle.inputs.specs.Inputs.{window_room, fit_room, kind, field_size, counts_fine, model_sized, states_fit, tables_fit, least_scratch, whole_scratch_fits, model_fine, rise, front_size, Fixed}
+use Rattle.inputs.specs.Inputs.{window_room, fit_room, kind, field_size, counts_fine, model_sized, states_fit, tables_fit, least_scratch, whole_scratch_fits, model_fine, front_size, Fixed}
 use Rattle.inputs.specs.Inputs.{Lists, inputs_in, model_in, inputs_fit, inputs_fine, inputs_rise}
 use Rattle.inputs.proofs.Passed.{all_pass, Few, counts_pass, Rise, rise_passes, states_pass, model_passes}
 use Rattle.windows.specs.Windows.{room_for, windows_serve}

@@ -7,7 +7,7 @@ use Rattle.inputs.specs.Inputs.{Fixed, Lists}
 use Rattle.laws.specs.Times.{end, second_time}
 use Rattle.finality.specs.Tables.{key_of}
 use Rattle.finality.specs.Stages.{time_of}
-use Rattle.finality.specs.Sheet.{obs_time, kept, times, detrended, passed_values, ends_of as submission_ends}
+use Rattle.finality.specs.Sheet.{obs_time, kept, detrended, passed_values, ends_of as submission_ends}
 use Rattle.finality.specs.Detrending.{Sample, detrend}
 use Rattle.epoch_record.specs.declared.Epoch.{Epoch}
 use Rattle.epoch_record.specs.EpochRecord.{time, residual}

@@ -39,6 +39,8 @@ fn clear_columns(times: &mut [f64], raws: &mut [f64], detrended: &mut [f64], pas
 }
 
 // The sheet of a submission: time, raw residual, detrended residual and passed value of each epoch that is kept.
+// kept: document 01 lends the four columns of this call one by one.
+#[tactic(auto, using(crate::proofs::Answers::passes, crate::proofs::Answers::unfit, crate::proofs::Answers::refused))]
 pub fn sheet(
     submission: inputs::Submission<'_>,
     outtimes: &mut [f64],

@@ -1,5 +1,6 @@
 // The work of the whole path on lists that have passed the tests: fits, epochs, columns, and how many entries are final.
-// kept: the columns are lent one by one, as the call has them; a struct of `&mut` slices would be taken apart in each function.
+// kept: the columns are lent one by one, as the call has them: of them `gather` is handed two and `columns::fill` all four, each by itself, so a struct would
+// be made to be taken apart at once.
 ghost use Rattle.std.specs.Prelude.{◌≡◌, [], ◌∷◌, length};
 ghost use Rattle.finality.specs.Sheet.{horizon_of, count_to};
 ghost use Rattle.horizon.specs.Horizon.{ends_of};
@@ -32,7 +33,7 @@ pub(crate) fn work(
         windows: nodes.len().saturating_sub(1),
         observed: submission.observed,
     };
-    let kept = kept_epochs::gather(given, outtimes, outraws, s);
+    let kept = kept_epochs::gather(given, outtimes, outraws, s).unwrap_or(0);
     columns::fill(nodes, kept, outtimes, outraws, outdetrended, outpassed, s);
     kept
 }

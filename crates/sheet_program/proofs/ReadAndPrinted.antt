@@ -159,14 +159,5 @@ rows_done ts xs ys zs i n k o out h g inv =
       text = ap (λ (x : ℕ). take (68 * x) out) e ∙ sym (append-nil (take (68 * k) out)) ∙ ap (λ (x : ℕ). take (68 * k) out ++ rows_text (i + k) x ts xs ys zs) (sym z) ∙ inv;
     }
 
--- where its pieces end
-pub head_few : (o o1 o2 o3 o4 o5 : List ℕ) (a b c d r : ℕ) → Printed (107 ∷ 101 ∷ 112 ∷ 116 ∷ 32 ∷ []) o 0 o1 a → b ≤ a + 20 → Printed (32 ∷ 102 ∷ 105 ∷ 110 ∷ 97 ∷ 108 ∷ 32 ∷ []) o2 b o3 c →
-    d ≤ c + 20 → Printed line_feed o4 d o5 r → r ≤ 64
-head_few o o1 o2 o3 o4 o5 a b c d r p1 h1 p2 h2 p3 =
-    let e1 : a ≡ 0 + 5 = p1.ends in
-    let e2 : c ≡ b + 7 = p2.ends in
-    let e3 : r ≡ d + 1 = p3.ends in
-    omega arith
-
 pub rows_count : (out : List ℕ) (n : ℕ) → 34000 ≤ length out → n ≤ 500 → IsPrefixLen (68 * n) out
 rows_count out n g h = let e : 68 * n ≤ length out = omega arith in (e, sym (length-take-le (68 * n) out e))

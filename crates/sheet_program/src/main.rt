@@ -11,6 +11,7 @@ ghost use Rattle.sheet_program.specs.Text.{term_text, row_text, rows_text};
 ghost use Rattle.sheet_program.specs.declared.Stop.TheVariants.{Unread, Text, Numbers};
 
 use slices::Refusal;
+use std::fmt;
 use std::io::Read;
 use submission_text::Fault;
 
@@ -51,9 +52,31 @@ impl From<Refusal> for Stop {
     }
 }
 
+// What is said of it behind `no sheet`.
+impl fmt::Display for Stop {
+    fn fmt<W: fmt::Write>(&self, f: &mut fmt::Formatter<W>) -> fmt::Result {
+        f.write_str(match self {
+            Stop::Text(Fault::Degree) | Stop::Numbers(Refusal::Degree) => {
+                ": the degree is not from 2 to 180"
+            }
+            Stop::Text(Fault::Bounds) | Stop::Numbers(Refusal::Count) => {
+                ": beyond the program's bounds: degree 12, 2 to 8 fields, 4 nodes, 12000 lines in every other list"
+            }
+            Stop::Text(Fault::Format) => ": the text is not in the format of a submission",
+            Stop::Numbers(Refusal::Value) => {
+                ": a number is not finite, or a time is not from 0 to 2147483648"
+            }
+            Stop::Numbers(Refusal::Order) => ": the times of a list do not rise",
+            Stop::Numbers(Refusal::NotFinite) => ": a number worked out is not finite",
+            _ => "",
+        })
+    }
+}
+
 // ---- what the numbers of a text say
 
 // The number at `at`, NaN behind the last.
+// kept: here and below a list and a place in it, as in `numbers[at]`; a struct of both would be made anew for each number.
 fn number_at(numbers: &[f64], at: usize) -> f64
     ensures { result ≡ number_at numbers.now at }
 {
@@ -87,13 +110,33 @@ fn next_at(numbers: &[f64], at: usize, words: usize) -> usize
     at + 1 + words * count_at(numbers, at)
 }
 
-// Of the i-th number when each line of `step` gives `width`.
+// Of each line of `step` numbers, the count in front of it among them, `width` from the `skip`-th on.
+#[derive(Clone, Copy)]
+struct Lines {
+    skip: usize,
+    step: usize,
+    width: usize,
+    ghost early: { skip ≤ 3 },
+    ghost short: { step ≤ 185 },
+    ghost some: { (0 < width) × (width ≤ 185) },
+}
+
+impl Lines {
+    fn new(skip: usize, step: usize, width: usize) -> Lines
+        requires { (skip ≤ 3) × (step ≤ 185) × (0 < width) × (width ≤ 185) }
+        ensures { (result.skip ≡ skip) × (result.step ≡ step) × (result.width ≡ width) }
+    {
+        Lines { skip, step, width }
+    }
+}
+
+// Where the i-th of the numbers stands behind the first.
 #[tactic(auto, using(crate::proofs::ReadAndPrinted::lines_far))]
-fn offset(i: usize, step: usize, width: usize) -> usize
-    requires { (i < 100000) × (step ≤ 185) × (0 < width) × (width ≤ 185) }
-    ensures { (result ≡ step * (i / width) + i % width) × (result ≤ 18600000) }
+fn offset(i: usize, lines: Lines) -> usize
+    requires { i < 100000 }
+    ensures { (result ≡ lines.step * (i / lines.width) + i % lines.width) × (result ≤ 18600000) }
 {
-    step * (i / width) + i % width
+    lines.step * (i / lines.width) + i % lines.width
 }
 
 // What a number of a text says, by its word.
@@ -129,14 +172,14 @@ impl Said for u8 {
     }
 }
 
-// In lines of `step`, of each line `width` numbers from `from` on.
+// The first number stands at `from`.
 #[tactic(auto, using(crate::proofs::ReadAndPrinted::values_turn, crate::proofs::ReadAndPrinted::values_done))]
-fn values_from<T: Said>(numbers: &[f64], from: usize, step: usize, width: usize, out: &mut [T])
-    requires { (from ≤ 100000000) × (step ≤ 185) × (0 < width) × (width ≤ 185) × (length out.old ≤ 100000) }
-    ensures { out.new ≡ values_from (T.said numbers.now) from step width 0 (length out.old) }
+fn values_from<T: Said>(numbers: &[f64], from: usize, lines: Lines, out: &mut [T])
+    requires { (from ≤ 100000000) × (length out.old ≤ 100000) }
+    ensures { out.new ≡ values_from (T.said numbers.now) from lines.step lines.width 0 (length out.old) }
 {
     for i in 0..out.len() {
-        out[i] = T::say_at(numbers, from + offset(i, step, width));
+        out[i] = T::say_at(numbers, from + offset(i, lines));
     }
 }
 
@@ -162,86 +205,55 @@ fn put_term(x: f64, behind: u8, out: &mut [u8], at: usize)
     out[at + 16] = behind;
 }
 
-// One entry of the four lists.
-// kept: here and below four lists side by side, as `sheet` fills them.
-fn put_row(
-    i: usize,
-    times: &[f64],
-    raws: &[f64],
-    detrended: &[f64],
-    passed: &[f64],
-    out: &mut [u8],
-    at: usize,
-)
-    requires { at + 68 ≤ length out.old }
-    ensures { Printed (row_text i times.now raws.now detrended.now passed.now) out.old at
-        out.new (at + 68) }
-{
-    put_term(number_at(times, i), b' ', out, at);
-    put_term(number_at(raws, i), b' ', out, at + 17);
-    put_term(number_at(detrended, i), b' ', out, at + 34);
-    put_term(number_at(passed, i), b'\n', out, at + 51);
+// The lists of a sheet.
+#[derive(Clone, Copy)]
+struct Columns<'a> {
+    times: &'a [f64],
+    raws: &'a [f64],
+    detrended: &'a [f64],
+    passed: &'a [f64],
 }
 
-// So many entries of the four lists, from the i-th on.
-fn put_rows(
-    i: usize,
-    n: usize,
-    times: &[f64],
-    raws: &[f64],
-    detrended: &[f64],
-    passed: &[f64],
-    out: &mut [u8],
-) -> usize
+// The i-th entry.
+fn put_row(i: usize, sheet: Columns<'_>, out: &mut [u8], at: usize)
+    requires { at + 68 ≤ length out.old }
+    ensures { Printed (row_text i sheet.entry.times.now sheet.entry.raws.now sheet.entry.detrended.now sheet.entry.passed.now)
+        out.old at out.new (at + 68) }
+{
+    put_term(number_at(sheet.times, i), b' ', out, at);
+    put_term(number_at(sheet.raws, i), b' ', out, at + 17);
+    put_term(number_at(sheet.detrended, i), b' ', out, at + 34);
+    put_term(number_at(sheet.passed, i), b'\n', out, at + 51);
+}
+
+// So many entries from the i-th on.
+fn put_rows(i: usize, n: usize, sheet: Columns<'_>, out: &mut [u8]) -> usize
     requires { (i ≤ 100000) × (n ≤ 500) × (34000 ≤ length out.old) }
-    ensures { (Printed (rows_text i n times.now raws.now detrended.now passed.now) out.old 0
-        out.new result) × IsPrefixLen result out.new }
+    ensures { (Printed (rows_text i n sheet.entry.times.now sheet.entry.raws.now sheet.entry.detrended.now sheet.entry.passed.now)
+        out.old 0 out.new result) × IsPrefixLen result out.new }
 {
     for k in 0..n {
-        put_row(i + k, times, raws, detrended, passed, out, 68 * k);
+        put_row(i + k, sheet, out, 68 * k);
     }
     68 * n
 }
 
-// What it means, for people, on standard error.
-fn say_reason(stop: Stop) {
-    match stop {
-        Stop::Text(Fault::Degree) | Stop::Numbers(Refusal::Degree) => {
-            streams::warn(b"pozsmeteg: no sheet: the degree is not from 2 to 180\n");
-        }
-        Stop::Text(Fault::Bounds) | Stop::Numbers(Refusal::Count) => streams::warn(
-            b"pozsmeteg: no sheet: beyond the program's bounds: degree 12, 2 to 8 fields, 4 nodes, 12000 lines in every other list\n",
-        ),
-        Stop::Text(Fault::Format) => streams::warn(
-            b"pozsmeteg: no sheet: the text is not in the format of a submission\n",
-        ),
-        Stop::Numbers(Refusal::Value) => streams::warn(
-            b"pozsmeteg: no sheet: a number is not finite, or a time is not from 0 to 2147483648\n",
-        ),
-        Stop::Numbers(Refusal::Order) => {
-            streams::warn(b"pozsmeteg: no sheet: the times of a list do not rise\n");
-        }
-        Stop::Numbers(Refusal::NotFinite) => {
-            streams::warn(b"pozsmeteg: no sheet: a number worked out is not finite\n");
-        }
-        _ => streams::warn(b"pozsmeteg: no sheet\n"),
-    }
-}
-
-fn say_refused(n: u8, stop: Stop) {
+// And what it means, for people, on standard error.
+// kept: the answer's bytes are those that `put_refused` promises; of what `write!` prints nothing could be said (`hexadecimal::put_word`).
+fn say_refused(rt: HostRuntime, n: u8, stop: Stop) {
     let mut out = [0u8; 64];
     let end = hexadecimal::put_refused(n, &mut out);
     if streams::write(&out[..end]) {
-        say_reason(stop);
+        let _ = eprintln!(rt; "pozsmeteg: no sheet{stop}");
     }
 }
 
 // An input that cannot be read has no answer, and one that is refused has.
-fn say_stop(stop: Stop) {
+fn say_stop(rt: HostRuntime, stop: Stop) {
     match stop {
         Stop::Unread => streams::say_unread(),
-        Stop::Text(fault) => say_refused(u8::from(fault), stop),
-        Stop::Numbers(refusal) => say_refused(u8::from(refusal), stop),
+        Stop::Text(fault) => say_refused(rt, u8::from(fault), stop),
+        Stop::Numbers(refusal) => say_refused(rt, u8::from(refusal), stop),
     }
 }
 
@@ -253,27 +265,21 @@ fn say_head(kept: usize, entries: usize) -> bool {
 }
 
 // Writes so many entries from the i-th on, and whether it could.
-fn say_rows(
-    i: usize,
-    n: usize,
-    times: &[f64],
-    raws: &[f64],
-    detrended: &[f64],
-    passed: &[f64],
-) -> bool
+fn say_rows(i: usize, n: usize, sheet: Columns<'_>) -> bool
     requires { (i ≤ 100000) × (n ≤ 500) }
 {
     let mut out = [0u8; 34000];
-    let end = put_rows(i, n, times, raws, detrended, passed, &mut out);
+    let end = put_rows(i, n, sheet, &mut out);
     streams::write(&out[..end])
 }
 
 // Writes the first entries, at most one for each time, in pieces, and none behind one that could not be written.
-fn say_entries(kept: usize, times: &[f64], raws: &[f64], detrended: &[f64], passed: &[f64]) {
-    let last = kept.min(times.len()).min(12000);
+// kept: its bytes are those that `put_rows` promises, as in `say_refused`.
+fn say_entries(kept: usize, sheet: Columns<'_>) {
+    let last = kept.min(sheet.times.len()).min(12000);
     for i in (0..last).step_by(500) {
         let n = (last - i).min(500);
-        if !say_rows(i, n, times, raws, detrended, passed) {
+        if !say_rows(i, n, sheet) {
             return;
         }
     }
@@ -328,21 +334,14 @@ fn product(width: usize, n: usize) -> usize
     width * n
 }
 
-// Of each line of a section `width` numbers, from the one `skip` places behind the count on, in the first places of out.
-fn values_in<'a, T: Said>(
-    numbers: &[f64],
-    at: usize,
-    skip: usize,
-    step: usize,
-    width: usize,
-    out: &'a mut [T],
-) -> &'a [T]
-    requires { (at ≤ 20000000) × (skip ≤ 3) × (step ≤ 185) × (0 < width) × (width ≤ 185) × (length out.old ≤ 100000) }
-    ensures { result.now ≡ take (min (width * count_at numbers.now at) (length out.old))
-        (values_from (T.said numbers.now) (at + skip) step width 0 (length out.old)) }
+// Of the lines of a section, whose count stands at `at`, in the first places of out.
+fn values_in<'a, T: Said>(numbers: &[f64], at: usize, lines: Lines, out: &'a mut [T]) -> &'a [T]
+    requires { (at ≤ 20000000) × (length out.old ≤ 100000) }
+    ensures { result.now ≡ take (min (lines.width * count_at numbers.now at) (length out.old))
+        (values_from (T.said numbers.now) (at + lines.skip) lines.step lines.width 0 (length out.old)) }
 {
-    values_from(numbers, at + skip, step, width, out);
-    let n = product(width, count_at(numbers, at)).min(out.len());
+    values_from(numbers, at + lines.skip, lines, out);
+    let n = product(lines.width, count_at(numbers, at)).min(out.len());
     &out[..n]
 }
 
@@ -359,7 +358,13 @@ fn tell(submission: inputs::Submission<'_>, scratch: &mut [f64]) -> Result<(), R
     let passed = &mut z[..n];
     let counts = sheet::sheet(submission, times, raws, detrended, passed, scratch)?;
     if say_head(counts.kept, counts.finals) {
-        say_entries(counts.kept, times, raws, detrended, passed);
+        let columns = Columns {
+            times,
+            raws,
+            detrended,
+            passed,
+        };
+        say_entries(counts.kept, columns);
     }
     Ok(())
 }
@@ -378,29 +383,14 @@ fn with_observations(
     let mut g = [0u8; 12000];
     let submission = inputs::Submission {
         inputs,
-        nodes: values_in(scratch, p.nodes, 1, 1, 1, &mut r),
+        nodes: values_in(scratch, p.nodes, Lines::new(1, 1, 1), &mut r),
         observed: inputs::Observed {
-            times: values_in(scratch, p.observations, 1, 3, 1, &mut t),
-            values: values_in(scratch, p.observations, 2, 3, 1, &mut v),
-            good: values_in(scratch, p.observations, 3, 3, 1, &mut g),
+            times: values_in(scratch, p.observations, Lines::new(1, 3, 1), &mut t),
+            values: values_in(scratch, p.observations, Lines::new(2, 3, 1), &mut v),
+            good: values_in(scratch, p.observations, Lines::new(3, 3, 1), &mut g),
         },
     };
     tell(submission, scratch)
-}
-
-// A Legendre table of n terms, or as many as out has.
-fn table_in<'a, F: Fn(usize, usize) -> f64>(
-    factor: F,
-    degree: usize,
-    n: usize,
-    out: &'a mut [f64],
-) -> &'a [f64]
-    requires { (i j : ℕ) → j ≤ i → i ≤ 180 → F.pre factor i j }
-    ensures { length result.now ≡ min n (length out.old) }
-{
-    let m = n.min(out.len());
-    legendre::tabulate(factor, degree, &mut out[..m]);
-    &out[..m]
 }
 
 // The keys of a section's lines and the `width` numbers behind each.
@@ -414,8 +404,8 @@ fn keyed_in<'a>(
     requires { (at ≤ 20000000) × (0 < width) × (width ≤ 6) × (length keys.old ≤ 100000) × (length values.old ≤ 100000) }
 {
     inputs::Keyed {
-        keys: values_in(numbers, at, 1, width + 1, 1, keys),
-        values: values_in(numbers, at, 2, width + 1, width, values),
+        keys: values_in(numbers, at, Lines::new(1, width + 1, 1), keys),
+        values: values_in(numbers, at, Lines::new(2, width + 1, width), values),
     }
 }
 
@@ -438,13 +428,16 @@ fn with_lists(p: Places, degree: usize, c: usize, scratch: &mut [f64]) -> Result
     let mut av = [0.0; 12000];
     let mut bk = [0i64; 12000];
     let mut bv = [0.0; 12000];
+    let terms = c / 2;
+    legendre::tabulate_a(degree, &mut x[..terms]);
+    legendre::tabulate_b(degree, &mut y[..terms]);
     let model = inputs::Model {
         degree,
-        static_field: values_in(scratch, p.held, 1, words, words, &mut h),
-        table_a: table_in(legendre::a_of, degree, c / 2, &mut x),
-        table_b: table_in(legendre::b_of, degree, c / 2, &mut y),
-        field_times: values_in(scratch, p.fields, 1, words + 1, 1, &mut t),
-        added: values_in(scratch, p.fields, 2, words + 1, words, &mut g),
+        static_field: values_in(scratch, p.held, Lines::new(1, words, words), &mut h),
+        table_a: &x[..terms],
+        table_b: &y[..terms],
+        field_times: values_in(scratch, p.fields, Lines::new(1, words + 1, 1), &mut t),
+        added: values_in(scratch, p.fields, Lines::new(2, words + 1, words), &mut g),
     };
     let inputs = inputs::Inputs {
         model,
@@ -505,13 +498,17 @@ fn read_header<R: Read>(input: &mut R, line: &mut [u8]) -> std::io::Result<usize
 }
 
 // The next line of the input, 0 bytes at its end.
-fn read_line<R: Read>(input: &mut R, bytes: usize, line: &mut [u8]) -> std::io::Result<usize>
+fn read_line<R: Read>(
+    input: &mut R,
+    bytes: Option<usize>,
+    line: &mut [u8],
+) -> std::io::Result<usize>
     requires { 0 < length line.old }
     ensures { ReadsAtMost result line.new }
 {
-    if bytes == 0 {
+    let Some(bytes) = bytes else {
         return read_header(input, line);
-    }
+    };
     if line.len() < bytes {
         return Ok(0);
     }
@@ -541,6 +538,6 @@ fn run<R: Read>(input: &mut R) -> Result<(), Stop> {
 
 fn main(rt: HostRuntime) {
     if let Err(stop) = run(&mut rt.stdin()) {
-        say_stop(stop);
+        say_stop(rt, stop);
     }
 }

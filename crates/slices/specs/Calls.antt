@@ -13,13 +13,13 @@ Verdict = Result (Unit {0}) Refusal
 abbrev pub accepted : Verdict
 accepted = Ok tt
 
--- a test, and the refusal where it fails
-abbrev pub tested : Bool → Refusal → Verdict
-tested passes e = cond passes accepted (Err e)
+-- a test, and the error where it fails
+abbrev pub tested : {E : Type 0} → Bool → E → Result (Unit {0}) E
+tested passes e = cond passes (Ok tt) (Err e)
 
--- the refusal beside the first test that fails
-abbrev pub first_failed : List (Bool × Refusal) → Verdict
-first_failed [] = accepted
+-- the error beside the first test that fails
+abbrev pub first_failed : {E : Type 0} → List (Bool × E) → Result (Unit {0}) E
+first_failed [] = Ok tt
 first_failed (t ∷ ts) = cond t.0 (first_failed ts) (Err t.1)
 
 -- what a call returned, and what stands in its lent outputs, in the order of its arguments, and in its scratch

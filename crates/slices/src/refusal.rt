@@ -4,21 +4,25 @@ ghost use Rattle.slices.specs.Answers.{number_of};
 
 #[derive(Clone, Copy, Debug, PartialEq, Eq)]
 pub enum Refusal {
-    // The degree, or the number of something, is out of its bounds.
+    // The degree is not 2 to 180.
     Degree,
+    // A count, an index or a range is out of its bounds.
     Count,
+    // The lengths of lent slices do not fit one another, or the scratch is too short.
     Length,
-    // A number is not finite, or out of its bounds.
+    // An input is not finite, or a time or a key is out of its bounds.
     Value,
+    // A list of times or keys does not rise strictly.
     Order,
-    // The field times do not reach over the time asked for.
+    // The field times do not reach over a time that is asked for: the model's, or an end of an arc.
     Uncovered,
-    // Fewer positions are known than a fit needs, or none at its start.
+    // Fewer positions are known than a fit needs.
     TooFew,
+    // No state is known at the start of a fit.
     NoStart,
-    // The normal equations have no solution.
+    // A pivot of the normal equations is below 1e-12.
     Singular,
-    // A number that was worked out is not finite.
+    // A number that was worked out, and would be handed out, is not finite.
     NotFinite,
 }
 

@@ -1,16 +1,19 @@
 -- A second is looked up by its float: exact for keys, so that halving over the floats finds what the table has. Assumes nothing.
-use Rattle.std.proofs.Common.{◌≡◌, ℕ, zero, suc, ◌+◌, ◌-◌, ◌*◌, ◌/◌, ◌^◌, ◌<◌, ◌≤◌, min, Bool, true, false, not, T, eqb, ltb, List, [], ◌∷◌, ◌++◌, map, length, get_or, ℤ, pos, negsuc, sym, refl, ap, ◌∙◌, subst, le_of_mul-le-mul_right, mul-div_cancel, arith, ltb→lt, leb→le, ltb-false, eqb-true}
+use Rattle.std.proofs.Common.{◌≡◌, ℕ, zero, suc, ◌+◌, ◌*◌, ◌<◌, ◌≤◌, take, drop, Bool, true, false, not, T, eqb, ltb, List, [], ◌∷◌, ◌++◌, map, length, get_or, ℤ, pos, negsuc, sym, refl, ap, ◌∙◌, subst, arith, ltb→lt, leb→le, ltb-false, eqb-true}
 use Rattle.std.specs.Prelude.{Option, None, Some}
+use Rattle.std.specs.Simd.{first_chunks}
+use Rattle.std.specs.List.Sorted.{IsPartitionedBy, IsPartitionPoint}
+use Rattle.std.proofs.lemmas.List.{get_or-take, get_or-drop}
 use lib.Dec.{not_T}
 use lib.Signed.{lt_z, le_z}
-use lib.Ieee.{Float, nan, inf, fin, up, down, to_unsigned, lt}
-use lib.Ieee.Fits.{and_l, and_r, down_pos}
+use lib.Ieee.{Float, nan, lt}
+use lib.Ieee.Fits.{and_l, and_r}
 use lib.Ieee.Bits.{is_false, is_true}
 use borrow.Author.Tests.{eqb-false}
 use Rattle.laws.specs.Lists.{All, all_of_images}
 use Rattle.laws.specs.Checks.{is_key, below_tr}
 use Rattle.laws.specs.Times.{RisingSeconds, second_time, second_below}
-use Rattle.laws.specs.WholeNumbers.{Is, number, number_is, is_lt}
+use Rattle.laws.specs.WholeNumbers.{number, number_is, is_lt}
 use Rattle.laws.specs.Bools.{by, holds}
 use Rattle.finality.specs.Tables.{Table, find, key_of, same_second}
 use Rattle.finality.proofs.Lookup.{same_second_law}
@@ -19,40 +22,8 @@ use Rattle.integrate.specs.declared.kernel.State.{State}
 use Rattle.windows.specs.Slots.{nth, Entry}
 use Rattle.slots.specs.LookUp.{joined, SlotsHold, Looked, Sought, Searched, InSlot, InSlots}
 use Rattle.inputs.specs.Inputs.{window_room}
-
--- ---- the count
-
--- a whole number is its own whole part
-cut_is : (x : Float) (n : ℕ) → n ≤ 3500 → Is x n 0 → to_unsigned 64 x ≡ n
-unfolding to_unsigned
-cut_is nan n h i = absurd i.is_finite
-cut_is (inf s) n h i = absurd i.is_finite
-cut_is (fin true m e) n h i =
-    let z : n * down e ≤ 0 * down e = omega (arith, i.value) in
-    let l : n ≤ 0 = le_of_mul-le-mul_right {k = down e} z (down_pos e) in
-    omega arith
-cut_is (fin false m e) n h i =
-    let v : m * up e ≡ n * down e = omega (arith, i.value) in
-    let q : m * up e / down e ≡ n = ap (λ (w : ℕ). w / down e) v ∙ mul-div_cancel n (down_pos e) in
-    ap (λ (w : ℕ). min w (2 ^ 64 - 1)) q ∙ small n h
-  where
-    small : (n : ℕ) → n ≤ 3500 → min n (2 ^ 64 - 1) ≡ n
-    small n h = omega arith
-
-pub count_cut : (n : ℕ) → n ≤ 3500 → to_unsigned 64 (number n) ≡ n
-count_cut n h = cut_is (number n) n h (number_is n (omega arith))
-
-minus_one : Is (fin true 1 (pos 0)) 0 1
-minus_one = record { is_finite = tt; value = refl }
-
-two_64 : Is (fin false 1 (pos 64)) (2 ^ 64) 0
-two_64 = record { is_finite = tt; value = refl }
-
-pub count_above : (n : ℕ) → n ≤ 3500 → T (lt (fin true 1 (pos 0)) (number n))
-count_above n h = is_lt (fin true 1 (pos 0)) (number n) 0 1 n 0 minus_one (number_is n (omega arith)) (omega arith)
-
-pub count_below : (n : ℕ) → n ≤ 3500 → T (lt (number n) (fin false 1 (pos 64)))
-count_below n h = is_lt (number n) (fin false 1 (pos 64)) n 0 (2 ^ 64) 0 (number_is n (omega arith)) two_64 (omega arith)
+use Rattle.numbers.specs.Numbers.{count_of}
+use Rattle.numbers.proofs.Counts.{counted}
 
 -- ---- keys as floats
 
@@ -119,88 +90,129 @@ find_met k [] m h f e = absurd (omega arith)
 find_met k (x ∷ xs) zero h f e = rw e refl
 find_met k (x ∷ xs) (suc m) h f e = rw (f 0 (omega arith)) (find_met k xs m (omega arith) (λ j l. f (suc j) (omega arith)) e)
 
--- the state of a row, read from the lent numbers
-entry_state : (s : List Float) (at : ℕ) (e : ℤ × State) → Entry s at e → state_in s (at + 1) ≡ e.1
+-- the state of a row of seven numbers
+row_state : (s : List Float) (at : ℕ) (row : List Float) → ((i : ℕ) → i < 7 → get_or row i nan ≡ get_or s (at + i) nan) → (e : ℤ × State) → Entry s at e → state_in row 1 ≡ e.1
 unfolding state_in
-entry_state s at e h =
+row_state s at row f e h =
     let p = h.position in
     let w = h.velocity in
     let place : (a b : ℕ) → a ≡ b → get_or s a nan ≡ get_or s b nan = λ a b q. ap (λ (m : ℕ). get_or s m nan) q in
-    let vx = place (at + 1 + 3) (at + 4) (omega arith) ∙ w.x in
-    let vy = place (at + 1 + 4) (at + 4 + 1) (omega arith) ∙ w.y in
-    let vz = place (at + 1 + 5) (at + 4 + 2) (omega arith) ∙ w.z in
-    λ i. record { position = record { x = p.x i; y = p.y i; z = p.z i }; velocity = record { x = vx i; y = vy i; z = vz i } }
+    let px = f 1 (omega arith) ∙ p.x in
+    let py = f 2 (omega arith) ∙ place (at + 2) (at + 1 + 1) (omega arith) ∙ p.y in
+    let pz = f 3 (omega arith) ∙ place (at + 3) (at + 1 + 2) (omega arith) ∙ p.z in
+    let vx = f 4 (omega arith) ∙ w.x in
+    let vy = f 5 (omega arith) ∙ place (at + 5) (at + 4 + 1) (omega arith) ∙ w.y in
+    let vz = f 6 (omega arith) ∙ place (at + 6) (at + 4 + 2) (omega arith) ∙ w.z in
+    λ i. record { position = record { x = px i; y = py i; z = pz i }; velocity = record { x = vx i; y = vy i; z = vz i } }
 
 -- ---- the search
 
--- all before lo is below the key, and all from hi on is above it
-pub record Bracket (s : List Float) (at n : ℕ) (t : Float) (lo hi : ℕ) : Type 0 where
-  pub lo_le : lo ≤ hi
-  pub hi_le : hi ≤ n
-  pub below : (table : Table State) (k : ℤ) → Sought s at n t table k → (j : ℕ) → j < lo → T (lt_z (nth table j).0 k)
-  pub above : (table : Table State) (k : ℤ) → Sought s at n t table k → (j : ℕ) → hi ≤ j → j < n → T (lt_z k (nth table j).0)
+-- a key below another has the lower float
+lower_time : (i j : ℤ) → is_key i ≡ true → is_key j ≡ true → T (lt_z i j) → T (lt (second_time i) (second_time j))
+lower_time (negsuc i) j p q h = absurd (key_positive i p)
+lower_time (pos i) (negsuc j) p q h = absurd (key_positive j q)
+lower_time (pos i) (pos j) p q h = exact i j (key_small i p) (key_small j q) (ltb→lt i j h)
 
-pub start : (s : List Float) (at n : ℕ) (t : Float) → Bracket s at n t 0 n
-start s at n t = record { lo_le = omega arith; hi_le = omega arith; below = λ table k h j l. absurd (omega arith); above = λ table k h j l r. absurd (omega arith) }
+chunk_number : (k : ℕ) (xs : List Float) (j i : ℕ) (d : List Float) → j < k → i < 7 → get_or (get_or (first_chunks 7 k xs) j d) i nan ≡ get_or xs (7 * j + i) nan
+chunk_number zero xs j i d l m = absurd (omega arith)
+chunk_number (suc k) xs zero i d l m =
+    let e : i ≡ 7 * 0 + i = omega arith in
+    get_or-take 7 xs i nan m ∙ ap (λ (q : ℕ). get_or xs q nan) e
+chunk_number (suc k) xs (suc j) i d l m =
+    let e : 7 + (7 * j + i) ≡ 7 * suc j + i = omega arith in
+    chunk_number k (drop 7 xs) j i d (omega arith) m ∙ get_or-drop 7 xs (7 * j + i) nan ∙ ap (λ (q : ℕ). get_or xs q nan) e
 
-module _ (s : List Float) (at n : ℕ) (t : Float) (lo hi : ℕ) (b : Bracket s at n t lo hi) (m : ℕ) (lm : lo ≤ m) (mh : m < hi) (x : Float) (read : x ≡ get_or s (at + 7 * m) nan) where
-  inside : (table : Table State) (k : ℤ) → Sought s at n t table k → m < length table
-  inside table k h = omega (arith, h.count, b.hi_le)
+-- n rows of seven numbers, end to end from a place on
+pub record Rows (s : List Float) (at n : ℕ) (rows : List (List Float)) : Type 0 where
+  pub count : length rows ≡ n
+  pub number : (j i : ℕ) (d : List Float) → j < n → i < 7 → get_or (get_or rows j d) i nan ≡ get_or s (at + 7 * j + i) nan
 
-  is_second : (table : Table State) (k : ℤ) → Sought s at n t table k → x ≡ second_time (nth table m).0
-  is_second table k h = read ∙ (h.entries.each m (inside table k h)).second
-
-  pub higher : lt x t ≡ true → Bracket s at n t (m + 1) hi
-  higher e = record {
-    lo_le = omega arith;
-    hi_le = b.hi_le;
-    below = λ table k h j l.
-        let here : T (lt_z (nth table m).0 k) = second_below (nth table m).0 k (holds _ ((λ i. lt (sym (is_second table k h) i) (sym h.time i)) ∙ e)) in
-        by (eqb j m)
-        (λ q. subst (λ (i : ℕ). T (lt_z (nth table i).0 k)) (sym (eqb-true j m q)) here)
-        (λ q. below_tr (nth table j).0 (nth table m).0 k (rises table h.orderly.rises j m (omega (arith, eqb-false j m q, l)) (inside table k h)) here);
-    above = b.above;
-  }
-
-  pub lower : lt t x ≡ true → Bracket s at n t lo m
-  lower e = record {
-    lo_le = lm;
-    hi_le = omega (arith, b.hi_le);
-    below = b.below;
-    above = λ table k h j l r.
-        let here : T (lt_z k (nth table m).0) = second_below k (nth table m).0 (holds _ ((λ i. lt (sym h.time i) (sym (is_second table k h) i)) ∙ e)) in
-        by (eqb j m)
-        (λ q. subst (λ (i : ℕ). T (lt_z k (nth table i).0)) (sym (eqb-true j m q)) here)
-        (λ q. below_tr k (nth table m).0 (nth table j).0 here (rises table h.orderly.rises m j (omega (arith, eqb-false j m q, l)) (omega (arith, h.count, r))));
-  }
-
-  pub met : lt x t ≡ false → lt t x ≡ false → (state : State) → state ≡ state_in s (at + 7 * m + 1) → Searched s at n t (Some state)
-  met e f state r = record {
-    is = λ table k h.
-        let key : is_key (nth table m).0 ≡ true = is_true (is_key (nth table m).0) (each (λ (y : ℤ × State). T (is_key y.0)) table h.orderly.keys m (inside table k h)) in
-        let same : same_second (nth table m).0 k ≡ true =
-        same_key (nth table m).0 k key h.key ((λ i. lt (sym (is_second table k h) i) (sym h.time i)) ∙ e) ((λ i. lt (sym h.time i) (sym (is_second table k h) i)) ∙ f) in
-        let before : (j : ℕ) → j < m → same_second (nth table j).0 k ≡ false = λ j l.
-        below_other (nth table j).0 k (subst (λ (i : ℤ). T (lt_z (nth table j).0 i)) (same_second_law (nth table m).0 k (holds _ same)) (rises table h.orderly.rises j m l (inside table k h))) in
-        ap Some (r ∙ entry_state s (at + 7 * m) (nth table m) (h.entries.each m (inside table k h)))
-        ∙ (sym (find_met k table m (inside table k h) before same));
-  }
-
-pub missed : (s : List Float) (at n : ℕ) (t : Float) (lo hi : ℕ) → Bracket s at n t lo hi → hi ≤ lo → Searched s at n t None
-missed s at n t lo hi b h = record {
-  is = λ table k q. (sym (find_missed k table (λ j l.
-      by (ltb j lo)
-      (λ u. below_other (nth table j).0 k (b.below table k q j (ltb→lt j lo (holds _ u))))
-      (λ u. above_other (nth table j).0 k (b.above table k q j (omega (arith, ltb-false j lo u)) (omega (arith, q.count)))))));
+rows_cut : (s : List Float) (at n m k : ℕ) (rows : List (List Float)) → m ≡ 7 * n → k ≡ n → length rows ≡ n → rows ≡ first_chunks 7 k (take m (drop at s)) → Rows s at n rows
+rows_cut s at n m k rows em ek c e = record {
+  count = c;
+  number = λ j i d l r.
+      let place : at + (7 * j + i) ≡ at + 7 * j + i = omega arith in
+      ap (λ (ys : List (List Float)). get_or (get_or ys j d) i nan) e ∙ chunk_number k (take m (drop at s)) j i d (omega (arith, ek)) r
+      ∙ get_or-take m (drop at s) (7 * j + i) nan (omega (arith, em)) ∙ get_or-drop at s (7 * j + i) nan ∙ ap (λ (q : ℕ). get_or s q nan) place;
 }
+
+-- whether a row's second is below t
+abbrev pub sooner : Float → List Float → Bool
+sooner t row = lt (get_or row 0 nan) t
+
+-- the seconds of all rows in front of p are below t, and those of the others are not
+pub record Parted (s : List Float) (at n : ℕ) (t : Float) (rows : List (List Float)) (p : ℕ) : Type 0 where
+  pub held : Rows s at n rows
+  pub bound : p ≤ length rows
+  pub parts : IsPartitionedBy (sooner t) rows → IsPartitionPoint (λ row. sooner t row ≡ true) (λ row. sooner t row ≡ false) rows p
+
+pub parted : (s : List Float) (at n m k : ℕ) (t : Float) (rows : List (List Float)) (p : ℕ) → m ≡ 7 * n → k ≡ n → length rows ≡ k → rows ≡ first_chunks 7 k (take m (drop at s)) → p ≤ length rows
+    → (IsPartitionedBy (sooner t) rows → IsPartitionPoint (λ row. sooner t row ≡ true) (λ row. sooner t row ≡ false) rows p) → Parted s at n t rows p
+parted s at n m k t rows p em ek el e b f = record { held = rows_cut s at n m k rows em ek (el ∙ ek) e; bound = b; parts = f }
+
+module _ (s : List Float) (at n : ℕ) (t : Float) (rows : List (List Float)) (p : ℕ) (f : Parted s at n t rows p) where
+  module _ (table : Table State) (k : ℤ) (h : Sought s at n t table k) where
+    second_at : (j : ℕ) (d : List Float) → j < n → get_or (get_or rows j d) 0 nan ≡ second_time (nth table j).0
+    second_at j d l =
+        let place : at + 7 * j + 0 ≡ at + 7 * j = omega arith in
+        f.held.number j 0 d l (omega arith) ∙ ap (λ (q : ℕ). get_or s q nan) place ∙ (h.entries.each j (omega (arith, h.count))).second
+
+    a_key : (j : ℕ) → j < n → is_key (nth table j).0 ≡ true
+    a_key j l = is_true (is_key (nth table j).0) (each (λ (y : ℤ × State). T (is_key y.0)) table h.orderly.keys j (omega (arith, h.count)))
+
+    sooner_is : (j : ℕ) (d : List Float) → j < n → sooner t (get_or rows j d) ≡ lt (second_time (nth table j).0) (second_time k)
+    sooner_is j d l = λ i. lt (second_at j d l i) (h.time i)
+
+    below_key : (j : ℕ) (d : List Float) → j < n → sooner t (get_or rows j d) ≡ true → T (lt_z (nth table j).0 k)
+    below_key j d l e = second_below (nth table j).0 k (holds _ (sym (sooner_is j d l) ∙ e))
+
+    divided : IsPartitionedBy (sooner t) rows
+    divided i j d le l e =
+        let inside : j < n = omega (arith, f.held.count, l) in
+        by (eqb i j)
+        (λ q. subst (λ (m : ℕ). sooner t (get_or rows m d) ≡ true) (sym (eqb-true i j q)) e)
+        (λ q.
+        let early : i < j = omega (arith, eqb-false i j q, le) in
+        let low : T (lt_z (nth table i).0 k) = below_tr (nth table i).0 (nth table j).0 k (rises table h.orderly.rises i j early (omega (arith, h.count))) (below_key j d inside e) in
+        sooner_is i d (omega arith) ∙ is_true _ (lower_time (nth table i).0 k (a_key i (omega arith)) h.key low))
+
+    before : (j : ℕ) → j < p → T (lt_z (nth table j).0 k)
+    before j l = below_key j [] (omega (arith, f.bound, f.held.count)) ((f.parts divided).0 j [] (omega arith) l)
+
+    after : (j : ℕ) → p ≤ j → j < n → sooner t (get_or rows j []) ≡ false
+    after j l r = (f.parts divided).1 j [] l (omega (arith, f.held.count))
+
+  -- all rows are below, or the first that is not lies above
+  pub past_all : n ≤ p → Searched s at n t None
+  past_all e = record {
+    is = λ table k h. sym (find_missed k table (λ j l. below_other (nth table j).0 k (before table k h j (omega (arith, h.count)))));
+  }
+
+  pub past_some : p < n → (d : List Float) → lt t (get_or (get_or rows p d) 0 nan) ≡ true → Searched s at n t None
+  past_some e d a = record {
+    is = λ table k h.
+        let high : T (lt_z k (nth table p).0) = second_below k (nth table p).0 (holds _ ((λ i. lt (sym h.time i) (sym (second_at table k h p d e) i)) ∙ a)) in
+        sym (find_missed k table (λ j l.
+        by (ltb j p)
+        (λ u. below_other (nth table j).0 k (before table k h j (ltb→lt j p (holds _ u))))
+        (λ u. above_other (nth table j).0 k (by (eqb j p)
+        (λ q. subst (λ (m : ℕ). T (lt_z k (nth table m).0)) (sym (eqb-true j p q)) high)
+        (λ q. below_tr k (nth table p).0 (nth table j).0 high (rises table h.orderly.rises p j (omega (arith, eqb-false j p q, ltb-false j p u)) l))))));
+  }
+
+  pub met : p < n → (d : List Float) → lt t (get_or (get_or rows p d) 0 nan) ≡ false → (state : State) → state ≡ state_in (get_or rows p d) 1
+      → Searched s at n t (Some state)
+  met e d a state r = record {
+    is = λ table k h.
+        let within : p < length table = omega (arith, h.count) in
+        let same : same_second (nth table p).0 k ≡ true =
+        same_key (nth table p).0 k (a_key table k h p e) h.key (sym (sooner_is table k h p [] e) ∙ after table k h p (omega arith) e)
+        ((λ i. lt (sym h.time i) (sym (second_at table k h p d e) i)) ∙ a) in
+        ap Some (r ∙ row_state s (at + 7 * p) (get_or rows p d) (λ i l. f.held.number p i d e l) (nth table p) (h.entries.each p within))
+        ∙ sym (find_met k table p within (λ j l. below_other (nth table j).0 k (before table k h j l)) same);
+  }
 
 -- ---- a slot
-
-pub slot_searched : (s : List Float) (at n : ℕ) (t : Float) (r : Option State) → ((m : ℕ) → m ≤ 3500 → get_or s at nan ≡ number m → n ≡ m) → Searched s (at + 1) n t r → InSlot s at t r
-slot_searched s at n t r count f = record {
-  is = λ table k key time o slot.
-      f.is table k (record { key = key; time = time; count = sym (count (length table) o.few slot.count); orderly = o; entries = slot.entries });
-}
 
 -- ---- slot after slot
 
@@ -237,6 +249,15 @@ joined_first k tables w (suc n) x l e =
     (λ q. ap (λ (m : ℕ). find k (joined tables m)) (sym (eqb-true w (suc n) q)) ∙ e)
     (λ q. find_first k (joined tables n) (tables n) x (joined_first k tables w n x (omega (arith, eqb-false w (suc n) q, l)) e))
 
+-- a slot's table is as long as its first number says
+pub slot_searched : (s : List Float) (at n : ℕ) (t : Float) (r : Option State) → n ≡ count_of (get_or s at nan) 3500 → Searched s (at + 1) n t r → InSlot s at t r
+slot_searched s at n t r e f = record {
+  is = λ table k key time orderly slot.
+      let few : length table ≤ 3500 = orderly.few in
+      let long : length table ≡ n = sym (e ∙ ap (λ (x : Float). count_of x 3500) slot.count ∙ counted (length table) 3500 few (omega (arith, few))) in
+      f.is table k (record { key = key; time = time; count = long; orderly = orderly; entries = slot.entries });
+}
+
 -- nothing in the first windows
 pub record Empty (s : List Float) (first windows : ℕ) (t : Float) (w : ℕ) : Type 0 where
   pub is : (tables : ℕ → Table State) (k : ℤ) → is_key k ≡ true → t ≡ second_time k → SlotsHold s first tables windows → find k (joined tables w) ≡ None
@@ -244,10 +265,6 @@ pub record Empty (s : List Float) (first windows : ℕ) (t : Float) (w : ℕ) : 
 pub empty_none : (s : List Float) (first windows : ℕ) (t : Float) → Empty s first windows t 0
 unfolding joined find
 empty_none s first windows t = record { is = λ tables k key time h. refl }
-
-pub none_is : {A : Type 0} (o : Option A) → ((x : A) → o ≡ Some x → ⊥) → o ≡ None
-none_is None h = refl
-none_is (Some x) h = absurd (h x refl)
 
 module _ (s : List Float) (first windows : ℕ) (t : Float) (w : ℕ) (empty : Empty s first windows t w) where
   next : w < windows → (r : Option State) → InSlot s (first + window_room * w) t r → (tables : ℕ → Table State) (k : ℤ) → is_key k ≡ true → t ≡ second_time k → SlotsHold s first tables windows
@@ -268,9 +285,6 @@ module _ (s : List Float) (first windows : ℕ) (t : Float) (w : ℕ) (empty : E
     is = λ tables k key time h.
         (sym (joined_first k tables (suc w) windows x l (next l r f tables k key time h ∙ e)));
   }
-
-  pub none_found : w ≡ windows → InSlots s first windows t None
-  none_found e = record { is = λ tables k key time h. (sym (ap (λ (m : ℕ). find k (joined tables m)) (sym e) ∙ empty.is tables k key time h)) }
 
 -- ---- the guard
 

@@ -2,58 +2,39 @@
 #![tactic(auto)]
 
 ghost use Rattle.std.specs.Prelude.{◌≡◌, ℕ, ◌+◌, ◌*◌, ◌≤◌, ◌&&◌, length};
-ghost use Rattle.laws.specs.WholeNumbers.{number};
 ghost use Rattle.inputs.specs.Inputs.{window_room, slot_room, front_size};
 ghost use Rattle.inputs.specs.Lent.{model_of, keyed_of};
-ghost use Rattle.windows.specs.Windows.{window_of, windows_serve};
+ghost use Rattle.windows.specs.Windows.{states_left, windows_serve};
 ghost use Rattle.slots.specs.LookUp.{Looked, Searched, InSlot, InSlots, BothFit};
 ghost use Rattle.windows.specs.Slots.{entries_room};
 
 use integrate::kernel::State;
 
-// How many states a slot holds, none where its number is no such count.
-fn count_of(x: f64) -> usize
-    ensures { (result ≤ 3500) × ((n : ℕ) → n ≤ 3500 → x ≡ number n → result ≡ n) }
-{
-    if x > -1.0 && x < 18446744073709551616.0 {
-        let n = std::num::truncating_f64_to_u64(x);
-        if n <= 3500 {
-            return n as usize;
-        }
-    }
-    0
-}
-
-// The state at a second among the n of a slot, by halving: the seconds stand among the states' numbers, so no slice of them can be searched.
+// The state at a second among the n of a slot, seven numbers each.
 fn search(s: &[f64], at: usize, n: usize, second: f64) -> Option<State>
     requires { (n ≤ 3500) × (at + entries_room ≤ length s.now) }
     ensures { Searched s.now at n second result }
 {
-    let mut lo: usize = 0;
-    let mut hi: usize = n;
-    while lo < hi {
-        let mid = lo + (hi - lo) / 2;
-        let x = s[at + 7 * mid];
-        if x < second {
-            lo = mid + 1;
-        } else if second < x {
-            hi = mid;
-        } else {
-            return Some(integrate::kernel::state_in(s, at + 7 * mid + 1));
-        }
+    let (rows, _) = s[at..at + 7 * n].as_chunks::<7>();
+    let place = rows.partition_point(|row| row[0] < second);
+    let row = rows.get(place)?;
+    if second < row[0] {
+        return None;
     }
-    None
+    Some(integrate::kernel::state_in(row, 1))
 }
 
+#[tactic(auto, using(crate::proofs::Looking::slot_searched))]
 fn in_slot(s: &[f64], at: usize, second: f64) -> Option<State>
     requires { at + slot_room ≤ length s.now }
     ensures { InSlot s.now at second result }
 {
-    let n = count_of(s[at]);
+    let n = numbers::count_of(s[at], 3500);
     search(s, at + 1, n, second)
 }
 
 // Slot after slot.
+#[tactic(auto, using(crate::proofs::Looking::empty_none, crate::proofs::Looking::empty_next, crate::proofs::Looking::slot_found))]
 fn in_slots(s: &[f64], first: usize, windows: usize, second: f64) -> Option<State>
     requires { first + window_room * windows ≤ length s.now + slot_room }
     ensures { InSlots s.now first windows second result }
@@ -67,6 +48,7 @@ fn in_slots(s: &[f64], first: usize, windows: usize, second: f64) -> Option<Stat
 }
 
 // The first state at a second, over all windows of a satellite.
+#[tactic(auto, using(crate::proofs::Looking::no_room))]
 pub fn held(s: &[f64], first: usize, windows: usize, second: numbers::GpsSecond) -> Option<State>
     ensures { Looked s.now first windows second.0 result }
 {
@@ -80,6 +62,7 @@ pub fn held(s: &[f64], first: usize, windows: usize, second: numbers::GpsSecond)
 }
 
 // The fitted states of both satellites, C in the even slots and D in the odd ones. True where the slices serve both.
+// kept: a bool, since nothing is handed out but what is lent; `sheet` may ignore it, as its own tests let through only what serves both.
 pub fn fill(
     model: inputs::Model<'_>,
     states: inputs::Pair<'_>,
@@ -89,7 +72,7 @@ pub fn fill(
     ensures { BothFit
         (windows_serve model.entry.degree states.entry.c.keys.now (length states.entry.c.values.now) nodes.now 0 (length s.old)
         && windows_serve model.entry.degree states.entry.d.keys.now (length states.entry.d.values.now) nodes.now 1 (length s.old))
-        (window_of (model_of model.entry) (keyed_of states.entry.c)) (window_of (model_of model.entry) (keyed_of states.entry.d))
+        (states_left (model_of model.entry) (keyed_of states.entry.c)) (states_left (model_of model.entry) (keyed_of states.entry.d))
         nodes.now s.old s.new (front_size model.entry.degree) result }
 {
     let c = windows::kernel::fit_windows(model, states.c, nodes, 0, s);

@@ -27,65 +27,76 @@ pub struct Totals {
     pub lon: f64,
 }
 
-// Where (n, m) stands in a table.
-fn idx(n: usize, m: usize) -> usize
-    requires { (m ≤ n) × (n ≤ 3) }
-    ensures { (result ≡ tri n + m) × (result < 10) }
-{
-    numbers::triangle(n) + m
+// A degree of the tables.
+#[derive(Clone, Copy)]
+struct Degree<'a> {
+    tables: &'a Tables,
+    n: usize,
+    ghost small: { n ≤ 3 },
 }
 
-#[tactic(auto, unfolding(crate::specs::Gravity::add_order))]
-fn add_order(f: Tables, n: usize, m: usize, sum: Sums) -> Sums
-    requires { (m ≤ n) × (n ≤ 3) }
-    ensures { result ≡ add_order f n m sum }
-{
-    let k = idx(n, m);
-    let c = f.tide.c[k];
-    let s = f.tide.s[k];
-    let x = f.orders.cos[m];
-    let y = f.orders.sin[m];
-    let even = c * x + s * y;
-    let order = numbers::float_of(m);
-    Sums {
-        v: sum.v + f.p[k] * even,
-        lat: sum.lat + f.dp[k] * even,
-        lon: sum.lon + f.p[k] * order * (s * x - c * y),
+impl<'a> Degree<'a> {
+    // Where order m stands in a table.
+    fn place(&self, m: usize) -> usize
+        requires { m ≤ self.now.n }
+        ensures { (result ≡ tri self.now.n + m) × (result < 10) }
+    {
+        numbers::triangle(self.n) + m
+    }
+
+    #[tactic(auto, unfolding(crate::specs::Gravity::add_order))]
+    fn add_order(&self, m: usize, sum: Sums) -> Sums
+        requires { m ≤ self.now.n }
+        ensures { result ≡ add_order self.now.tables.now self.now.n m sum }
+    {
+        let f = self.tables;
+        let k = self.place(m);
+        let c = f.tide.c[k];
+        let s = f.tide.s[k];
+        let x = f.orders.cos[m];
+        let y = f.orders.sin[m];
+        let even = c * x + s * y;
+        let order = numbers::float_of(m);
+        Sums {
+            v: sum.v + f.p[k] * even,
+            lat: sum.lat + f.dp[k] * even,
+            lon: sum.lon + f.p[k] * order * (s * x - c * y),
+        }
+    }
+
+    // kept: this loop and that of `degree_sums` share only the `for`, and their steps `add_order` and `add_to` add other sums.
+    // One function for both would be handed a start and a step, and they are no more than these.
+    fn order_sums(&self) -> Sums
+        ensures { result ≡ order_sums self.now.tables.now self.now.n (self.now.n + 1) }
+    {
+        let mut s = Sums {
+            v: 0.0,
+            lat: 0.0,
+            lon: 0.0,
+        };
+        for m in 0..self.n + 1 {
+            s = self.add_order(m, s);
+        }
+        s
+    }
+
+    #[tactic(auto, unfolding(crate::specs::Gravity::add_degree))]
+    fn add_to(&self, q: f64, t: Totals) -> Totals
+        ensures { result ≡ add_degree self.now.tables.now q self.now.n t }
+    {
+        let s = self.order_sums();
+        let next = numbers::float_of(self.n + 1);
+        Totals {
+            power: t.power * q,
+            r: t.r - next * t.power * s.v,
+            lat: t.lat + t.power * s.lat,
+            lon: t.lon + t.power * s.lon,
+        }
     }
 }
 
-fn order_sums(f: Tables, n: usize) -> Sums
-    requires { n ≤ 3 }
-    ensures { result ≡ order_sums f n (n + 1) }
-{
-    let mut s = Sums {
-        v: 0.0,
-        lat: 0.0,
-        lon: 0.0,
-    };
-    for m in 0..n + 1 {
-        s = add_order(f, n, m, s);
-    }
-    s
-}
-
-#[tactic(auto, unfolding(crate::specs::Gravity::add_degree))]
-fn add_degree(f: Tables, q: f64, n: usize, t: Totals) -> Totals
-    requires { n ≤ 3 }
-    ensures { result ≡ add_degree f q n t }
-{
-    let s = order_sums(f, n);
-    let next = numbers::float_of(n + 1);
-    Totals {
-        power: t.power * q,
-        r: t.r - next * t.power * s.v,
-        lat: t.lat + t.power * s.lat,
-        lon: t.lon + t.power * s.lon,
-    }
-}
-
-fn degree_sums(f: Tables, q: f64) -> Totals
-    ensures { result ≡ degree_sums f q 4 }
+fn degree_sums(f: &Tables, q: f64) -> Totals
+    ensures { result ≡ degree_sums f.now q 4 }
 {
     let mut t = Totals {
         power: 1.0,
@@ -94,7 +105,8 @@ fn degree_sums(f: Tables, q: f64) -> Totals
         lon: 0.0,
     };
     for n in 0..4 {
-        t = add_degree(f, q, n, t);
+        let degree = Degree { tables: f, n };
+        t = degree.add_to(q, t);
     }
     t
 }
@@ -136,7 +148,7 @@ pub fn gravity(field: crate::SolidTide, x: vectors::Vector) -> vectors::Vector
     let at = crate::kernel::place_of(x);
     let lat = numbers::sine_cosine(at.lat);
     let lon = numbers::sine_cosine(at.lon);
-    let t = degree_sums(tables_of(field, lat, at.lon), R_E / at.r);
+    let t = degree_sums(&tables_of(field, lat, at.lon), R_E / at.r);
     let k = GM_E / at.r;
     from_local(
         lat,

@@ -1,7 +1,7 @@
 -- A count is judged however many digits it has: one of more than 18 is beyond every bound and is refused like any other beyond its own. So a reader that
 -- has no room for a whole header may leave digits out behind the 19th: the refusal is the same. Assumes nothing.
 use mathlib.Core.Path.{◌≡◌, refl, sym, ap, ◌∙◌}
-use mathlib.Core.Bool.{Bool, true, false, not, ◌&&◌}
+use mathlib.Core.Bool.{Bool, true, false, cond, not, ◌&&◌}
 use mathlib.Core.List.{List, [], ◌∷◌, ◌++◌, append_assoc}
 use Prim.Native.Nat.{ℕ, zero, suc, ◌+◌, ◌-◌, ◌<◌, ◌≤◌}
 use native.Mathlib.Omega.{arith}
@@ -16,7 +16,8 @@ use Rattle.hexadecimal.specs.Printing.{line_feed}
 use Rattle.std.specs.Prelude.{Some, Err}
 use Rattle.submission_text.specs.declared.Fault.TheVariants.{Bounds}
 use Rattle.submission_text.specs.declared.Reading.{Reading}
-use Rattle.submission_text.specs.Text.{count_in, begins_with, header_with, names, header_of, outside, count_refusal, header_fault, Verdict, unless, first, accepted, goes_on, announced, headed}
+use Rattle.slices.specs.Calls.{first_failed}
+use Rattle.submission_text.specs.Text.{count_in, begins_with, header_with, names, header_of, outside, count_tests, header_fault, Verdict, accepted, goes_on, announced, headed}
 use Rattle.submission_text.specs.Text.{taken_header}
 
 -- more than 18 decimal digits, and no zero in front of them
@@ -56,8 +57,8 @@ long_header name digits l =
     in
     rw (le-ltb (length line) (length name + 2) room, tested) (ap count_in digits_there ∙ counted digits l)
 
-beyond_bound : (section : ℕ) → 2 ≤ section → section < 9 → count_refusal section 1000000000000000000 ≡ Err Bounds
-unfolding count_refusal outside
+beyond_bound : (section : ℕ) → 2 ≤ section → section < 9 → first_failed (count_tests section 1000000000000000000) ≡ Err Bounds
+unfolding count_tests outside
 beyond_bound zero h k = absurd (let none : ⊥ = omega arith in none)
 beyond_bound (suc zero) h k = absurd (let none : ⊥ = omega arith in none)
 beyond_bound (suc (suc zero)) h k = refl
@@ -73,7 +74,7 @@ faulty : (section filled room : ℕ) → 2 ≤ section → section < 9 → heade
 unfolding header_fault
 faulty section filled room h k = by (leb (filled + 1) room)
   where
-    by : (b : Bool) → first (unless b Bounds) (count_refusal section 1000000000000000000) ≡ Err Bounds
+    by : (b : Bool) → cond b (first_failed (count_tests section 1000000000000000000)) (Err Bounds) ≡ Err Bounds
     by true = beyond_bound section h k
     by false = refl
 

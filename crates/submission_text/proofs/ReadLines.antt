@@ -18,8 +18,9 @@ use Rattle.hexadecimal.specs.Digits.{float_at}
 use Rattle.submission_text.specs.declared.Fault.{Fault}
 use Rattle.submission_text.specs.declared.Fault.TheVariants.{Bounds, Format}
 use Rattle.submission_text.specs.declared.Reading.{Reading}
-use Rattle.submission_text.specs.Text.{Verdict, unless, first, ended, taken_end, column, begins_with, words_in, is_term, is_row, row_refusal, count_refusal, degree_after, Taken, goes_on, accepted, header_fault, announced}
-use Rattle.submission_text.specs.Text.{row_fault, row_taken, taken_row, taken, read_of, behind, Fed}
+use Rattle.slices.specs.Calls.{first_failed}
+use Rattle.submission_text.specs.Text.{Verdict, ended, taken_end, column, begins_with, words_in, is_term, is_row, row_tests, count_tests, degree_after, Taken, goes_on, accepted, header_fault, announced}
+use Rattle.submission_text.specs.Text.{row_fault, row_taken, taken_row, taken, Fed, Read, stopped, left_by, line_read, joined, read_of, Reads}
 
 -- ---- headers
 
@@ -80,7 +81,7 @@ fed_added : (t : Result Taken Fault) (u : Taken) (filled : ℕ) (before after : 
     take u.reading.filled after ≡ take filled before ++ u.numbers → Fed t filled before (Ok r) after
 fed_added t u filled before after r e h n = subst (λ (t : Result Taken Fault). Fed t filled before (Ok r) after) (sym e) (record { reading = ap Ok h; numbers = n })
 
-first_ok : (b : Bool) (f : Fault) (v : Verdict) (u : Unit {0}) → first (unless b f) v ≡ Ok u → (b ≡ true) × (v ≡ Ok u)
+first_ok : (b : Bool) (f : Fault) (v : Verdict) (u : Unit {0}) → cond b v (Err f) ≡ Ok u → (b ≡ true) × (v ≡ Ok u)
 first_ok true f v u e = (refl, e)
 first_ok false f v u e = cc
 
@@ -95,13 +96,13 @@ end_taken line g before r h =
 
 pub count_room : (section n at room : ℕ) (u : Unit {0}) → header_fault section n at room ≡ Ok u → at + 1 ≤ room
 unfolding header_fault
-count_room section n at room u e = leb-true (at + 1) room (first_ok (leb (at + 1) room) Bounds (count_refusal section n) u e).0
+count_room section n at room u e = leb-true (at + 1) room (first_ok (leb (at + 1) room) Bounds (first_failed (count_tests section n)) u e).0
 
 pub row_room : (section words at room : ℕ) (line : List ℕ) (u : Unit {0}) → row_fault section words at room line ≡ Ok u → at + words ≤ room
 unfolding row_fault
 row_room section words at room line u e =
     leb-true (at + words) room
-    (first_ok (leb (at + words) room) Bounds (row_refusal section line) u (first_ok (is_row line 0 words) Format (first (unless (leb (at + words) room) Bounds) (row_refusal section line)) u e).1).0
+    (first_ok (leb (at + words) room) Bounds (first_failed (row_tests section line)) u (first_ok (is_row line 0 words) Format (first_failed ((leb (at + words) room, Bounds) ∷ row_tests section line)) u e).1).0
 
 module _ (n : ℕ) (g : Reading) (before : List Float) where
   pub count_refused : (f : Fault) (r : Result Reading Fault) → header_fault g.section n g.filled (length before) ≡ Err f → r ≡ Err f → Fed (announced (length before) g n) g.filled before r before
@@ -155,44 +156,80 @@ module _ (line : List ℕ) (g : Reading) (before : List Float) (w : ℕ) (ew : w
 
 -- ---- lines
 
--- what is left by line after line is what the lines say
-pub reads_none : (room : ℕ) (g : Reading) (before : List Float) → Fed (read_of room [] g) g.filled before (Ok g) before
-unfolding read_of
-reads_none room g before = record { reading = refl; numbers = sym (append-nil (take g.filled before)) }
-
--- a line that is taken, and then the others
-pub reads_on : (room : ℕ) (line : List ℕ) (lines : List (List ℕ)) (g r r' : Reading) (filled : ℕ) (before after after' : List Float) → Fed (taken room line g) filled before (Ok r) after →
-    Fed (read_of room lines r) r.filled after (Ok r') after' → Fed (read_of room (line ∷ lines) g) filled before (Ok r') after'
-unfolding read_of
-reads_on room line lines g r r' filled before after after' p q = by (taken room line g) p
+-- what `feed` leaves where a line is taken, and where it is refused
+pub line_taken : (room : ℕ) (line : List ℕ) (g r : Reading) (u : Unit {0}) (filled : ℕ) (before after : List Float) → Fed (taken room line g) filled before (Ok r) after →
+    Reads (line_read room line g (Ok u)) filled before r (Ok tt) after
+unfolding line_read
+line_taken room line g r u filled before after p = by (taken room line g) p
   where
-    on : (t : Taken) (s : Result Taken Fault) → take t.reading.filled after ≡ take filled before ++ t.numbers → Fed s t.reading.filled after (Ok r') after' → Fed (behind t.numbers s) filled before (Ok r') after'
-    on t (Ok s) n q = record {
-      reading = q.reading;
-      numbers = q.numbers ∙ ap (λ (x : List Float). x ++ s.numbers) n ∙ append_assoc (take filled before) t.numbers s.numbers;
-    }
-    on t (Err f) n q = let e : Ok r' ≡ Err f = q.reading in cc
-
-    by : (t : Result Taken Fault) → Fed t filled before (Ok r) after →
-        Fed (elim t as (λ (_ : Result Taken Fault). Result Taken Fault) [ Ok t ↦ behind t.numbers (read_of room lines t.reading) | Err f ↦ Err f ]) filled before (Ok r') after'
+    by : (t : Result Taken Fault) → Fed t filled before (Ok r) after → Reads (left_by g t) filled before r (Ok tt) after
     by (Ok t) p =
         let e : r ≡ t.reading = cc (p.reading) in
-        on t (read_of room lines t.reading) p.numbers (subst (λ (x : Reading). Fed (read_of room lines x) x.filled after (Ok r') after') e q)
+        record { reading = e; verdict = refl; numbers = ap (λ (x : Reading). take x.filled after) e ∙ p.numbers }
     by (Err f) p = let e : Ok r ≡ Err f = p.reading in cc
 
--- a line that is refused, now or among the others, refuses the whole
-pub reads_refused : (room : ℕ) (line : List ℕ) (lines : List (List ℕ)) (g : Reading) (f : Fault) → taken room line g ≡ Err f → read_of room (line ∷ lines) g ≡ Err f
-unfolding read_of
-reads_refused room line lines g f e = rw (e, read_of)
-
-pub reads_on_refused : (room : ℕ) (line : List ℕ) (lines : List (List ℕ)) (g r : Reading) (filled : ℕ) (before after : List Float) (f : Fault) → Fed (taken room line g) filled before (Ok r) after →
-    read_of room lines r ≡ Err f → read_of room (line ∷ lines) g ≡ Err f
-unfolding read_of
-reads_on_refused room line lines g r filled before after f p q = by (taken room line g) p
+pub line_refused : (room : ℕ) (line : List ℕ) (g : Reading) (f : Fault) (u : Unit {0}) (filled : ℕ) (before after : List Float) → Fed (taken room line g) filled before (Err f) after →
+    Reads (line_read room line g (Ok u)) g.filled before g (Err f) after
+unfolding line_read
+line_refused room line g f u filled before after p = by (taken room line g) p
   where
-    by : (t : Result Taken Fault) → Fed t filled before (Ok r) after →
-        elim t as (λ (_ : Result Taken Fault). Result Taken Fault) [ Ok t ↦ behind t.numbers (read_of room lines t.reading) | Err f ↦ Err f ] ≡ Err f
-    by (Ok t) p =
-        let e : r ≡ t.reading = cc (p.reading) in
-        ap (behind t.numbers) (ap (read_of room lines) (sym e) ∙ q)
-    by (Err h) p = let e : Ok r ≡ Err h = p.reading in cc
+    by : (t : Result Taken Fault) → Fed t filled before (Err f) after → Reads (left_by g t) g.filled before g (Err f) after
+    by (Ok t) p = let e : Err f ≡ Ok t.reading = p.reading in cc
+    by (Err h) p = record { reading = refl; verdict = cc (p.reading); numbers = ap (take g.filled) p.numbers ∙ sym (append-nil (take g.filled before)) }
+
+pub reads_none : (room : ℕ) (g : Reading) (v : Verdict) (before : List Float) → Reads (read_of room [] g v) g.filled before g v before
+unfolding read_of
+reads_none room g v before = record { reading = refl; verdict = refl; numbers = sym (append-nil (take g.filled before)) }
+
+-- two parts in one list of numbers
+reads_joined : (s t : Read) (filled : ℕ) (before after after' : List Float) (r r' : Reading) (v v' : Verdict) → Reads s filled before r v after → Reads t r.filled after r' v' after' →
+    Reads (joined s t) filled before r' v' after'
+reads_joined s t filled before after after' r r' v v' p q = record {
+  reading = q.reading;
+  verdict = q.verdict;
+  numbers = q.numbers ∙ ap (λ (x : List Float). x ++ t.numbers) p.numbers ∙ append_assoc (take filled before) s.numbers t.numbers;
+}
+
+-- behind a part that left r and v, which its definition names
+read_behind : (room : ℕ) (lines : List (List ℕ)) (s : Read) (filled : ℕ) (before after after' : List Float) (r r' : Reading) (v v' : Verdict) → Reads s filled before r v after →
+    Reads (read_of room lines r v) r.filled after r' v' after' → Reads (joined s (read_of room lines s.reading s.verdict)) filled before r' v' after'
+read_behind room lines s filled before after after' r r' v v' p q =
+    reads_joined s (read_of room lines s.reading s.verdict) filled before after after' r r' v v' p
+    (subst (λ (x : Reading × Verdict). Reads (read_of room lines x.0 x.1) r.filled after r' v' after') (λ i. (p.reading i, p.verdict i)) q)
+
+-- what is left by line after line is what the lines say, where a line is refused as well as where all are taken
+pub reads_on : (room : ℕ) (line : List ℕ) (lines : List (List ℕ)) (g r r' : Reading) (u v w : Verdict) (filled : ℕ) (before after after' : List Float) →
+    Reads (line_read room line g u) filled before r v after → Reads (read_of room lines r v) r.filled after r' w after' → Reads (read_of room (line ∷ lines) g u) filled before r' w after'
+unfolding read_of
+reads_on room line lines g r r' u v w filled before after after' p q = read_behind room lines (line_read room line g u) filled before after after' r r' v w p q
+
+-- a text read in two parts is the whole text read
+parts_are : (room : ℕ) (lines more : List (List ℕ)) (g : Reading) (v : Verdict) →
+    read_of room (lines ++ more) g v ≡ joined (read_of room lines g v) (read_of room more (read_of room lines g v).reading (read_of room lines g v).verdict)
+unfolding read_of
+parts_are room [] more g v = refl
+parts_are room (line ∷ lines) more g v =
+    let s = line_read room line g v in
+    let t = read_of room lines s.reading s.verdict in
+    let rest = read_of room more t.reading t.verdict in
+    ap (joined s) (parts_are room lines more s.reading s.verdict)
+    ∙ ap (λ (x : List Float). record { reading = rest.reading; numbers = x; verdict = rest.verdict }) (sym (append_assoc s.numbers t.numbers rest.numbers))
+
+pub reads_parts : (room : ℕ) (lines more : List (List ℕ)) (g r r' : Reading) (u v w : Verdict) (filled : ℕ) (before after after' : List Float) →
+    Reads (read_of room lines g u) filled before r v after → Reads (read_of room more r v) r.filled after r' w after' → Reads (read_of room (lines ++ more) g u) filled before r' w after'
+reads_parts room lines more g r r' u v w filled before after after' p q =
+    subst (λ (t : Read). Reads t filled before r' w after') (sym (parts_are room lines more g u))
+    (read_behind room more (read_of room lines g u) filled before after after' r r' v w p q)
+
+-- behind a refusal nothing is read
+refused_stays : (room : ℕ) (lines : List (List ℕ)) (g : Reading) (f : Fault) → read_of room lines g (Err f) ≡ stopped g (Err f)
+unfolding read_of line_read
+refused_stays room [] g f = refl
+refused_stays room (line ∷ lines) g f = ap (joined (stopped g (Err f))) (refused_stays room lines g f)
+
+-- a line that is refused ends the reading, as far as it came before
+pub reads_refused : (room : ℕ) (line : List ℕ) (lines : List (List ℕ)) (g : Reading) (u : Unit {0}) (f : Fault) → taken room line g ≡ Err f →
+    read_of room (line ∷ lines) g (Ok u) ≡ stopped g (Err f)
+unfolding read_of line_read
+reads_refused room line lines g u f e =
+    ap (λ (s : Read). joined s (read_of room lines s.reading s.verdict)) (ap (left_by g) e) ∙ ap (joined (stopped g (Err f))) (refused_stays room lines g f)

@@ -5,6 +5,7 @@ use Rattle.std.specs.Float.{binary64}
 use Rattle.std.specs.Float.Ieee.{of_bits}
 use Rattle.std.specs.List.{list_all}
 use Rattle.hexadecimal.specs.Digits.{is_digit, word_at, decimal_at, part, is_word, bits_of, float_at}
+use Rattle.slices.specs.Calls.{first_failed}
 use Rattle.submission_text.specs.declared.Fault.{Fault}
 use Rattle.submission_text.specs.declared.Fault.TheVariants.{Degree, Bounds, Format}
 use Rattle.submission_text.specs.declared.Reading.{Reading}
@@ -19,16 +20,6 @@ number_of Format = 11
 
 abbrev pub Verdict : Type 0
 Verdict = Result Unit Fault
-
--- a fault where a test fails
-abbrev pub unless : Bool → Fault → Verdict
-unless true f = Ok tt
-unless false f = Err f
-
--- the first fault of two
-abbrev pub first : Verdict → Verdict → Verdict
-first (Ok u) v = v
-first (Err f) v = Err f
 
 -- ---- words
 
@@ -81,9 +72,9 @@ least_counts = 1 ∷ 1 ∷ 2 ∷ 0 ∷ 0 ∷ 0 ∷ 0 ∷ 0 ∷ 0 ∷ []
 abbrev pub most_counts : List ℕ
 most_counts = 1 ∷ 1 ∷ 8 ∷ 12000 ∷ 12000 ∷ 12000 ∷ 12000 ∷ 4 ∷ 12000 ∷ []
 
--- the refusal of a section's count
-unfoldable pub count_refusal : ℕ → ℕ → Verdict
-count_refusal section n = unless (leb (get_or least_counts section 0) n && leb n (get_or most_counts section 0)) (outside section)
+-- what a section's count must be
+unfoldable pub count_tests : ℕ → ℕ → List (Bool × Fault)
+count_tests section n = (leb (get_or least_counts section 0) n && leb n (get_or most_counts section 0), outside section) ∷ []
 
 -- ---- rows
 
@@ -107,14 +98,14 @@ unfoldable pub is_row : List ℕ → ℕ → ℕ → Bool
 is_row line at zero = eqb at (length line)
 is_row line at (suc k) = is_term line at (suc k) && is_row line (at + 17) k
 
--- a degree that is none, and one above the program's bound
-unfoldable pub degree_refusal : ℕ → Verdict
-degree_refusal n = first (unless (leb 2 n && leb n 180) Degree) (unless (leb n 12) Bounds)
+-- a degree, and one within the program's bound
+unfoldable pub degree_tests : ℕ → List (Bool × Fault)
+degree_tests n = (leb 2 n && leb n 180, Degree) ∷ (leb n 12, Bounds) ∷ []
 
--- the degree and the good byte are numbers of their own bounds
-unfoldable pub row_refusal : ℕ → List ℕ → Verdict
-row_refusal section line =
-    cond (eqb section 0) (degree_refusal (bits_of (word_at line 0))) (cond (eqb section 8) (unless (leb (bits_of (word_at line 34)) 255) Format) (Ok tt))
+-- what a row's words must be beside words: the degree and the good byte are numbers of their own bounds
+unfoldable pub row_tests : ℕ → List ℕ → List (Bool × Fault)
+row_tests section line =
+    cond (eqb section 0) (degree_tests (bits_of (word_at line 0))) (cond (eqb section 8) ((leb (bits_of (word_at line 34)) 255, Format) ∷ []) [])
 
 unfoldable pub degree_after : ℕ → List ℕ → ℕ → ℕ
 degree_after section line degree = cond (eqb section 0) (bits_of (word_at line 0)) degree
@@ -143,7 +134,7 @@ accepted (Err f) t = Err f
 
 -- the refusal of a count, with room for so many numbers
 unfoldable pub header_fault : ℕ → ℕ → ℕ → ℕ → Verdict
-header_fault section n filled room = first (unless (leb (filled + 1) room) Bounds) (count_refusal section n)
+header_fault section n filled room = first_failed ((leb (filled + 1) room, Bounds) ∷ count_tests section n)
 
 unfoldable pub announced : ℕ → Reading → ℕ → Result Taken Fault
 announced room r n =
@@ -158,8 +149,7 @@ unfoldable pub taken_header : ℕ → List ℕ → Reading → Result Taken Faul
 taken_header room line r = headed room r (header_of r.section line)
 
 unfoldable pub row_fault : ℕ → ℕ → ℕ → ℕ → List ℕ → Verdict
-row_fault section words filled room line =
-    first (unless (is_row line 0 words) Format) (first (unless (leb (filled + words) room) Bounds) (row_refusal section line))
+row_fault section words filled room line = first_failed ((is_row line 0 words, Format) ∷ (leb (filled + words) room, Bounds) ∷ row_tests section line)
 
 unfoldable pub row_taken : ℕ → ℕ → List ℕ → Reading → Result Taken Fault
 row_taken room words line r =
@@ -181,15 +171,44 @@ ended (Err f) = Err f
 unfoldable pub taken : ℕ → List ℕ → Reading → Result Taken Fault
 taken room line r = cond (ltb 8 r.section) (ended (taken_end line r)) (cond (eqb r.left 0) (taken_header room line r) (taken_row room line r))
 
--- what was read, behind the numbers read before
-abbrev pub behind : List Float → Result Taken Fault → Result Taken Fault
-behind numbers (Ok t) = Ok (record { reading = t.reading; numbers = numbers ++ t.numbers })
-behind numbers (Err f) = Err f
+-- ---- lines one after another
+
+-- how far a text was read, the numbers that were read, and the fault of the line behind them where it was refused
+pub record Read : Type 0 where
+  pub reading : Reading
+  pub numbers : List Float
+  pub verdict : Verdict
+
+-- nothing more is read
+abbrev pub stopped : Reading → Verdict → Read
+stopped r v = record { reading = r; numbers = []; verdict = v }
+
+-- what a line leaves behind the lines before it; a refusal leaves all as they did
+abbrev pub left_by : Reading → Result Taken Fault → Read
+left_by r (Ok t) = record { reading = t.reading; numbers = t.numbers; verdict = Ok tt }
+left_by r (Err f) = stopped r (Err f)
+
+-- one more line, and nothing where a line before it was refused
+unfoldable pub line_read : ℕ → List ℕ → Reading → Verdict → Read
+line_read room line r (Ok u) = left_by r (taken room line r)
+line_read room line r (Err f) = stopped r (Err f)
+
+-- two parts of a text: the numbers of both, and the end of the second
+abbrev pub joined : Read → Read → Read
+joined s t = record { reading = t.reading; numbers = s.numbers ++ t.numbers; verdict = t.verdict }
 
 -- one line after another, to the first that is refused
-unfoldable pub read_of : ℕ → List (List ℕ) → Reading → Result Taken Fault
-read_of room [] r = Ok (only r)
-read_of room (line ∷ lines) r = elim (taken room line r) [ Ok t ↦ behind t.numbers (read_of room lines t.reading) | Err f ↦ Err f ]
+unfoldable pub read_of : ℕ → List (List ℕ) → Reading → Verdict → Read
+read_of room [] r v = stopped r v
+read_of room (line ∷ lines) r v = let s = line_read room line r v in joined s (read_of room lines s.reading s.verdict)
+
+-- the numbers stand behind those read before
+pub record Reads (t : Read) (filled : ℕ) (before : List Float) (r : Reading) (v : Verdict) (after : List Float) : Type 0 where
+  pub reading : r ≡ t.reading
+  pub verdict : v ≡ t.verdict
+  pub numbers : take r.filled after ≡ take filled before ++ t.numbers
+
+-- ---- a line in the program's list of numbers
 
 abbrev pub reading_of : Result Taken Fault → Result Reading Fault
 reading_of (Ok t) = Ok t.reading
@@ -204,6 +223,6 @@ pub record Fed (t : Result Taken Fault) (filled : ℕ) (before : List Float) (r 
   pub reading : r ≡ reading_of t
   pub numbers : Added t filled before after
 
--- the bytes of the next line, 0 for a header; 1 after the last section, where a byte that is still there makes the text malformed
-unfoldable pub line_length : Reading → ℕ
-line_length r = cond (ltb 8 r.section) 1 (cond (eqb r.left 0) 0 (17 * words_in r.section r.degree))
+-- the bytes of the next line, none said of a header; 1 after the last section, where a byte that is still there makes the text malformed
+unfoldable pub line_length : Reading → Option ℕ
+line_length r = cond (ltb 8 r.section) (Some 1) (cond (eqb r.left 0) None (Some (17 * words_in r.section r.degree)))

@@ -2,11 +2,12 @@
 // the numbers of the lines in order: of each section its count, and then its words as the doubles of those bits.
 #![tactic(auto)]
 
-ghost use Rattle.std.specs.Prelude.{◌≡◌, ◌+◌, ◌≤◌, ◌<◌, length, leb};
+ghost use Rattle.std.specs.Prelude.{◌≡◌, ◌+◌, ◌≤◌, ◌<◌, [], ◌∷◌, get_or, length, leb, IfSome};
 ghost use Rattle.hexadecimal.specs.Digits.{is_digit, word_at, bits_of, float_at};
 ghost use Rattle.std.specs.List.{list_all};
+ghost use Rattle.slices.specs.Calls.{first_failed};
 ghost use Rattle.submission_text.specs.Text.{column, count_in, header_with, header_of, coefficients, words_in, outside};
-ghost use Rattle.submission_text.specs.Text.{unless as unless_of, count_refusal, separator, is_term, is_row, degree_refusal, row_refusal, degree_after, row_fault};
+ghost use Rattle.submission_text.specs.Text.{count_tests, separator, is_term, is_row, degree_tests, row_tests, degree_after, row_fault};
 ghost use Rattle.submission_text.specs.Text.{number_of, header_fault, begun, goes_on, announced, taken_header, taken_row, taken_end, taken};
 ghost use Rattle.submission_text.specs.Text.{line_length, Fed};
 
@@ -134,21 +135,24 @@ fn outside(section: usize) -> Fault
     }
 }
 
-fn unless(passes: bool, fault: Fault) -> Result<(), Fault>
-    ensures { result ≡ unless_of passes fault }
+// A section's entry in a table, 0 behind the last.
+fn entry(table: &[u64; 9], section: usize) -> u64
+    ensures { result ≡ get_or table.now section 0 }
 {
-    if passes { Ok(()) } else { Err(fault) }
+    table.get(section).copied().unwrap_or(0)
 }
 
 // The refusal of a section's count.
-#[tactic(auto, using(std::proofs::lemmas::Bool::Decides::nat_tests), unfolding(crate::specs::Text::count_refusal))]
+#[tactic(auto, using(std::proofs::lemmas::Bool::Decides::nat_tests), unfolding(crate::specs::Text::count_tests))]
 fn count_refusal(section: usize, n: u64) -> Result<(), Fault>
-    requires { section < 9 }
-    ensures { result ≡ count_refusal section n }
+    ensures { result ≡ first_failed (count_tests section n) }
 {
     let least: [u64; 9] = [1, 1, 2, 0, 0, 0, 0, 0, 0];
     let most: [u64; 9] = [1, 1, 8, 12000, 12000, 12000, 12000, 4, 12000];
-    unless(least[section] <= n && n <= most[section], outside(section))
+    slices::tested(
+        entry(&least, section) <= n && n <= entry(&most, section),
+        outside(section),
+    )
 }
 
 // ---- rows
@@ -168,12 +172,18 @@ pub fn coefficients(degree: usize) -> usize
 // How many words a line of a section has.
 #[tactic(auto, using(std::proofs::lemmas::Bool::Decides::nat_tests), unfolding(crate::specs::Text::words_in))]
 fn words_in(section: usize, degree: usize) -> usize
-    requires { section < 9 }
     ensures { (result ≡ words_in section degree) × (result ≤ 185) }
 {
     let c = coefficients(degree);
-    let table = [1, 2 + c, 3 + c, 7, 2, 7, 2, 1, 3];
-    table[section]
+    match section {
+        0 | 7 => 1,
+        1 => 2 + c,
+        2 => 3 + c,
+        3 | 5 => 7,
+        4 | 6 => 2,
+        8 => 3,
+        _ => 0,
+    }
 }
 
 // What stands behind a word when so many words are left, itself among them.
@@ -217,22 +227,22 @@ fn fill_row(line: &[u8], out: &mut [f64])
     }
 }
 
-#[tactic(auto, using(std::proofs::lemmas::Bool::Decides::nat_tests), unfolding(crate::specs::Text::degree_refusal))]
+#[tactic(auto, using(std::proofs::lemmas::Bool::Decides::nat_tests), unfolding(crate::specs::Text::degree_tests))]
 fn degree_refusal(n: u64) -> Result<(), Fault>
-    ensures { result ≡ degree_refusal n }
+    ensures { result ≡ first_failed (degree_tests n) }
 {
-    unless(2 <= n && n <= 180, Fault::Degree)?;
-    unless(n <= 12, Fault::Bounds)
+    slices::tested(2 <= n && n <= 180, Fault::Degree)?;
+    slices::tested(n <= 12, Fault::Bounds)
 }
 
 // What a row's words must be beside words: the degree, and the good byte of an observation.
-#[tactic(auto, using(std::proofs::lemmas::Bool::Decides::nat_tests), unfolding(crate::specs::Text::row_refusal))]
+#[tactic(auto, using(std::proofs::lemmas::Bool::Decides::nat_tests), unfolding(crate::specs::Text::row_tests))]
 fn row_refusal(section: usize, line: &[u8]) -> Result<(), Fault>
-    ensures { result ≡ row_refusal section line.now }
+    ensures { result ≡ first_failed (row_tests section line.now) }
 {
     match section {
         0 => degree_refusal(number_at(line, 0)),
-        8 => unless(number_at(line, 34) <= 255, Fault::Format),
+        8 => slices::tested(number_at(line, 34) <= 255, Fault::Format),
         _ => Ok(()),
     }
 }
@@ -264,17 +274,16 @@ fn row_fault(
     requires { words ≤ 185 }
     ensures { result ≡ row_fault section words filled room line.now }
 {
-    unless(is_row(line, words), Fault::Format)?;
-    unless(has_room(filled, words, room), Fault::Bounds)?;
+    slices::tested(is_row(line, words), Fault::Format)?;
+    slices::tested(has_room(filled, words, room), Fault::Bounds)?;
     row_refusal(section, line)
 }
 
 #[tactic(auto, using(std::proofs::lemmas::Bool::Decides::nat_tests), unfolding(crate::specs::Text::header_fault))]
 fn header_fault(section: usize, n: u64, filled: usize, room: usize) -> Result<(), Fault>
-    requires { section < 9 }
     ensures { result ≡ header_fault section n filled room }
 {
-    unless(has_room(filled, 1, room), Fault::Bounds)?;
+    slices::tested(has_room(filled, 1, room), Fault::Bounds)?;
     count_refusal(section, n)
 }
 
@@ -292,57 +301,65 @@ pub fn start() -> Reading
     }
 }
 
-// A section with no lines left gives way to the next.
-#[tactic(auto, using(std::proofs::lemmas::Bool::Decides::nat_tests), unfolding(crate::specs::Text::goes_on))]
-fn goes_on(section: usize, left: usize, filled: usize, degree: usize) -> Reading
-    requires { section < 9 }
-    ensures { result ≡ goes_on section left filled degree }
-{
-    Reading {
-        section: if left == 0 { section + 1 } else { section },
-        left,
-        filled,
-        degree,
+// A reading in one of the nine sections.
+#[derive(Clone, Copy)]
+struct Open {
+    reading: Reading,
+    ghost section: { reading.section < 9 },
+}
+
+impl Open {
+    // A section with no lines left gives way to the next.
+    #[tactic(auto, using(std::proofs::lemmas::Bool::Decides::nat_tests), unfolding(crate::specs::Text::goes_on))]
+    fn goes_on(self, left: usize, filled: usize, degree: usize) -> Reading
+        ensures { result ≡ goes_on self.reading.section left filled degree }
+    {
+        let section = self.reading.section;
+        Reading {
+            section: if left == 0 { section + 1 } else { section },
+            left,
+            filled,
+            degree,
+        }
     }
-}
 
-#[tactic(auto, using(crate::proofs::ReadLines::count_room, crate::proofs::ReadLines::count_refused, crate::proofs::ReadLines::count_taken))]
-fn take_count(n: u64, reading: Reading, numbers: &mut [f64]) -> Result<Reading, Fault>
-    requires { reading.section < 9 }
-    ensures { Fed (announced (length numbers.old) reading n) reading.filled numbers.old result numbers.new }
-{
-    let at = reading.filled;
-    header_fault(reading.section, n, at, numbers.len())?;
-    numbers[at] = hexadecimal::float(n);
-    Ok(goes_on(reading.section, n as usize, at + 1, reading.degree))
-}
-
-#[tactic(auto, unfolding(crate::specs::Text::taken_header))]
-fn take_header(line: &[u8], reading: Reading, numbers: &mut [f64]) -> Result<Reading, Fault>
-    requires { reading.section < 9 }
-    ensures { Fed (taken_header (length numbers.old) line.now reading) reading.filled numbers.old result
-        numbers.new }
-{
-    match header_of(reading.section, line) {
-        Some(n) => take_count(n, reading, numbers),
-        None => Err(Fault::Format),
+    #[tactic(auto, using(crate::proofs::ReadLines::count_room, crate::proofs::ReadLines::count_refused, crate::proofs::ReadLines::count_taken))]
+    fn take_count(self, n: u64, numbers: &mut [f64]) -> Result<Reading, Fault>
+        ensures { Fed (announced (length numbers.old) self.reading n) self.reading.filled numbers.old
+            result numbers.new }
+    {
+        let at = self.reading.filled;
+        header_fault(self.reading.section, n, at, numbers.len())?;
+        numbers[at] = hexadecimal::float(n);
+        Ok(self.goes_on(n as usize, at + 1, self.reading.degree))
     }
-}
 
-#[tactic(auto, using(crate::proofs::ReadLines::row_room, crate::proofs::ReadLines::row_refused, crate::proofs::ReadLines::row_added))]
-fn take_row(line: &[u8], reading: Reading, numbers: &mut [f64]) -> Result<Reading, Fault>
-    requires { (reading.section < 9) × (0 < reading.left) }
-    ensures { Fed (taken_row (length numbers.old) line.now reading) reading.filled numbers.old result
-        numbers.new }
-{
-    let section = reading.section;
-    let at = reading.filled;
-    let words = words_in(section, reading.degree);
-    row_fault(section, words, at, numbers.len(), line)?;
-    let end = at + words;
-    fill_row(line, &mut numbers[at..end]);
-    let degree = degree_after(section, line, reading.degree);
-    Ok(goes_on(section, reading.left - 1, end, degree))
+    #[tactic(auto, unfolding(crate::specs::Text::taken_header))]
+    fn take_header(self, line: &[u8], numbers: &mut [f64]) -> Result<Reading, Fault>
+        ensures { Fed (taken_header (length numbers.old) line.now self.reading) self.reading.filled
+            numbers.old result numbers.new }
+    {
+        match header_of(self.reading.section, line) {
+            Some(n) => self.take_count(n, numbers),
+            None => Err(Fault::Format),
+        }
+    }
+
+    #[tactic(auto, using(crate::proofs::ReadLines::row_room, crate::proofs::ReadLines::row_refused, crate::proofs::ReadLines::row_added))]
+    fn take_row(self, line: &[u8], numbers: &mut [f64]) -> Result<Reading, Fault>
+        requires { 0 < self.reading.left }
+        ensures { Fed (taken_row (length numbers.old) line.now self.reading) self.reading.filled
+            numbers.old result numbers.new }
+    {
+        let section = self.reading.section;
+        let at = self.reading.filled;
+        let words = words_in(section, self.reading.degree);
+        row_fault(section, words, at, numbers.len(), line)?;
+        let end = at + words;
+        fill_row(line, &mut numbers[at..end]);
+        let degree = degree_after(section, line, self.reading.degree);
+        Ok(self.goes_on(self.reading.left - 1, end, degree))
+    }
 }
 
 // Behind the last section the text must end.
@@ -368,23 +385,24 @@ pub fn feed(line: &[u8], reading: Reading, numbers: &mut [f64]) -> Result<Readin
     if 8 < reading.section {
         return take_end(line, reading);
     }
+    let open = Open { reading };
     if reading.left == 0 {
-        return take_header(line, reading, numbers);
+        return open.take_header(line, numbers);
     }
-    take_row(line, reading, numbers)
+    open.take_row(line, numbers)
 }
 
-// How many bytes the next line has if it is in the format; 0 for a header, which ends with its line feed; 1 after the last
+// How many bytes the next line has if it is in the format; `None` for a header, which ends with its line feed; 1 after the last
 // section, so that the caller tries for one more byte and sees whether the text has ended.
 #[tactic(auto, using(std::proofs::lemmas::Bool::Decides::nat_tests), unfolding(crate::specs::Text::line_length))]
-pub fn line_length(reading: Reading) -> usize
-    ensures { (result ≡ line_length reading) × (result ≤ 3145) }
+pub fn line_length(reading: Reading) -> Option<usize>
+    ensures { (result ≡ line_length reading) × IfSome result (λ n. n ≤ 3145) }
 {
     if 8 < reading.section {
-        return 1;
+        return Some(1);
     }
     if reading.left == 0 {
-        return 0;
+        return None;
     }
-    17 * words_in(reading.section, reading.degree)
+    Some(17 * words_in(reading.section, reading.degree))
 }

@@ -17,17 +17,22 @@ use Rattle.laws.specs.Bools.{by}
 use Rattle.laws.specs.Tables.{row, row_length}
 use Rattle.finality.specs.Tables.{Table}
 use Rattle.finality.specs.Arcs.{longest, start, steps, arc_of, inside}
-use Rattle.finality.proofs.WindowTimes.{states_short}
+use Rattle.finality.proofs.WindowTimes.{states_short, steps_short}
 use Rattle.vectors.specs.declared.Vector.{Vector}
 use Rattle.integrate.specs.Room.{Run, Holds3, Orbit}
 use Rattle.integrate.specs.declared.kernel.State.{State}
 use Rattle.integrate.specs.declared.kernel.Arc.{Arc as ArcStruct}
-use Rattle.fit.specs.Fit.{Fit, fit_of, orbit_of}
+use Rattle.fit.specs.Fit.{Fit, fit_of, orbit_of, state_for}
 use Rattle.fit.specs.WorkLeaves.{arc_serves, Fits, ArcFit}
+use Rattle.inputs.specs.Lent.{model_of, keyed_of}
+use Rattle.finality.specs.Brackets.{covers}
+use Rattle.integrate.specs.Force.{full_force}
+use Rattle.windows.specs.declared.kernel.Track.{Track}
 use Rattle.windows.specs.Stage.{arc_struct, states_of}
 use Rattle.windows.specs.Slots.{nth, Entries, Slot, Keeps}
-use Rattle.windows.specs.Windows.{window_by, room_for, windows_serve, Leaves, Windowed, Ends, Filled, WindowsFit}
+use Rattle.windows.specs.Windows.{window_by, arc_between, room_for, windows_serve, Leaves, Windowed, Ends, Filled, WindowsFit}
 use Rattle.fit.specs.Room.{work_size}
+use Rattle.windows.proofs.Arcs.{Fine, arc_between_law}
 
 -- ---- numbers that stay
 
@@ -67,6 +72,28 @@ pub inside_few : (a b : Float) → Ends a b → T (lt (b ⊖ a) longest) → (t0
 inside_few a b e short t0 n et en run =
     subst (λ (t : Float). length (inside t a b 0 (row run (n + 1))) ≤ 3500) (sym et)
     (states_short a b e.from e.to (lt→le a b e.order) short 0 (row run (n + 1)) (let h = row_length run (n + 1) in omega (arith, h, en)))
+
+-- the arc of a window shorter than 7,000 s
+module _ (a b : Float) (fine : Fine a b) where
+  pub steps_few : steps a b ≤ 5302
+  steps_few = let h = steps_short a b fine.ends.from fine.ends.to (lt→le a b fine.ends.order) fine.short in omega (arith, h)
+
+  module _ (x : ArcStruct) (e : x ≡ arc_between a b) where
+    pub arc_is : x ≡ arc_struct (arc_of a b)
+    arc_is = e ∙ arc_between_law a b fine.ends fine.short
+
+    pub arc_start : x.t0 ≡ start a
+    arc_start = ap (λ (y : ArcStruct). y.t0) arc_is
+
+    pub arc_steps : x.steps ≡ steps a b
+    arc_steps = ap (λ (y : ArcStruct). y.steps) arc_is
+
+    pub arc_few : x.steps ≤ 5302
+    arc_few = let q = arc_steps in omega (arith, q, steps_few)
+
+    -- at most 3,500 states of any run lie inside
+    pub arc_inside : (run : Run) → length (inside x.t0 a b 0 (row run (x.steps + 1))) ≤ 3500
+    arc_inside run = inside_few a b fine.ends fine.short x.t0 x.steps arc_start arc_steps run
 
 module _ (covered : Float → Bool) (full : Float → Vector → Vector) (look : Float → Option State) (a b : Float) (ends : Ends a b) where
   abbrev arc : ArcStruct
@@ -136,6 +163,20 @@ module _ (covered : Float → Bool) (full : Float → Vector → Vector) (look :
           short_table short (Ok x) (sym e ∙ f.said)
           ∙ ap (λ (t : Float). inside t a b 0 (row run (suc (steps a b)))) (sym et)
           ∙ ap (λ (m : ℕ). inside t0 a b 0 (row run m)) (let q = en in omega (arith, q))
+
+-- the fit of a window over the lists of a track
+pub track_fits : (t : Track) (a b : Float) → Fine a b → (s s₁ : List Float) (x : ArcStruct) (answer : Fit) → t.base + work_size ≤ length s → x ≡ arc_between a b →
+    ArcFit (arc_serves t.model.degree x.steps t.states.keys.now (length t.states.values.now) (length s)) (covers t.model.field_times.now) (full_force (model_of t.model))
+    (state_for (keyed_of t.states)) x s s₁ (front_size t.model.degree) answer →
+    Fits (covers t.model.field_times.now) (full_force (model_of t.model)) (state_for (keyed_of t.states)) (arc_struct (arc_of a b)) s s₁ t.base answer
+track_fits t a b fine s s₁ x answer room e f =
+    let M = model_of t.model in
+    let keys = t.states.keys.now in
+    let many = length t.states.values.now in
+    fits_of (covers t.model.field_times.now) (full_force M) (state_for (keyed_of t.states)) a b fine.ends t.model.degree (steps a b) keys many s s₁ t.base (start a) answer refl refl t.within
+    (steps_few a b fine) t.six_each t.placed room t.rising
+    (subst (λ (y : ArcStruct). ArcFit (arc_serves t.model.degree y.steps keys many (length s)) (covers t.model.field_times.now) (full_force M) (state_for (keyed_of t.states)) y s s₁
+    (front_size t.model.degree) answer) (arc_is a b fine x e) f)
 
 -- the count in front
 pub windowed : (table : Table State) (s s₁ : List Float) (base at n : ℕ) (x : Float) → base + fit_room ≤ at → at + slot_room ≤ length s → x ≡ number n → Leaves table s s₁ base (at + 1) n

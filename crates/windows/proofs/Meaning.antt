@@ -3,7 +3,6 @@ use Rattle.std.proofs.Common.{◌≡◌, ℕ, ◌+◌, true, List, ◌++◌, len
 use lib.Ieee.{Float}
 use Rattle.inputs.specs.Inputs.{Model, kind, Fixed, Keyed}
 use Rattle.laws.specs.Tables.{rows}
-use Rattle.laws.specs.Times.{second}
 use Rattle.numbers.specs.Seconds.{is_held, whole_second}
 use Rattle.vectors.specs.Vector.{plus}
 use Rattle.vectors.specs.declared.Vector.{Vector}

@@ -1,36 +1,22 @@
 -- Laws of the states of a window in their slot. Assumes nothing.
-use Rattle.std.proofs.Common.{◌≡◌, ℕ, zero, suc, ◌+◌, ◌*◌, ◌<◌, ◌≤◌, Bool, true, false, cond, T, eqb, List, [], ◌∷◌, ◌++◌, length, get_or, set, ℤ, pos, sym, refl, ap, ◌∙◌, subst, append-nil, add-one, arith, length-append, length-set, get_or-set_same, eqb-true}
+use Rattle.std.proofs.Common.{◌≡◌, ℕ, zero, suc, ◌+◌, ◌*◌, ◌<◌, ◌≤◌, Bool, true, false, cond, T, eqb, List, [], ◌∷◌, ◌++◌, length, get_or, ℤ, pos, sym, refl, ap, ◌∙◌, subst, append-nil, add-one, arith, length-append, eqb-true}
 use lib.Ieee.{Float, nan}
 use lib.ListN.{get_or-append}
 use lib.Seq.{get_or_at}
 use borrow.Author.Tests.{eqb-false}
-use Rattle.laws.specs.Times.{Time, second, second_time, step_time}
+use Rattle.laws.specs.Times.{Time, second, step_time}
 use Rattle.laws.specs.Bools.{by}
 use Rattle.laws.specs.Tables.{row, row_length}
 use Rattle.numbers.specs.Seconds.{whole_second}
 use Rattle.finality.specs.Tables.{Table}
 use Rattle.finality.specs.Arcs.{inside}
 use Rattle.integrate.specs.declared.kernel.State.{State}
-use Rattle.integrate.specs.Room.{run_size, Run, state_in, Only, Holds3, Orbit}
-use Rattle.integrate.specs.Work.{Stored}
+use Rattle.integrate.specs.Room.{run_size, Run, state_in, Only, Orbit}
 use Rattle.integrate.proofs.Places.{only_then, only_wide, only_same, stays3}
-use Rattle.fit.proofs.Rows.{set_only}
-use Rattle.windows.specs.Slots.{entries_room, within, nth, Entry, Entries, Entered, kept_if, Keeping, Keeps}
+use Rattle.windows.specs.Slots.{entries_room, within, nth, Entry, Entries, Entered, Keeps}
 use Rattle.windows.proofs.Times.{held_inside}
 
 -- ---- one state at its place
-
-pub entered : (s s' : List Float) (at : ℕ) (second : ℤ) (state : State) → at + 7 ≤ length s → Stored (set s at (second_time second)) s' (at + 1) state → Entered s s' at second state
-entered s s' at second state h w =
-    let room : at + 1 + 6 ≤ length (set s at (second_time second)) = simp length-set (omega arith) in record {
-      entry = record {
-        second = w.only.same at (λ a b. omega arith) ∙ get_or-set_same s at (second_time second) nan (omega arith);
-        position = w.position room;
-        velocity = let q : at + 1 + 3 ≡ at + 4 = omega arith in subst (λ (m : ℕ). Holds3 s' m state.velocity) q (w.velocity room);
-      };
-      only = only_then at (at + 7) at (at + 1) (at + 1) (at + 1 + 6) s (set s at (second_time second)) s' (set_only s at (second_time second)) w.only (omega arith) (omega arith) (omega arith)
-          (omega arith);
-    }
 
 -- a state apart from a change stays
 pub entry_stays : (a e at : ℕ) (s s' : List Float) (x : ℤ × State) → Only a e s s' → Entry s at x → ((k : ℕ) → at ≤ k → k < at + 7 → a ≤ k → k < e → ⊥) → Entry s' at x
@@ -53,6 +39,15 @@ entries_more s s' at table second state h w = record {
       subst (λ (y : ℤ × State). Entry s' (at + 7 * j) y) (sym (get_or-append table ((second, state) ∷ []) (pos 0, state_in [] 0) j b))
       (entry_stays (at + 7 * length table) (at + 7 * length table + 7) (at + 7 * j) s s' (nth table j) w.only (h.each j b) (λ k p q u v. omega arith)));
 }
+
+abbrev pub kept_if : Bool → ℤ → State → Table State
+kept_if b second state = cond b ((second, state) ∷ []) []
+
+-- n states, and one more if its time lies inside
+pub record Keeping (s s' : List Float) (at n : ℕ) (b : Bool) (second : ℤ) (state : State) (r : ℕ) : Type 0 where
+  pub all : (table : Table State) → length table ≡ n → Entries s at table → Entries s' at (table ++ kept_if b second state)
+  pub counted : r ≡ n + cond b 1 0
+  pub only : Only at (at + 7 * n + 7) s s'
 
 keeping_in : (s s' : List Float) (at n : ℕ) (b : Bool) (second : ℤ) (state : State) → b ≡ true → Entered s s' (at + 7 * n) second state → Keeping s s' at n b second state (n + 1)
 keeping_in s s' at n b second state e w = subst (λ (x : Bool). Keeping s s' at n x second state (n + 1)) (sym e) (record {

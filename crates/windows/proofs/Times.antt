@@ -1,5 +1,5 @@
 -- The start and the steps of a window's arc lie where the code takes their whole numbers. Assumes nothing.
-use Rattle.std.proofs.Common.{◌≡◌, ℕ, ◌+◌, ◌-◌, ◌^◌, ◌≤◌, true, false, T, pos, refl, arith}
+use Rattle.std.proofs.Common.{◌≡◌, ℕ, ◌+◌, ◌^◌, ◌≤◌, true, false, T, pos, refl, arith}
 use lib.Ieee.{Float, fin, binary64, of_bits, le, lt, eq}
 use lib.Ieee.Fits.{and_l, and_r, and_i}
 use lib.Ieee.Scale.{finite}

@@ -1,6 +1,6 @@
 -- The slot of a window in the lent numbers: how many states it has, then for each its second, as a float, and six numbers (document 01, module 4). Assumes
 -- nothing.
-use Rattle.std.specs.Prelude.{◌≡◌, ℕ, ◌+◌, ◌*◌, ◌<◌, Bool, true, false, cond, ◌&&◌, List, [], ◌∷◌, ◌++◌, length, get_or, ℤ, pos, slice_index_or, Float}
+use Rattle.std.specs.Prelude.{◌≡◌, ℕ, ◌+◌, ◌*◌, ◌<◌, Bool, true, false, ◌&&◌, List, [], length, get_or, ℤ, pos, slice_index_or, Float}
 use Rattle.std.specs.Float.{nan, fin}
 use Rattle.std.specs.Float.Ieee.{le, lt}
 use Rattle.laws.specs.WholeNumbers.{number}
@@ -51,15 +51,6 @@ pub record Slot (s : List Float) (at : ℕ) (table : Table State) : Type 0 where
 pub record Entered (s s' : List Float) (at : ℕ) (second : ℤ) (state : State) : Type 0 where
   pub entry : Entry s' at (second, state)
   pub only : Only at (at + 7) s s'
-
-abbrev pub kept_if : Bool → ℤ → State → Table State
-kept_if b second state = cond b ((second, state) ∷ []) []
-
--- n states, and one more if its time lies inside
-pub record Keeping (s s' : List Float) (at n : ℕ) (b : Bool) (second : ℤ) (state : State) (r : ℕ) : Type 0 where
-  pub all : (table : Table State) → length table ≡ n → Entries s at table → Entries s' at (table ++ kept_if b second state)
-  pub counted : r ≡ n + cond b 1 0
-  pub only : Only at (at + 7 * n + 7) s s'
 
 -- the states of a run whose times lie inside
 pub record Keeps (t0 from to : Float) (steps : ℕ) (s s' : List Float) (base at r : ℕ) : Type 0 where

@@ -28,8 +28,8 @@ window_by covered full look a b =
     []
 
 -- the same of a model and of the states that are known
-abbrev pub window_of : Model → Keyed → Float → Float → Table State
-window_of M states = window_by (covers M.fields.field_times) (full_force M) (state_for states)
+abbrev pub states_left : Model → Keyed → Float → Float → Table State
+states_left M states = window_by (covers M.fields.field_times) (full_force M) (state_for states)
 
 -- two times, the first before the second, less than 7,000 s apart
 unfoldable pub window_fine : Float → Float → Bool

@@ -12,8 +12,8 @@ ghost use Rattle.laws.specs.Tables.{row};
 ghost use Rattle.inputs.specs.Inputs.{window_room, slot_room, fit_room, front_size};
 ghost use Rattle.inputs.specs.Lent.{model_of, keyed_of};
 ghost use Rattle.integrate.specs.Room.{run_size, Run, state_in};
-ghost use Rattle.windows.specs.Windows.{window_of, window_fine, arc_between, room_for, windows_serve, Leaves, Windowed, Ends, Filled, WindowsFit};
-ghost use Rattle.windows.specs.Slots.{entries_room, lowest, highest, within, Entered, Keeping, Keeps};
+ghost use Rattle.windows.specs.Windows.{states_left, window_fine, arc_between, room_for, windows_serve, Leaves, Windowed, Ends, Filled, WindowsFit};
+ghost use Rattle.windows.specs.Slots.{entries_room, lowest, highest, within, Entered, Keeps};
 
 // The least whole number that is not below x.
 fn ceil(x: f64) -> u64
@@ -28,6 +28,7 @@ fn ceil(x: f64) -> u64
 }
 
 // The greatest whole number that is not above x; a zero keeps its sign.
+#[tactic(auto, using(crate::proofs::CutNumbers::floor_zero, crate::proofs::CutNumbers::floor_below, crate::proofs::CutNumbers::floor_above, crate::proofs::CutNumbers::over_zero, crate::proofs::CutNumbers::under_highest, crate::proofs::CutNumbers::above_cut, crate::proofs::CutNumbers::below_cut, crate::proofs::CutNumbers::not_below), unfolding(laws::specs::WholeNumbers::number))]
 fn floor(x: f64) -> f64
     requires { T (le lowest x) × T (le x highest) }
     ensures { result ≡ floor x }
@@ -42,6 +43,7 @@ fn floor(x: f64) -> f64
 }
 
 // Half an hour before a node, on an even second.
+#[tactic(auto, using(crate::proofs::Times::start_low, crate::proofs::Times::start_high), unfolding(finality::specs::Arcs::start))]
 fn start(a: f64) -> f64
     requires { Time a }
     ensures { result ≡ start a }
@@ -66,6 +68,7 @@ fn window_fine(from: f64, to: f64) -> bool
 }
 
 // The arc of such a window; of other nodes an arc of no steps.
+#[tactic(auto, using(crate::proofs::Arcs::arc_fine, crate::proofs::Arcs::arc_none))]
 pub fn arc_between(from: f64, to: f64) -> integrate::kernel::Arc
     ensures { result ≡ arc_between from to }
 {
@@ -110,39 +113,28 @@ fn enter(s: &mut [f64], at: usize, t: f64, state: integrate::kernel::State)
     integrate::kernel::put_state(s, at + 1, state);
 }
 
-// Step k's state, if its time lies in the window, after n others. Returns how many there are then.
-fn keep_step(
-    t0: f64,
-    from: f64,
-    to: f64,
-    k: usize,
-    s: &mut [f64],
-    base: usize,
-    at: usize,
-    n: usize,
-) -> usize
-    requires { (k ≤ 5302) × (base + run_size ≤ at) × (n ≤ 3500) × (at + entries_room ≤ length s.old) }
-    ensures { Keeping s.old s.new at n (within from to (step_time t0 k)) (whole_second (step_time t0 k))
-        (state_in s.old (base + 6 * k)) result }
-{
-    let t = integrate::kernel::time(t0, k);
-    if within(from, to, t) {
-        let state = integrate::kernel::state_in(s, base + 6 * k);
-        enter(s, at + 7 * n, t, state);
-        return n + 1;
-    }
-    n
+// Two neighbouring nodes, the first before the second.
+#[derive(Clone, Copy)]
+pub struct Span {
+    pub from: f64,
+    pub to: f64,
+    pub ghost ends: { Ends from to },
 }
 
 // The states of a run whose times lie in a window, seven numbers each, from a place on. Returns how many there are.
-fn keep(t0: f64, from: f64, to: f64, steps: usize, s: &mut [f64], base: usize, at: usize) -> usize
-    requires { Time from × Time to × (steps ≤ 5302) × ((run : Run) → length (inside t0 from to 0 (row run (steps + 1))) ≤ 3500) × (base + run_size ≤ at)
+fn keep(t0: f64, span: Span, steps: usize, s: &mut [f64], base: usize, at: usize) -> usize
+    requires { (steps ≤ 5302) × ((run : Run) → length (inside t0 span.from span.to 0 (row run (steps + 1))) ≤ 3500) × (base + run_size ≤ at)
         × (at + entries_room ≤ length s.old) }
-    ensures { Keeps t0 from to steps s.old s.new base at result }
+    ensures { Keeps t0 span.from span.to steps s.old s.new base at result }
 {
     let mut n: usize = 0;
     for k in 0..steps + 1 {
-        n = keep_step(t0, from, to, k, s, base, at, n);
+        let t = integrate::kernel::time(t0, k);
+        if within(span.from, span.to, t) {
+            let state = integrate::kernel::state_in(s, base + 6 * k);
+            enter(s, at + 7 * n, t, state);
+            n += 1;
+        }
     }
     n
 }
@@ -159,42 +151,28 @@ pub struct Track<'a> {
     pub ghost six_each: { length states.values.now ≡ 6 * length states.keys.now },
 }
 
-// The fit of a window shorter than 7,000 s: its states from a place on. Returns how many there are.
-fn fit_between(track: Track<'_>, from: f64, to: f64, s: &mut [f64], at: usize) -> usize
-    requires { Ends from to × T (lt (to ⊖ from) longest) × (track.base + fit_room ≤ at) × (at + entries_room ≤ length s.old) }
-    ensures { Leaves (window_of (model_of track.entry.model) (keyed_of track.entry.states) from to) s.old s.new track.entry.base at result }
+// The states of a window, from a place on, none where it is 7,000 s or longer or its fit is refused. Returns how many there are.
+fn leave(track: Track<'_>, span: Span, s: &mut [f64], at: usize) -> usize
+    requires { (track.base + fit_room ≤ at) × (at + entries_room ≤ length s.old) }
+    ensures { Leaves (states_left (model_of track.entry.model) (keyed_of track.entry.states) span.from span.to) s.old s.new track.entry.base at result }
 {
-    let t0 = start(from);
-    let n = steps(from, to);
-    let arc = integrate::kernel::Arc {
-        t0,
-        steps: n,
-        node: from,
-        period: to - from,
-    };
+    if !(span.to - span.from < 7000.0) {
+        return 0;
+    }
+    let arc = arc_between(span.from, span.to);
     match fit::kernel::fit_arc(track.model, track.states, arc, s) {
-        Ok(_) => keep(t0, from, to, n, s, track.base, at),
+        Ok(_) => keep(arc.t0, span, arc.steps, s, track.base, at),
         Err(_) => 0,
     }
 }
 
-// The states of a window, none where it is 7,000 s or longer.
-fn leave(track: Track<'_>, from: f64, to: f64, s: &mut [f64], at: usize) -> usize
-    requires { Ends from to × (track.base + fit_room ≤ at) × (at + entries_room ≤ length s.old) }
-    ensures { Leaves (window_of (model_of track.entry.model) (keyed_of track.entry.states) from to) s.old s.new track.entry.base at result }
-{
-    if to - from < 7000.0 {
-        return fit_between(track, from, to, s, at);
-    }
-    0
-}
-
 // One window's slot.
-fn window(track: Track<'_>, from: f64, to: f64, s: &mut [f64], at: usize)
-    requires { Ends from to × (track.base + fit_room ≤ at) × (at + slot_room ≤ length s.old) }
-    ensures { Windowed (window_of (model_of track.entry.model) (keyed_of track.entry.states) from to) s.old s.new track.entry.base at }
+#[tactic(auto, using(crate::proofs::Filling::windowed), unfolding(laws::specs::WholeNumbers::number))]
+fn window(track: Track<'_>, span: Span, s: &mut [f64], at: usize)
+    requires { (track.base + fit_room ≤ at) × (at + slot_room ≤ length s.old) }
+    ensures { Windowed (states_left (model_of track.entry.model) (keyed_of track.entry.states) span.from span.to) s.old s.new track.entry.base at }
 {
-    let n = leave(track, from, to, s, at + 1);
+    let n = leave(track, span, s, at + 1);
     s[at] = std::num::nearest_u64_to_f64(n as u64);
 }
 
@@ -203,12 +181,16 @@ fn fit_each(track: Track<'_>, nodes: &[f64], s: &mut [f64], first: usize)
     requires { ((w : ℕ) → w + 1 < length nodes.now → Ends (slice_index_or nodes.now w nan) (slice_index_or nodes.now (w + 1) nan))
         × (track.base + fit_room ≤ first)
         × (first + window_room * length nodes.now ≤ length s.old + (window_room + slot_room)) }
-    ensures { Filled (window_of (model_of track.entry.model) (keyed_of track.entry.states)) nodes.now (length nodes.now - 1)
+    ensures { Filled (states_left (model_of track.entry.model) (keyed_of track.entry.states)) nodes.now (length nodes.now - 1)
         s.old s.new track.entry.base first }
 {
     for w in 0..nodes.len().saturating_sub(1) {
         let at = first + inputs::WINDOW_ROOM * w;
-        window(track, nodes[w], nodes[w + 1], s, at);
+        let span = Span {
+            from: nodes[w],
+            to: nodes[w + 1],
+        };
+        window(track, span, s, at);
     }
 }
 
@@ -242,6 +224,8 @@ fn windows_serve(
 }
 
 // The fitted states of every window of one satellite, each in its slot. False, and nothing is done, where the slices do not serve.
+// kept: a bool, as in `slots::fill`, which hands it on: nothing is handed out but what is lent.
+#[tactic(auto, using(crate::proofs::Filling::served, crate::proofs::Filling::fit_filled))]
 pub fn fit_windows(
     model: inputs::Model<'_>,
     states: inputs::Keyed<'_>,
@@ -251,7 +235,7 @@ pub fn fit_windows(
 ) -> bool
     ensures { WindowsFit
         (windows_serve model.entry.degree states.entry.keys.now (length states.entry.values.now) nodes.now satellite (length s.old))
-        (window_of (model_of model.entry) (keyed_of states.entry)) nodes.now s.old s.new (front_size model.entry.degree) satellite result }
+        (states_left (model_of model.entry) (keyed_of states.entry)) nodes.now s.old s.new (front_size model.entry.degree) satellite result }
 {
     let serves = windows_serve(model.degree, states, nodes, satellite, s.len());
     if serves {

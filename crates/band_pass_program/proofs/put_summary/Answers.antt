@@ -1,7 +1,13 @@
--- Assumes nothing.
-use Rattle.std.proofs.Common.{rules}
+-- Each piece has room. Assumes nothing.
+use Rattle.std.proofs.Common.{arith}
 use Rattle.band_pass_program.proofs.ProgramText.{summary_prints}
 use Rattle.band_pass_program.proofs.put_summary.Goals as goal
 
 pub returns : goal.returns
-returns c = search (rules, summary_prints)
+returns c =
+    let p1 = c.put_bytes-a.ensures.text (omega arith) in
+    let p2 = c.put_count-b.ensures.text (omega (arith, p1.ends)) in
+    let p3 = c.put_bytes-c.ensures.text (omega (arith, p1.ends, c.put_count-b.ensures.few)) in
+    let p4 = c.put_count-d.ensures.text (omega (arith, p1.ends, c.put_count-b.ensures.few, p3.ends)) in
+    let p5 = c.put_bytes.ensures.text (omega (arith, p1.ends, c.put_count-b.ensures.few, p3.ends, c.put_count-d.ensures.few)) in
+    summary_prints _ _ _ _ _ _ _ _ _ _ _ _ _ _ p1 p2 p3 p4 p5

@@ -3,7 +3,7 @@ use native.Mathlib.Omega.{arith}
 use mathlib.Core.List.{[], ◌∷◌, map}
 use lib.ListN.{length}
 use Rattle.columns.specs.Columns.{columns_serve}
-use Rattle.columns.proofs.Filling.{served, columns_filled, columns_unfit}
+use Rattle.columns.proofs.Filling.{served, columns_filled}
 use borrow.Author.Rules.{rules}
 use Rattle.columns.proofs.fill.Goals as goal
 
@@ -11,7 +11,7 @@ pub detrend_column-requires : goal.detrend_column-requires
 detrend_column-requires c =
     let a = c.args in
     let g = served a.n (length a.times.now) (map length (a.raws.now ∷ a.detrended.now ∷ a.passed.now ∷ [])) (length a.s.now) _ c.serve-served.ensures c.if-served.true in
-    (g.count, g.long.0, g.long.1.0, g.enough)
+    (g.count, omega (arith, g.long.1.0), g.enough)
 
 pub pass_column-requires : goal.pass_column-requires
 pass_column-requires c =
@@ -24,11 +24,5 @@ returns-then-served c =
     let a = c.args in
     let g = served a.n (length a.times.now) (map length (a.raws.now ∷ a.detrended.now ∷ a.passed.now ∷ [])) (length a.s.now) _ c.serve-served.ensures c.if-served.true in
     columns_filled (columns_serve a.n (length a.times.now) (map length (a.raws.now ∷ a.detrended.now ∷ a.passed.now ∷ [])) (length a.s.now)) a.nodes.now a.n a.times.now
-    a.raws.now a.detrended.now _ a.passed.now _ a.s.now _ _ c.serve-served.ensures c.if-served.true g.count g.long.0 (search rules)
-    c.detrend_column.ensures c.pass_column.ensures
-
-pub returns-else-served : goal.returns-else-served
-returns-else-served c =
-    let a = c.args in
-    columns_unfit (columns_serve a.n (length a.times.now) (map length (a.raws.now ∷ a.detrended.now ∷ a.passed.now ∷ [])) (length a.s.now)) a.nodes.now a.n a.times.now
-    a.raws.now (a.detrended.now ∷ a.passed.now ∷ []) a.s.now _ c.serve-served.ensures c.if-served.false
+    a.raws.now a.detrended.now _ _ a.passed.now _ a.s.now _ _ c.serve-served.ensures c.if-served.true g.count g.long.0 g.long.1.0 (search rules)
+    c.copy.ensures c.detrend_column.ensures c.pass_column.ensures

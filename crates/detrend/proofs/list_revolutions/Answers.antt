@@ -1,11 +1,8 @@
 -- What stands at the heads of the four lists are the revolutions up to node k. Assumes nothing.
-use Rattle.std.proofs.Common.{rules, arith}
-use Rattle.detrend.proofs.Listing.{listing_none, listing_long, listing_short, listing_done}
+use Rattle.std.proofs.Common.{arith}
+use Rattle.detrend.proofs.Listing.{listing_long, listing_short, listing_done}
 use Rattle.detrend.proofs.list_revolutions.Goals as goal
 use Rattle.detrend.proofs.list_revolutions.Goals.{then-first-end, else-first-end}
-
-pub loop-k-init : goal.loop-k-init
-loop-k-init c = search (rules, listing_none)
 
 pub loop-k-preserved : goal.loop-k-preserved
 loop-k-preserved c =

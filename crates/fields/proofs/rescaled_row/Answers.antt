@@ -13,6 +13,6 @@ loop-m-preserved c =
     let a = c.args in
     let l = c.loop-m in (
       search rules,
-      row_turn (rescaled_at a.start a.gm a.radius a.field.now a.n) (take a.k a.out.now) l.out a.k l.m _ l.invariant.1 (omega arith)
-          (rescaled_is a.start a.k a.gm a.radius a.field.now _ a.n l.m (omega arith) (omega arith) (omega arith) c.factor-f.ensures),
+      row_turn (rescaled_at a.start a.given.now.gm a.given.now.radius a.given.now.field.now a.n) (take a.k a.out.now) l.out a.k l.m _ l.invariant.1 (omega arith)
+          (rescaled_is a.start a.k a.given.now.gm a.given.now.radius a.given.now.field.now _ a.n l.m (omega arith) (omega arith) (omega arith) c.factor-f.ensures),
     )

@@ -6,4 +6,4 @@ use Rattle.fields.proofs.rescaled_row.Given as goal
 
 abbrev pub invariant-loop-m : goal.invariant-loop-m
 invariant-loop-m l =
-    (length l.out ≡ length l.initial.out) × (take (l.k + l.m) l.out ≡ take l.k l.initial.out ++ row (rescaled_at l.start l.gm l.radius l.field l.n) l.m)
+    (length l.out ≡ length l.initial.out) × (take (l.k + l.m) l.out ≡ take l.k l.initial.out ++ row (rescaled_at l.start l.given.gm l.given.radius l.given.field.now l.n) l.m)

@@ -13,10 +13,10 @@ rescaled_row-requires c =
     let l = c.loop-n in
     let more = tri_mono (l.n + 1) (c.args.degree + 1) (omega arith) in
     let next = tri_next l.n in
-    (omega arith, c.triangle.ensures.0, omega arith, omega arith, omega arith)
+    (omega arith, c.triangle.ensures.0 (omega arith), omega arith, omega arith, omega arith)
 
 pub loop-n-preserved : goal.loop-n-preserved
 loop-n-preserved c =
     let l = c.loop-n in
     let a = c.args in
-    (search rules, rows_more (rescaled_at a.start a.gm a.radius a.field.now) l.out _ c.triangle.result l.n c.triangle.ensures.0 l.invariant.1 c.rescaled_row.ensures)
+    (search rules, rows_more (rescaled_at a.start a.given.now.gm a.given.now.radius a.given.now.field.now) l.out _ c.triangle.result l.n (c.triangle.ensures.0 (omega arith)) l.invariant.1 c.rescaled_row.ensures)

@@ -1,12 +1,8 @@
 -- `fit::hand_out`: the states copied into out stay with the rms where all are finite, else refused over zeros; by proofs/Calls.antt. Assumes nothing.
-use Rattle.std.proofs.Common.{sym, ◌∙◌, arith}
+use Rattle.std.proofs.Common.{sym, ◌∙◌}
 use Rattle.fit.proofs.Calls.{hand_good, hand_unfit, hand_bad}
 use Rattle.fit.proofs.hand_out.Goals as goal
 use Rattle.fit.proofs.hand_out.Goals.{else-is_finite-via-then-is_finite+else-all_finite, else-is_finite-via-else-is_finite}
-
-pub slice_bounds-copy-end : goal.slice_bounds-copy-end
-slice_bounds-copy-end c =
-    omega (arith, c.front_size-base.ensures.0 c.requires.0, c.requires.1, c.requires.2)
 
 pub returns-then-all_finite : goal.returns-then-all_finite
 returns-then-all_finite c =

@@ -1,25 +1,12 @@
 -- `fitted_orbits::fitted_orbits`: refused, counted and handed out, or not finite and cleared, each by its law of proofs/Answers.antt. Assumes nothing.
-use mathlib.Core.Path.{sym, refl, ap, ◌∙◌}
+use mathlib.Core.Path.{sym, refl, ◌∙◌}
 use Prim.Native.Nat.{◌-◌}
 use lib.ListN.{length}
-use Rattle.std.specs.Prelude.{Result}
-use Rattle.slices.specs.declared.refusal.Refusal.{Refusal}
-use Rattle.slices.proofs.Calls.{handed_on}
 use Rattle.inputs.specs.Lent.{model_of, keyed_of}
-use Rattle.fitted_orbits.specs.declared.work.Done.{Done}
-use Rattle.fitted_orbits.specs.Calls.{given, outputs, left}
-use Rattle.fitted_orbits.proofs.Answers.{fit_is, usable, ends, long, orbits_refused, orbits_unfit}
+use Rattle.fitted_orbits.specs.Calls.{given, outputs}
+use Rattle.fitted_orbits.proofs.Answers.{fit_is, usable, ends, long, orbits_unfit}
 use Rattle.fitted_orbits.proofs.fitted_orbits.Goals as goal
 use Rattle.fitted_orbits.proofs.fitted_orbits.Goals.{else-all_finite-via-then-all_finite+else-all_finite-2, else-all_finite-via-else-all_finite}
-
-pub returns-in_err-refusal : goal.returns-in_err-refusal
-returns-in_err-refusal c =
-    let s = c.args in
-    let g = given (model_of s.model) (keyed_of s.states) s.nodes.now in
-    let o = outputs s.outkeys.now s.outstates.now s.rms.now in
-    ap (λ (r : Result Done Refusal). left r o s.scratch.now) (handed_on _ _ c.from_residual.ensures)
-    ∙ orbits_refused g o s.scratch.now _ (fit_is g o (length s.scratch.now) _ _ c.places_fit-places.ensures c.lengths_fit-fit.ensures) _
-    (sym c.refusal.ensures ∙ c.in_err-refusal.was)
 
 pub fill-done-requires : goal.fill-done-requires
 fill-done-requires c =

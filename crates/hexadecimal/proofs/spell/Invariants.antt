@@ -6,4 +6,4 @@ use Rattle.hexadecimal.specs.Digits.{digits_of}
 use Rattle.hexadecimal.proofs.spell.Given as goal
 
 abbrev pub invariant-loop-i : goal.invariant-loop-i
-invariant-loop-i l = digits_of l.base l.i l.rest ++ drop l.i l.out ≡ digits_of l.base (length l.initial.out) l.value
+invariant-loop-i l = digits_of l.base.of l.i l.rest ++ drop l.i l.out ≡ digits_of l.base.of (length l.initial.out) l.value

@@ -9,5 +9,5 @@ use Rattle.hexadecimal.proofs.spelled.Given as goal
 abbrev pub invariant-loop-b : goal.invariant-loop-b
 invariant-loop-b l = record {
   fits : l.value < limit;
-  says : stands l.base l.value (drop l.b-index l.text) ≡ spelled_in l.base l.text;
+  says : stands l.base.of l.value (drop l.b-index l.text) ≡ spelled_in l.base.of l.text;
 }

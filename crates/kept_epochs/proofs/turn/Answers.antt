@@ -2,15 +2,8 @@
 use mathlib.Core.Path.{refl}
 use lib.ListN.{get_or}
 use Rattle.kept_epochs.specs.Lent.{given_of}
-use Rattle.kept_epochs.proofs.Turns.{room_left, turned}
+use Rattle.kept_epochs.proofs.Turns.{turned}
 use Rattle.kept_epochs.proofs.turn.Goals as goal
-
-pub add-requires : goal.add-requires
-add-requires c =
-    let s = c.args in
-    let p = c.requires in
-    room_left (given_of s.given) s.base s.i s.count
-    s.outtimes.now s.outraws.now s.s.now p.0 p.1 p.2
 
 pub returns : goal.returns
 returns c s₀ so =

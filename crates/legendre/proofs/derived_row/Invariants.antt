@@ -4,4 +4,4 @@ use Rattle.legendre.specs.Arrays.{from, at, Has}
 use Rattle.legendre.proofs.derived_row.Given as goal
 
 abbrev pub invariant-loop-m : goal.invariant-loop-m
-invariant-loop-m l = Has l.m (derived_row l.n (from l.lower l.k) (from l.upper l.k) (at l.p)) l.d
+invariant-loop-m l = Has l.m (derived_row l.fn.degree.n (from l.lower l.fn.degree.start) (from l.upper l.fn.degree.start) (at l.p)) l.d

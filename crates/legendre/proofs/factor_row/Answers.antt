@@ -13,4 +13,4 @@ pub loop-m-preserved : goal.loop-m-preserved
 loop-m-preserved g c =
     let s = c.args in
     let h = c.loop-m in
-    (search rules, λ f e. row_turn (f s.n) (take s.k s.out.now) h.out s.k h.m _ (h.invariant.1 f e) (omega arith) (e _ _ _ (omega arith) (omega arith) c.factor.ensures))
+    (search rules, λ f e. row_turn (f s.degree.n) (take s.degree.start s.out.now) h.out s.degree.start h.m _ (h.invariant.1 f e) (omega arith) (e _ _ _ c.factor.ensures))

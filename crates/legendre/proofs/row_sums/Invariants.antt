@@ -2,9 +2,10 @@
 use Rattle.legendre.specs.Arrays.{at, from}
 use Rattle.legendre.specs.Sums.{RowSums, degree_of}
 use Rattle.laws.specs.WholeNumbers.{number}
+use Rattle.laws.specs.Tables.{tri}
 use mathlib.Core.Path.{◌≡◌}
 use Rattle.legendre.proofs.row_sums.Given as goal
 
 abbrev pub invariant-loop-m : goal.invariant-loop-m
 invariant-loop-m l =
-    (l.order ≡ number l.m) × RowSums (degree_of (from l.c l.k) (from l.s l.k) (at l.x) (at l.y) (at l.p) (at l.d)) l.m l.v l.lat l.lon
+    (l.order ≡ number l.m) × RowSums (degree_of (from l.terms.c.now (tri l.fn.degree.n)) (from l.terms.s.now (tri l.fn.degree.n)) (at l.terms.x.now) (at l.terms.y.now) (at l.values.p) (at l.values.d)) l.m l.v l.lat l.lon

@@ -14,4 +14,4 @@ pub loop-m-preserved : goal.loop-m-preserved
 loop-m-preserved c =
     let s = c.args in
     let h = c.loop-m in
-    (search rules, row_turn (at s.x.now) (take s.k s.out.now) h.out s.k h.m _ h.invariant.1 (omega arith) refl)
+    (search rules, row_turn (at s.x.now) (take s.degree.start s.out.now) h.out s.degree.start h.m _ h.invariant.1 (omega arith) refl)

@@ -6,4 +6,4 @@ use Rattle.numbers.proofs.angle_near.Goals as goal
 
 pub returns : goal.returns
 unfolding angle_near odds alternating downward of_bits number of_int neg
-returns c = rw c.horner.ensures
+returns c = rw c.odd_series.ensures

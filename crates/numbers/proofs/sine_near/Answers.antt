@@ -6,4 +6,4 @@ use Rattle.numbers.proofs.sine_near.Goals as goal
 
 pub returns : goal.returns
 unfolding sine_near sines factorial alternating downward of_bits number of_int neg
-returns c = rw c.horner.ensures
+returns c = rw c.odd_series.ensures

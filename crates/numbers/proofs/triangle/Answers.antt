@@ -6,6 +6,6 @@ use Rattle.numbers.proofs.triangle.Goals as goal
 pub overflow_mul-result : goal.overflow_mul-result
 overflow_mul-result c = omega (arith, square_small c.args.n (omega arith))
 
-pub returns : goal.returns
+pub returns-then-n-le181 : goal.returns-then-n-le181
 unfolding tri
-returns c = (refl, tri_small c.args.n (omega arith))
+returns-then-n-le181 c = ((λ _. refl), tri_small c.args.n (omega arith))

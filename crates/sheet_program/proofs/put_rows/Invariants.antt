@@ -7,4 +7,4 @@ use Rattle.sheet_program.specs.Text.{rows_text}
 use Rattle.sheet_program.proofs.put_rows.Given as goal
 
 abbrev pub invariant-loop-k : goal.invariant-loop-k
-invariant-loop-k l = take (68 * l.k) l.out ++ rows_text (l.i + l.k) (l.n - l.k) l.times l.raws l.detrended l.passed ≡ rows_text l.i l.n l.times l.raws l.detrended l.passed
+invariant-loop-k l = take (68 * l.k) l.out ++ rows_text (l.i + l.k) (l.n - l.k) l.sheet.times.now l.sheet.raws.now l.sheet.detrended.now l.sheet.passed.now ≡ rows_text l.i l.n l.sheet.times.now l.sheet.raws.now l.sheet.detrended.now l.sheet.passed.now

@@ -7,4 +7,4 @@ use Rattle.sheet_program.specs.Text.{values_from}
 use Rattle.sheet_program.proofs.values_from.Given as goal
 
 abbrev pub invariant-loop-i : goal.invariant-loop-i
-invariant-loop-i g l = take l.i l.out ++ values_from (g.T.Said.said l.numbers) l.from l.step l.width l.i (length l.initial.out - l.i) ≡ values_from (g.T.Said.said l.numbers) l.from l.step l.width 0 (length l.initial.out)
+invariant-loop-i g l = take l.i l.out ++ values_from (g.T.Said.said l.numbers) l.from l.lines.step l.lines.width l.i (length l.initial.out - l.i) ≡ values_from (g.T.Said.said l.numbers) l.from l.lines.step l.lines.width 0 (length l.initial.out)

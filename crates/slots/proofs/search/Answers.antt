@@ -1,35 +1,29 @@
--- `slots::search`, by halving: all before lo lies below the key and all from hi on above it. Assumes nothing.
-use Rattle.std.proofs.Common.{◌+◌, ◌-◌, ◌/◌, ◌<◌, refl, arith, rules}
-use Rattle.slots.proofs.Looking.{start, higher, lower, met, missed}
+-- `slots::search`: the rows in front of the partition point lie below the key, and only the row there can have it. Assumes nothing.
+use Rattle.std.proofs.Common.{[], sym, subst, arith, rules}
+use Rattle.std.specs.Prelude.{Option}
+use Rattle.integrate.specs.declared.kernel.State.{State}
+use Rattle.std.proofs.lemmas.Fn.{always_returns_same}
+use Rattle.slots.specs.LookUp.{Searched}
+use Rattle.slots.proofs.Looking.{sooner, parted, past_all, past_some, met}
 use Rattle.slots.proofs.search.Goals as goal
 
-pub loop-lo-init : goal.loop-lo-init
-loop-lo-init c = start _ _ _ _
-
-pub loop-lo-preserved-then-x-second : goal.loop-lo-preserved-then-x-second
-loop-lo-preserved-then-x-second c =
+pub returns-in_err-row : goal.returns-in_err-row
+returns-in_err-row c =
     let a = c.args in
-    let lo = c.loop-lo.lo in
-    let hi = c.loop-lo.hi in
-    let less : lo < hi = c.loop-lo-test.true in
-    higher a.s.now a.at a.n a.second lo hi c.loop-lo.invariant (lo + (hi - lo) / 2) (omega arith) (omega arith) _ refl c.if-x-second.true
+    subst (λ (r : Option State). Searched a.s.now a.at a.n a.second r) (sym c.from_residual.ensures) (
+    past_all _ _ _ _ _ _ (parted a.s.now a.at a.n _ _ a.second c.as_chunks.result.0.now c.partition_point-place.result (omega arith) (omega arith) c.as_chunks.ensures.front_len c.as_chunks.ensures.front
+    c.partition_point-place.ensures.bound (c.partition_point-place.ensures.partitioned (sooner a.second) (always_returns_same _ _ _ (λ a r f k. search rules)))) (search rules))
 
-pub loop-lo-preserved : goal.loop-lo-preserved
-loop-lo-preserved c =
+pub returns-then-second-row : goal.returns-then-second-row
+returns-then-second-row c =
     let a = c.args in
-    let lo = c.loop-lo.lo in
-    let hi = c.loop-lo.hi in
-    let less : lo < hi = c.loop-lo-test.true in
-    lower a.s.now a.at a.n a.second lo hi c.loop-lo.invariant (lo + (hi - lo) / 2) (omega arith) (omega arith) _ refl c.if-second-x.true
-
-pub returns-else-second-x : goal.returns-else-second-x
-returns-else-second-x c =
-    let a = c.args in
-    let lo = c.loop-lo.lo in
-    let hi = c.loop-lo.hi in
-    let less : lo < hi = c.loop-lo-test.true in
-    met a.s.now a.at a.n a.second lo hi c.loop-lo.invariant (lo + (hi - lo) / 2) (omega arith) (omega arith) _ refl c.if-x-second.false c.if-second-x.false c.state_in.result
-    c.state_in.ensures
+    past_some _ _ _ _ _ _ (parted a.s.now a.at a.n _ _ a.second c.as_chunks.result.0.now c.partition_point-place.result (omega arith) (omega arith) c.as_chunks.ensures.front_len c.as_chunks.ensures.front
+    c.partition_point-place.ensures.bound (c.partition_point-place.ensures.partitioned (sooner a.second) (always_returns_same _ _ _ (λ a r f k. search rules))))
+    (search rules) [] (search rules)
 
 pub returns : goal.returns
-returns c = missed _ _ _ _ c.loop-lo.lo c.loop-lo.hi c.loop-lo.invariant (search rules)
+returns c =
+    let a = c.args in
+    met _ _ _ _ _ _ (parted a.s.now a.at a.n _ _ a.second c.as_chunks.result.0.now c.partition_point-place.result (omega arith) (omega arith) c.as_chunks.ensures.front_len c.as_chunks.ensures.front
+    c.partition_point-place.ensures.bound (c.partition_point-place.ensures.partitioned (sooner a.second) (always_returns_same _ _ _ (λ a r f k. search rules))))
+    (search rules) [] (search rules) c.state_in.result (search rules)

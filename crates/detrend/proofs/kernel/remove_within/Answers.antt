@@ -1,7 +1,11 @@
-use Rattle.std.proofs.Common.{rules}
-use Rattle.detrend.proofs.WorkArea.{within_none, within_small}
+use Rattle.std.proofs.Common.{rules, arith}
+use Rattle.detrend.proofs.WorkArea.{within_done, within_none, within_small}
 use Rattle.detrend.proofs.kernel.remove_within.Goals as goal
 use Rattle.detrend.proofs.kernel.remove_within.Goals.{else-n-work-via-then-n-work+else-not-is_empty, else-n-work-via-else-n-work}
+
+pub returns-then-not-is_empty : goal.returns-then-not-is_empty
+returns-then-not-is_empty c =
+    within_done c.args.n c.args.nodes.now c.args.work.now c.remove_all.new.s (omega arith) c.remove_all.auto.s c.remove_all.ensures
 
 pub returns-else-n-work : goal.returns-else-n-work
 returns-else-n-work c =

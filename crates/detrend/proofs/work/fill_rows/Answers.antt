@@ -2,7 +2,7 @@
 use mathlib.Core.Path.{refl}
 use native.Mathlib.Omega.{arith}
 use borrow.Author.Rules.{rules}
-use Rattle.detrend.proofs.DesignRows.{rows_none, rows_turn, rows_done}
+use Rattle.detrend.proofs.DesignRows.{rows_none, rows_turn}
 use Rattle.laws.specs.Lists.{put_length}
 use Rattle.detrend.proofs.work.fill_rows.Goals as goal
 
@@ -11,6 +11,3 @@ loop-i-init c = (omega arith, refl, search rows_none)
 
 pub loop-i-preserved : goal.loop-i-preserved
 loop-i-preserved c = (omega arith, search (rules, put_length), search (rules, rows_turn))
-
-pub returns : goal.returns
-returns c = search (rules, rows_done)

@@ -1,18 +1,14 @@
 -- `filter::kernel::count_runs`: the runs counted, with those of the times left, are all runs; likewise the long ones. Assumes nothing.
-use mathlib.Core.Path.{◌∙◌}
-use lib.Dec.{ltb}
-use Prim.Native.Nat.{◌-◌}
-use Rattle.filter.proofs.Turns.{runs_turn, byte_is, long_turn}
-use borrow.Author.Rules.{rules}
+use Rattle.std.proofs.Common.{rules, of_calls}
+use Rattle.std.specs.Slice.Iter.{chunk_by_rest}
+use Rattle.std.proofs.lemmas.List.Sorted.{answers_always}
+use Rattle.filter.proofs.Turns.{joins, runs_turn}
 use Rattle.filter.proofs.kernel.count_runs.Goals as goal
 
-pub loop-start-preserved : goal.loop-start-preserved
-loop-start-preserved c =
-    let l = c.loop-start in
-    let e = c.run_end-end in (
-      search rules,
-      search rules,
-      search rules,
-      search (rules, runs_turn),
-      long_turn c.args.times.now l.start e.result l.long _ _ c.loop-start-test.true e.ensures.0 (c.from-long.ensures ∙ byte_is (ltb 64 (e.result - l.start))) l.invariant.4,
-    )
+pub loop-run-preserved : goal.loop-run-preserved
+loop-run-preserved c =
+    let l = c.loop-run in
+    let cut = c.in-Some.ensures.steps in
+    let more = runs_turn (chunk_by_rest l.run-iterator) c.in-Some.run'.now (chunk_by_rest c.next.new.self) l.runs l.long _ _ cut.0 cut.1
+    (cut.2 joins (answers_always _ _ _ (λ f a r g k. search (rules, of_calls)))).1 l.invariant.2 l.invariant.3 in
+    (search (rules, cut.0), search rules, more.0, rw c.from-long.ensures more.1)

@@ -14,7 +14,6 @@ returns c =
     let back = c.run_sections-2 in
     let again = c.reverse-2 in
     let part = c.copy in
-    both_law (sections_of s.sections.now) s.x.now s.out.now padded.new.y forth.new.x turned.new.a back.new.x again.new.a part.new.out s.p
-    q.2
+    both_law (sections_of s.sections.now) s.x.now padded.new.y forth.new.x turned.new.a back.new.x again.new.a part.new.out s.p
     (again.auto.a ∙ back.auto.x ∙ turned.auto.a ∙ forth.auto.x ∙ padded.auto.y ∙ q.1)
     padded.ensures forth.ensures turned.ensures back.ensures again.ensures part.ensures

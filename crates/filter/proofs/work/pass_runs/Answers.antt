@@ -1,22 +1,24 @@
 -- `filter::work::pass_runs`: what is written, with the definition of the rest behind it, is the definition of the whole list. Assumes nothing.
-use Prim.Native.Nat.{◌-◌}
-use borrow.Author.Rules.{rules}
+use Rattle.std.proofs.Common.{refl, ap, ◌∙◌, ◌+◌, ◌-◌, length, length-append, arith, rules, of_calls}
+use Rattle.std.specs.Slice.Iter.{chunk_by_rest}
+use Rattle.std.proofs.lemmas.List.Sorted.{answers_always}
 use Rattle.filter.specs.Sections.{sections_of}
 use Rattle.filter.specs.Filter.{pass_by}
 use Rattle.laws.specs.Lists.{put_length}
-use Rattle.filter.proofs.Turns.{pass_turn}
+use Rattle.filter.proofs.Turns.{joins, pass_turn}
 use Rattle.filter.proofs.work.pass_runs.Goals as goal
 
-pub loop-start-preserved : goal.loop-start-preserved
-loop-start-preserved c =
-    let l = c.loop-start in
+pub loop-run-preserved : goal.loop-run-preserved
+loop-run-preserved c =
+    let l = c.loop-run in
     let s = c.args in
-    let q = c.requires in
-    let e = c.run_end-end in
-    let r = c.pass_run in (
-      put_length l.start (e.result - l.start) l.out r.new.out s.out.now r.auto.out l.invariant.0,
+    let cut = c.in-Some.ensures.steps in
+    let r = c.pass_run in
+    let same = put_length l.start (l.start + length c.in-Some.run'.now - l.start) l.x r.new.x s.x.now r.auto.x l.invariant.0 in
+    let parts = ap length cut.0 ∙ length-append c.in-Some.run'.now (chunk_by_rest c.next.new.self) in (
+      same,
       search rules,
-      search rules,
-      pass_turn (pass_by (sections_of s.sections.now)) s.times.now s.x.now l.out s.out.now _ r.new.out l.start e.result
-          c.loop-start-test.true q.0 l.invariant.0 q.1 e.ensures.0 e.ensures.2 r.auto.out r.ensures l.invariant.3,
+      omega (arith, same, l.invariant, parts),
+      pass_turn (pass_by (sections_of s.sections.now)) (chunk_by_rest l.run-iterator) c.in-Some.run'.now (chunk_by_rest c.next.new.self) l.x _ r.new.x l.start _
+          cut.0 cut.1 (cut.2 joins (answers_always _ _ _ (λ f a r g k. search (rules, of_calls)))).1 l.invariant.2 refl r.auto.x r.ensures l.invariant.3,
     )

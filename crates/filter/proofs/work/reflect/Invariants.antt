@@ -10,4 +10,5 @@ use Rattle.filter.proofs.work.reflect.Given as goal
 
 abbrev pub invariant-loop-k : goal.invariant-loop-k
 invariant-loop-k l =
-    take l.k l.out ++ reflected (get_or l.x l.about nan) (reverse (take (length l.initial.out - l.k) (drop (l.end - length l.initial.out) l.x))) ≡ mirrored (get_or l.x l.about nan) (length l.initial.out) l.end l.x
+    take l.k l.out ++ reflected (get_or l.x l.about nan) (reverse (take (length l.initial.out - l.k) (drop (l.end - length l.initial.out) l.x)))
+    ≡ mirrored (get_or l.x l.about nan) (length l.initial.out) l.end l.x

@@ -6,5 +6,5 @@ use Rattle.filter.specs.Filter.{through}
 use Rattle.filter.proofs.Turns.{through_four}
 use Rattle.filter.proofs.work.run_four.Given as goal
 
-abbrev pub invariant-loop-i : goal.invariant-loop-i
-invariant-loop-i l = take l.i l.x ++ through_four l.a l.b l.c l.d l.k l.l l.m l.n (drop l.i l.x) ≡ through (l.a ∷ l.b ∷ l.c ∷ l.d ∷ []) l.initial.x
+abbrev pub invariant-loop-v : goal.invariant-loop-v
+invariant-loop-v l = take l.v-index l.x ++ through_four l.a l.b l.c l.d l.k l.l l.m l.n (drop l.v-index l.x) ≡ through (l.a ∷ l.b ∷ l.c ∷ l.d ∷ []) l.initial.x

@@ -5,5 +5,5 @@ use lib.ListN.{take, drop}
 use Rattle.filter.specs.Filter.{rest, through_one}
 use Rattle.filter.proofs.work.run_section.Given as goal
 
-abbrev pub invariant-loop-i : goal.invariant-loop-i
-invariant-loop-i l = take l.i l.x ++ through_one l.section l.m (drop l.i l.x) ≡ through_one l.section rest l.initial.x
+abbrev pub invariant-loop-v : goal.invariant-loop-v
+invariant-loop-v l = take l.v-index l.x ++ through_one l.section l.m (drop l.v-index l.x) ≡ through_one l.section rest l.initial.x

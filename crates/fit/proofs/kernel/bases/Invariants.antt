@@ -4,7 +4,7 @@ use Rattle.std.proofs.Common.{◌-◌, ◌*◌, ◌≤◌}
 use Rattle.fit.proofs.kernel.bases.Given as goal
 
 abbrev pub invariant-loop-r : goal.invariant-loop-r
-invariant-loop-r l = (l.r ≤ 3 * l.n) × Based l.initial.s l.s l.base l.r
+invariant-loop-r l = (l.r ≤ 3 * l.fn.known.count) × Based l.initial.s l.s l.bench.base l.r
 
 abbrev pub decreases-loop-r : goal.decreases-loop-r
-decreases-loop-r l = 3 * l.n - l.r
+decreases-loop-r l = 3 * l.fn.known.count - l.r

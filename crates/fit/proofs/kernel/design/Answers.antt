@@ -1,24 +1,16 @@
--- `fit::kernel::design`: the first i columns are those of the runs with their parameter moved; from the observations on only the design changes. Assumes nothing.
-use Rattle.fit.proofs.Columns.{designed_none, designed_more}
-use Rattle.std.proofs.Common.{◌≡◌, ◌*◌, arith}
+-- `fit::kernel::design`: one column more, from a run with its parameter moved, by `differentiated` and `designed_more` of proofs/Columns.antt. Assumes nothing.
+use Rattle.fit.proofs.Columns.{designed_more, differentiated}
+use Rattle.fit.specs.Fit.{moved_of}
+use Rattle.integrate.specs.Force.{run_of, attraction_of}
+use Rattle.integrate.specs.declared.kernel.Force.TheVariants.{J2}
+use Rattle.std.proofs.Common.{◌*◌, arith}
+use Rattle.inputs.specs.Lent.{model_of}
 use Rattle.fit.proofs.kernel.design.Goals as goal
 
-pub loop-i-init : goal.loop-i-init
-loop-i-init c = (omega arith, designed_none _ _ _ _ _)
-
-pub partial-requires : goal.partial-requires
-partial-requires c =
-    (omega arith, omega arith, omega (arith, c.loop-i.invariant.1.apart.long))
-
 pub loop-i-preserved : goal.loop-i-preserved
-loop-i-preserved c = (
-  omega arith,
-  designed_more _ _ _ _ _ c.args.bench.base (3 * c.args.n) c.loop-i.i (omega arith) (omega arith) c.loop-i.invariant.1
-      c.partial.ensures,
-)
-
-pub shape_of-s : goal.shape_of-s
-shape_of-s c = c.loop-i.invariant.1.apart.long
-
-pub returns : goal.returns
-returns c = let end : c.loop-i.i ≡ 15 = omega arith in rw end at c.loop-i.invariant.1
+loop-i-preserved c =
+    let a = c.args in
+    let i = c.loop-i.i in
+    let one = differentiated (run_of (attraction_of J2 (model_of a.bench.model)) a.bench.arc (moved_of a.p i)) a.bench.arc.steps _ _ _ a.bench.base (3 * a.known.count) i (omega arith)
+    (rw c.moved.ensures at c.fly.ensures.0) c.fly.ensures.1 c.column.ensures in
+    (omega arith, designed_more _ _ _ _ _ a.bench.base (3 * a.known.count) i (omega arith) (omega arith) c.loop-i.invariant.1 one)

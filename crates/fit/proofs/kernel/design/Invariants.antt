@@ -8,7 +8,7 @@ use Rattle.inputs.specs.Lent.{model_of}
 use Rattle.fit.proofs.kernel.design.Given as goal
 
 abbrev pub invariant-loop-i : goal.invariant-loop-i
-invariant-loop-i l = (l.i ≤ 15) × Designed (λ (j : ℕ). run_of (attraction_of J2 (model_of l.bench.model)) l.bench.arc (moved_of l.p j)) l.bench.arc.steps l.initial.s l.s l.bench.base (3 * l.n) l.i
+invariant-loop-i l = (l.i ≤ 15) × Designed (λ (j : ℕ). run_of (attraction_of J2 (model_of l.bench.model)) l.bench.arc (moved_of l.p j)) l.bench.arc.steps l.initial.s l.s l.bench.base (3 * l.known.count) l.i
 
 abbrev pub decreases-loop-i : goal.decreases-loop-i
 decreases-loop-i l = 15 - l.i

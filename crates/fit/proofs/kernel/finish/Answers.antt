@@ -5,12 +5,9 @@ use Rattle.inputs.specs.Lent.{model_of}
 use Rattle.fit.specs.Room.{misfit_part}
 use Rattle.fit.proofs.kernel.finish.Goals as goal
 
-pub misfits-requires : goal.misfits-requires
-misfits-requires c = (omega arith, omega (arith, c.fly.ensures.1.long))
-
 pub returns : goal.returns
 returns c =
     let a = c.args in
-    finished (model_of a.bench.model) a.bench.arc a.p a.s.now _ _ a.bench.base a.n (a.bench.base + misfit_part + 3 * a.n - (a.bench.base + misfit_part)) _ (omega arith) (omega arith) (omega arith)
+    finished (model_of a.bench.model) a.bench.arc a.p a.s.now _ _ a.bench.base a.known.count (a.bench.base + misfit_part + 3 * a.known.count - (a.bench.base + misfit_part)) _ (omega arith) (omega arith) (omega arith)
     (omega arith)
     c.fly.ensures.0 c.fly.ensures.1 c.misfits.ensures c.rms.ensures

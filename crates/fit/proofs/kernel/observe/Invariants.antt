@@ -6,7 +6,7 @@ use Rattle.std.proofs.Common.{◌+◌, ◌-◌, ◌/◌, ◌≤◌}
 use Rattle.fit.proofs.kernel.observe.Given as goal
 
 abbrev pub invariant-loop-c : goal.invariant-loop-c
-invariant-loop-c l = (l.c ≤ l.bench.arc.steps / 5 + 1) × Sofar (state_for (keyed_of l.states)) l.bench.arc.t0 l.initial.s l.s l.bench.base l.c l.n
+invariant-loop-c l = (l.c ≤ l.bench.arc.steps / 5 + 1) × Sofar (state_for (keyed_of l.bench.states)) l.bench.arc.t0 l.initial.s l.s l.bench.base l.c l.count
 
 abbrev pub decreases-loop-c : goal.decreases-loop-c
 decreases-loop-c l = l.bench.arc.steps / 5 + 1 - l.c

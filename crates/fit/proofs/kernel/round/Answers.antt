@@ -10,13 +10,13 @@ use Rattle.fit.proofs.kernel.round.Goals as goal
 pub returns-in_err-beta : goal.returns-in_err-beta
 returns-in_err-beta c =
     let a = c.args in
-    rounded (model_of a.bench.model) a.bench.arc a.p a.s.now _ a.bench.base a.n (omega arith) (omega (arith, c.linearise.ensures.apart.long)) c.linearise.ensures
-    (a.bench.base + design_part + 45 * a.n - (a.bench.base + design_part)) (a.bench.base + misfit_part + 3 * a.n - (a.bench.base + misfit_part)) (omega arith) (omega arith)
+    rounded (model_of a.bench.model) a.bench.arc a.p a.s.now _ a.bench.base a.known.count (omega arith) (omega (arith, c.linearise.ensures.apart.long)) c.linearise.ensures
+    (a.bench.base + design_part + 45 * a.known.count - (a.bench.base + design_part)) (a.bench.base + misfit_part + 3 * a.known.count - (a.bench.base + misfit_part)) (omega arith) (omega arith)
     c.fifteen.result _ c.fifteen.ensures (c.from_residual.ensures ∙ sym (ap (option_map (updated_of a.p)) c.in_err-beta.was))
 
 pub returns : goal.returns
 returns c =
     let a = c.args in
-    rounded (model_of a.bench.model) a.bench.arc a.p a.s.now _ a.bench.base a.n (omega arith) (omega (arith, c.linearise.ensures.apart.long)) c.linearise.ensures
-    (a.bench.base + design_part + 45 * a.n - (a.bench.base + design_part)) (a.bench.base + misfit_part + 3 * a.n - (a.bench.base + misfit_part)) (omega arith) (omega arith)
+    rounded (model_of a.bench.model) a.bench.arc a.p a.s.now _ a.bench.base a.known.count (omega arith) (omega (arith, c.linearise.ensures.apart.long)) c.linearise.ensures
+    (a.bench.base + design_part + 45 * a.known.count - (a.bench.base + design_part)) (a.bench.base + misfit_part + 3 * a.known.count - (a.bench.base + misfit_part)) (omega arith) (omega arith)
     c.fifteen.result _ c.fifteen.ensures (ap Some c.updated.ensures ∙ sym (ap (option_map (updated_of a.p)) c.in_ok-beta.was))

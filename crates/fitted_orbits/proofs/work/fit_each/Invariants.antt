@@ -4,7 +4,7 @@ use Prim.Native.Nat.{◌+◌, ◌-◌, ◌≤◌}
 use lib.ListN.{length, take}
 use Rattle.inputs.specs.Lent.{model_of, keyed_of}
 use Rattle.fitted_orbits.specs.Orbits.{between}
-use Rattle.fitted_orbits.specs.Calls.{outputs, window_of}
+use Rattle.fitted_orbits.specs.Calls.{outputs, fitted_between}
 use Rattle.fitted_orbits.specs.Work.{Adds}
 use Rattle.fitted_orbits.proofs.Windows.{start_done}
 use Rattle.fitted_orbits.proofs.work.fit_each.Given as goal
@@ -12,7 +12,7 @@ use Rattle.fitted_orbits.proofs.work.fit_each.Given as goal
 abbrev pub invariant-loop-w : goal.invariant-loop-w
 invariant-loop-w l =
     (l.w ≤ length l.nodes - 1) × (length l.s ≡ length l.initial.s)
-    × Adds (between (window_of (model_of l.track.model) (keyed_of l.track.states)) (take (l.w + 1) l.nodes)) l.w start_done l.done
+    × Adds (between (fitted_between (model_of l.track.model) (keyed_of l.track.states)) (take (l.w + 1) l.nodes)) l.w start_done l.done
     (outputs l.initial.outkeys l.initial.outstates l.initial.rms) (outputs l.outkeys l.outstates l.rms)
 
 abbrev pub decreases-loop-w : goal.decreases-loop-w

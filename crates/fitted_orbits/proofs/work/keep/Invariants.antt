@@ -4,7 +4,7 @@ use Rattle.fitted_orbits.proofs.Keeping.{Keeping}
 use Rattle.fitted_orbits.proofs.work.keep.Given as goal
 
 abbrev pub invariant-loop-k : goal.invariant-loop-k
-invariant-loop-k l = (l.k ≤ l.steps + 1) × Keeping l.t0 l.from l.to l.s l.base l.first l.k l.n l.initial.outkeys l.outkeys l.initial.outstates l.outstates
+invariant-loop-k l = (l.k ≤ l.steps + 1) × (l.n ≤ l.first + 3500) × Keeping l.t0 l.span.from l.span.to l.s l.base l.first l.k l.n l.initial.outkeys l.outkeys l.initial.outstates l.outstates
 
 abbrev pub decreases-loop-k : goal.decreases-loop-k
 decreases-loop-k l = l.steps + 1 - l.k

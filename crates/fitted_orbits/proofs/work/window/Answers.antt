@@ -1,20 +1,37 @@
--- `fitted_orbits::work::window`: a window of 7,000 s or more adds nothing, any other what its fit leaves. Assumes nothing.
-use mathlib.Core.Path.{sym, subst}
-use lib.Dec.{T}
-use Rattle.inputs.specs.Lent.{model_of, keyed_of}
-use Rattle.finality.specs.Brackets.{covers}
-use Rattle.integrate.specs.Force.{full_force}
-use Rattle.fit.specs.Fit.{state_for}
+-- `fitted_orbits::work::window`: a long window and a refused fit add nothing, any other fit its states inside and its rms; by proofs/Windows.antt. Assumes nothing.
+use Rattle.std.proofs.Common.{T, sym, subst, arith}
 use Rattle.fitted_orbits.specs.Calls.{outputs}
-use Rattle.fitted_orbits.proofs.Windows.{long_adds}
+use Rattle.windows.proofs.Arcs.{Fine}
+use Rattle.windows.proofs.Filling.{arc_few, arc_inside}
+use Rattle.fitted_orbits.proofs.Windows.{long_adds, track_fits, refused_adds, fitted_adds_at}
 use Rattle.fitted_orbits.proofs.work.window.Goals as goal
 
-pub fit_between-requires : goal.fit_between-requires
-fit_between-requires c =
-    let pre = c.requires in (pre.0, record { ends = pre.1; short = subst T (sym c.if-to-from.true) tt }, pre.2)
+pub returns-then-not-span : goal.returns-then-not-span
+returns-then-not-span c = let a = c.args in long_adds _ _ _ a.span.from a.span.to a.done (outputs a.outkeys.now a.outstates.now a.rms.now) c.if-not-span.true
+
+pub keep-states-requires : goal.keep-states-requires
+keep-states-requires c =
+    let a = c.args in
+    let short : Fine a.span.from a.span.to = record { ends = a.span.ends; short = subst T (sym c.if-not-span.false) tt } in
+    let fits = track_fits a.track a.span.from a.span.to short a.s.now _ _ _ c.requires.0 c.arc_between-arc.ensures c.fit_arc.ensures in (
+      arc_few a.span.from a.span.to short _ c.arc_between-arc.ensures,
+      arc_inside a.span.from a.span.to short _ c.arc_between-arc.ensures,
+      omega (arith, fits.only.long, c.requires.0),
+      omega (arith, c.requires.1.keys),
+      omega (arith, c.requires.1.states),
+    )
+
+pub returns-in-Ok : goal.returns-in-Ok
+returns-in-Ok c =
+    let a = c.args in
+    let short : Fine a.span.from a.span.to = record { ends = a.span.ends; short = subst T (sym c.if-not-span.false) tt } in
+    let fits = track_fits a.track a.span.from a.span.to short a.s.now _ _ _ c.requires.0 c.arc_between-arc.ensures c.fit_arc.ensures in
+    fitted_adds_at _ _ _ a.span.from a.span.to short a.track.model.degree a.s.now _ _ _ a.done (outputs a.outkeys.now a.outstates.now a.rms.now) _ c.in-Ok.x _ _ _ _ _ c.in-Ok.is
+    a.track.placed c.arc_between-arc.ensures fits c.keep-states.ensures c.put_rms-windows.ensures.0 c.put_rms-windows.ensures.1
 
 pub returns : goal.returns
 returns c =
     let a = c.args in
-    long_adds (covers a.track.model.field_times.now) (full_force (model_of a.track.model)) (state_for (keyed_of a.track.states)) a.from a.to a.done
-    (outputs a.outkeys.now a.outstates.now a.rms.now) c.if-to-from.false
+    let short : Fine a.span.from a.span.to = record { ends = a.span.ends; short = subst T (sym c.if-not-span.false) tt } in
+    let fits = track_fits a.track a.span.from a.span.to short a.s.now _ _ _ c.requires.0 c.arc_between-arc.ensures c.fit_arc.ensures in
+    refused_adds _ _ _ a.span.from a.span.to short a.track.model.degree a.s.now _ a.done (outputs a.outkeys.now a.outstates.now a.rms.now) _ _ c.in_default.is fits

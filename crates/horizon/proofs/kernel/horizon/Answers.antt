@@ -1,18 +1,15 @@
--- From the last node to the first: no node seen so far is reached. Assumes nothing.
-use Rattle.std.proofs.Common.{rules}
-use Rattle.finality.specs.Sheet.{reached_by}
-use Rattle.horizon.specs.Lent.{ends_in}
-use Rattle.horizon.proofs.FromTheBack.{no_nodes, node_passes, node_fails, none_passes}
+-- `horizon::kernel::horizon`, from the last node to the first: the answer is the largest of the nodes that are left. Assumes nothing.
+use Rattle.std.proofs.Common.{rules, ◌∙◌}
+use Rattle.std.specs.Slice.Iter.{iter_rest}
+use Rattle.std.specs.Iterator.Adapters.{rev_source}
+use Rattle.horizon.proofs.FromTheBack.{node_passes, node_fails, none_left}
 use Rattle.horizon.proofs.kernel.horizon.Goals as goal
 
-pub loop-i-init : goal.loop-i-init
-loop-i-init c = (search rules, no_nodes (reached_by (ends_in c.args.tracks)) c.args.nodes.now)
-
 pub returns-then-reach_beyond : goal.returns-then-reach_beyond
-returns-then-reach_beyond c = search (rules, node_passes)
+returns-then-reach_beyond c = node_passes _ _ _ _ _ c.in-Some.ensures.steps c.if-reach_beyond.ensures c.loop-z.invariant
 
-pub loop-i-preserved : goal.loop-i-preserved
-loop-i-preserved c = (search rules, search (rules, node_fails))
+pub loop-z-preserved : goal.loop-z-preserved
+loop-z-preserved c = node_fails _ _ _ _ _ c.in-Some.ensures.steps c.if-reach_beyond.ensures c.loop-z.invariant
 
 pub returns : goal.returns
-returns c = search (rules, none_passes)
+returns c = none_left _ (iter_rest (rev_source c.loop-z.z-iterator)) (search rules) ∙ c.loop-z.invariant

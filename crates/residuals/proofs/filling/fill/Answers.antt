@@ -14,11 +14,9 @@ fill_from-requires c =
     let p = c.requires in
     let e : _ ≡ front_size s.inputs.model.degree = c.front_size-base.ensures.0 p.0.degree in (
       e,
-      p.1,
-      p.2,
       record {
-        outputs = c.clear_lists.ensures ∙ blank_is (length s.observed.times.now)
-            (epoch_columns s.outtimes.now s.outresiduals.now s.outterms.now s.outmids.now s.outvels.now) p.3;
+        outputs = c.clear_lists.ensures ∙ blank_is (length s.samples.observed.times.now)
+            (epoch_columns s.outtimes.now s.outresiduals.now s.outterms.now s.outmids.now s.outvels.now) p.1;
         room = omega (arith, e, p.0.room, c.«open».ensures.only.long);
         usable = c.«open».ensures.usable e (omega (arith, e, p.0.room)) (model_of s.inputs.model) refl;
       },

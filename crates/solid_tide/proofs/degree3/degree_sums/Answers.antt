@@ -11,4 +11,4 @@ unfolding degree_sums power all_r all_lat all_lon sum_to
 loop-n-init c = refl
 
 pub loop-n-preserved : goal.loop-n-preserved
-loop-n-preserved c = c.add_degree-t.ensures ∙ ap (add_degree _ _ _) c.loop-n.invariant ∙ one_degree _ _ _
+loop-n-preserved c = c.add_to-t.ensures ∙ ap (add_degree _ _ _) c.loop-n.invariant ∙ one_degree _ _ _

@@ -1,7 +1,7 @@
 -- `windows::kernel::arc_between`: the start and the steps of a window shorter than 7,000 s, else an arc of no steps. Assumes nothing.
 use Rattle.std.proofs.Common.{sym, ◌∙◌}
 use Rattle.laws.specs.Order.{lt→le}
-use Rattle.windows.proofs.Arcs.{fine_says, arc_fine, arc_none}
+use Rattle.windows.proofs.Arcs.{fine_says}
 use Rattle.windows.proofs.kernel.arc_between.Goals as goal
 
 pub start-requires : goal.start-requires
@@ -12,11 +12,3 @@ steps-requires c =
     let a = c.args in
     let f = fine_says a.from a.to (sym c.window_fine.ensures ∙ c.if-window_fine.true) in
     (f.ends.from, f.ends.to, lt→le a.from a.to f.ends.order, f.short)
-
-pub returns-then-window_fine : goal.returns-then-window_fine
-returns-then-window_fine c =
-    arc_fine c.args.from c.args.to _ _ _ c.window_fine.ensures c.if-window_fine.true c.start.ensures
-    c.steps.ensures.0
-
-pub returns : goal.returns
-returns c = arc_none c.args.from c.args.to _ c.window_fine.ensures c.if-window_fine.false

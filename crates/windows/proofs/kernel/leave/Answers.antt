@@ -1,16 +1,34 @@
-use Rattle.inputs.specs.Lent.{model_of, keyed_of}
-use Rattle.std.proofs.Common.{T, sym, subst}
-use Rattle.finality.specs.Brackets.{covers}
-use Rattle.integrate.specs.Force.{full_force}
-use Rattle.fit.specs.Fit.{state_for}
-use Rattle.windows.proofs.Filling.{long_leaves}
+-- `windows::kernel::leave`: a long window leaves nothing, a fitted arc its states inside, a refused one none; each by its law of proofs/Filling.antt. Assumes nothing.
+use Rattle.std.proofs.Common.{T, sym, subst, arith}
+use Rattle.windows.proofs.Arcs.{Fine}
+use Rattle.windows.proofs.Filling.{long_leaves, track_fits, arc_start, arc_steps, arc_few, arc_inside, fitted_leaves, refused_leaves}
 use Rattle.windows.proofs.kernel.leave.Goals as goal
 
-pub fit_between-requires : goal.fit_between-requires
-fit_between-requires c = let pre = c.requires in (pre.0, subst T (sym c.if-to-from.true) tt, pre.1, pre.2)
+pub returns-then-not-span : goal.returns-then-not-span
+returns-then-not-span c = let a = c.args in long_leaves _ _ _ a.span.from a.span.to a.span.ends a.s.now a.track.base a.at c.if-not-span.true
 
-pub returns : goal.returns
-returns c =
+pub keep-requires : goal.keep-requires
+keep-requires c =
     let a = c.args in
-    long_leaves (covers a.track.model.field_times.now) (full_force (model_of a.track.model)) (state_for (keyed_of a.track.states)) a.from a.to c.requires.0 a.s.now a.track.base a.at
-    c.if-to-from.false
+    let fine : Fine a.span.from a.span.to = record { ends = a.span.ends; short = subst T (sym c.if-not-span.false) tt } in
+    let fit = track_fits a.track a.span.from a.span.to fine a.s.now _ _ _ (omega arith) c.arc_between-arc.ensures c.fit_arc.ensures in (
+      arc_few a.span.from a.span.to fine _ c.arc_between-arc.ensures,
+      arc_inside a.span.from a.span.to fine _ c.arc_between-arc.ensures,
+      omega arith,
+      omega (arith, fit.only.long),
+    )
+
+pub returns-in-Ok : goal.returns-in-Ok
+returns-in-Ok c =
+    let a = c.args in
+    let fine : Fine a.span.from a.span.to = record { ends = a.span.ends; short = subst T (sym c.if-not-span.false) tt } in
+    let fit = track_fits a.track a.span.from a.span.to fine a.s.now _ _ _ (omega arith) c.arc_between-arc.ensures c.fit_arc.ensures in
+    fitted_leaves _ _ _ a.span.from a.span.to a.span.ends fine.short a.s.now _ _ a.track.base a.at _ _ _ _ _ c.in-Ok.is
+    (arc_start a.span.from a.span.to fine _ c.arc_between-arc.ensures) (arc_steps a.span.from a.span.to fine _ c.arc_between-arc.ensures) (omega arith) fit c.keep.ensures
+
+pub returns-in-Err : goal.returns-in-Err
+returns-in-Err c =
+    let a = c.args in
+    let fine : Fine a.span.from a.span.to = record { ends = a.span.ends; short = subst T (sym c.if-not-span.false) tt } in
+    let fit = track_fits a.track a.span.from a.span.to fine a.s.now _ _ _ (omega arith) c.arc_between-arc.ensures c.fit_arc.ensures in
+    refused_leaves _ _ _ a.span.from a.span.to a.span.ends fine.short a.s.now _ a.track.base a.at _ _ c.in-Err.is (omega arith) fit

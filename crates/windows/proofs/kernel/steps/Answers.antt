@@ -10,9 +10,6 @@ use Rattle.windows.specs.Slots.{highest}
 use Rattle.windows.proofs.Times.{steps_low, steps_high}
 use Rattle.windows.proofs.kernel.steps.Goals as goal
 
-pub start-requires : goal.start-requires
-start-requires c = c.requires.0
-
 pub ceil-requires : goal.ceil-requires
 ceil-requires c =
     let a = c.args in

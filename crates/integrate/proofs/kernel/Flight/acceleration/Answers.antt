@@ -7,5 +7,5 @@ pub returns : goal.returns
 returns c =
     let s = c.args in
     let f = s.self.now in
-    accelerated f.force (model_of f.model) s.w.now _ s.known f.arc f.strengths s.t _ s.x s.v _ _ _ _ _
+    accelerated f.force (model_of f.model) s.front.now _ s.known f.arc f.strengths s.t _ s.x s.v _ _ _ _ _
     c.attraction-g.ensures c.fictitious-f.ensures c.argument.ensures c.empirical-p.ensures c.add.ensures c.add-pull.ensures

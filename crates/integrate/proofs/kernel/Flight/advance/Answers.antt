@@ -10,4 +10,4 @@ returns c =
     let f = s.self.now in
     let M = model_of f.model in
     advanced f.force M s.w.now _ _ f.base s.k s.known (acceleration_of (attraction_of f.force M) f.arc f.strengths) f.arc.t0 _ s.s _
-    c.requires.few f.behind_front c.requires.room c.time-t.ensures c.step-next.ensures c.put_state.ensures
+    c.requires.few c.requires.room c.time-t.ensures c.step-next.ensures c.put_state.ensures

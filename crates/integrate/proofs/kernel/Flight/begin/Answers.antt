@@ -4,4 +4,4 @@ use Rattle.integrate.proofs.kernel.Flight.begin.Goals as goal
 
 pub returns-in-J2 : goal.returns-in-J2
 returns-in-J2 c = let s = c.args in
-    let f = s.self.now in begun_j2 f.force _ s.w.now s.w.now _ c.in-J2.is
+    let f = s.self.now in begun_j2 f.force _ s.front.now s.front.now _ c.in-J2.is

@@ -14,13 +14,18 @@ loop-k-init c =
     let s = c.args in
     let f = s.self.now in
     let M = model_of f.model in
-    let h = flown_first f.force M s.w.now _ _ f.base _ (acceleration_of (attraction_of f.force M) f.arc f.strengths) f.arc.t0 s.start f.behind_front c.requires.room
+    let h = flown_first f.force M s.w.now _ _ f.base _ (acceleration_of (attraction_of f.force M) f.arc f.strengths) f.arc.t0 s.start c.requires.room
     c.begin-known.ensures c.put_state.ensures in
     (refl, h.0, h.2, only_same 0 (f.base + run_size) _)
 
 pub advance-next-requires : goal.advance-next-requires
 advance-next-requires c =
-    record { few = omega arith; small = c.requires.small; room = omega (arith, c.loop-k.invariant.3.long, c.put_state.ensures.only.long, c.begin-known.ensures.only.long, c.requires.room) }
+    let s = c.args in
+    let f = s.self.now in
+    let M = model_of f.model in
+    let h = flown_first f.force M s.w.now _ _ f.base _ (acceleration_of (attraction_of f.force M) f.arc f.strengths) f.arc.t0 s.start c.requires.room
+    c.begin-known.ensures c.put_state.ensures in
+    record { few = omega arith; small = c.requires.small; room = omega (arith, c.loop-k.invariant.3.long, h.1.long, c.requires.room) }
 
 pub loop-k-preserved : goal.loop-k-preserved
 loop-k-preserved c =
@@ -38,14 +43,19 @@ loop-k-preserved c =
 
 pub shape_of-w : goal.shape_of-w
 shape_of-w c =
-    c.loop-k.invariant.3.long ∙ c.put_state.ensures.only.long ∙ c.begin-known.ensures.only.long
+    let s = c.args in
+    let f = s.self.now in
+    let M = model_of f.model in
+    let h = flown_first f.force M s.w.now _ _ f.base _ (acceleration_of (attraction_of f.force M) f.arc f.strengths) f.arc.t0 s.start c.requires.room
+    c.begin-known.ensures c.put_state.ensures in
+    c.loop-k.invariant.3.long ∙ h.1.long
 
 pub returns : goal.returns
 returns c =
     let s = c.args in
     let f = s.self.now in
     let M = model_of f.model in
-    let h = flown_first f.force M s.w.now _ _ f.base _ (acceleration_of (attraction_of f.force M) f.arc f.strengths) f.arc.t0 s.start f.behind_front c.requires.room
+    let h = flown_first f.force M s.w.now _ _ f.base _ (acceleration_of (attraction_of f.force M) f.arc f.strengths) f.arc.t0 s.start c.requires.room
     c.begin-known.ensures c.put_state.ensures in
     let end : c.loop-k.k ≡ f.arc.steps = omega arith in
     record {

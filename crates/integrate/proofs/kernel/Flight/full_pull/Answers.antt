@@ -1,5 +1,4 @@
 use Rattle.integrate.proofs.ForceAndStep.{pulled}
-use Rattle.std.proofs.Common.{arith}
 use Rattle.inputs.specs.Lent.{model_of}
 use Rattle.integrate.proofs.kernel.Flight.full_pull.Goals as goal
 
@@ -7,6 +6,5 @@ pub returns : goal.returns
 returns c =
     let s = c.args in
     let f = s.self.now in
-    pulled (model_of f.model) f.base s.w.now _ s.known _ s.t s.x _ _ _ _ _ f.behind_front
-    (omega (arith, c.refresh-here.ensures.only.long, c.requires)) c.refresh-here.ensures c.element.ensures c.element-2.ensures
+    pulled (model_of f.model) s.front.now _ s.known _ s.t s.x _ _ _ _ _ c.refresh-here.ensures c.element.ensures c.element-2.ensures
     c.gravity-g.ensures c.tides_at.ensures c.add-pull.ensures

@@ -1,4 +1,4 @@
--- `integrate::kernel::Flight::open`: the front filled at t makes the instant of t ready, and nothing behind it moves; by `opened` of proofs/ForceAndStep.antt. Assumes nothing.
+-- `integrate::kernel::Flight::open`: the front filled at t makes the instant of t ready, by `opened` of proofs/ForceAndStep.antt. Assumes nothing.
 use Rattle.integrate.proofs.ForceAndStep.{opened}
 use Rattle.inputs.specs.Lent.{model_of}
 use Rattle.integrate.proofs.kernel.Flight.open.Goals as goal
@@ -6,4 +6,4 @@ use Rattle.integrate.proofs.kernel.Flight.open.Goals as goal
 pub returns : goal.returns
 returns c =
     let s = c.args in
-    let f = s.self.now in opened (model_of f.model) f.base s.w.now _ f.arc.t0 _ f.behind_front c.requires c.fill.ensures c.of.ensures
+    let f = s.self.now in opened (model_of f.model) s.front.now _ f.arc.t0 _ c.requires c.fill.ensures c.of.ensures

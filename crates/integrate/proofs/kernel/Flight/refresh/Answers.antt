@@ -10,4 +10,4 @@ returns-then-same_bits c = let s = c.args in
 pub returns : goal.returns
 returns c =
     let s = c.args in
-    let f = s.self.now in new_instant (model_of f.model) f.base s.w.now _ s.known s.t _ f.behind_front c.requires c.at.ensures c.of.ensures
+    let f = s.self.now in new_instant (model_of f.model) s.front.now _ s.known s.t _ c.at.ensures c.of.ensures

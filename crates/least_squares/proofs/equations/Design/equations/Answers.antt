@@ -14,12 +14,6 @@ pub loop-i-init : goal.loop-i-init
 loop-i-init c =
     (omega arith, refl, holds_same _ _ _ (as_it_is (replicate 240 zero64) refl) (λ i j a b. filled_none 0 (c.args.self.p + 1) 0 _ (view (replicate 240 zero64)) i j))
 
-pub loop-j-init : goal.loop-j-init
-loop-j-init c = (omega arith, λ x h. h)
-
-pub entry-requires : goal.entry-requires
-entry-requires c = (omega arith, omega arith)
-
 pub loop-j-preserved : goal.loop-j-preserved
 loop-j-preserved c =
     let s = c.args in

@@ -10,7 +10,8 @@ use Rattle.least_squares.proofs.equations.Design.equations.Given as goal
 
 abbrev pub invariant-loop-j : goal.invariant-loop-j
 invariant-loop-j l =
-    (l.j ≤ l.w) × ((x : Matrix) → Holds l.initial.a (filled l.i l.w 0 (normal_at l.self.rows.now l.self.y.now l.self.p) x) → Holds l.a (filled l.i l.w l.j (normal_at l.self.rows.now l.self.y.now l.self.p) x))
+    let normal = normal_at l.self.rows.now l.self.y.now l.self.p in
+    (l.j ≤ l.w) × ((x : Matrix) → Holds l.initial.a (filled l.i l.w 0 normal x) → Holds l.a (filled l.i l.w l.j normal x))
 
 abbrev pub invariant-loop-i : goal.invariant-loop-i
 invariant-loop-i l =

@@ -15,9 +15,6 @@ loop-i-init c =
     let s = c.args in
     (omega arith, holds_same _ _ _ (as_it_is s.self.now.a s.self.now.long) (λ i j a b. eliminated_none s.c 0 (s.self.now.p + 1) (view s.self.now.a) i j), refl)
 
-pub reduce_row-requires : goal.reduce_row-requires
-reduce_row-requires c = (omega arith, omega arith, c.if-i-c.true)
-
 pub loop-i-preserved : goal.loop-i-preserved
 loop-i-preserved c =
     let s = c.args in

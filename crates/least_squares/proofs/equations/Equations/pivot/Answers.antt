@@ -24,8 +24,3 @@ loop-i-preserved c =
       | then-reaches w ↦ (omega arith, omega arith, omega arith, w.best-is ∙ rw (sym t ∙ w.if-reaches.true) at (largest_more m s.c loop.i loop.invariant.0))
       | else-reaches w ↦ (omega arith, omega arith, omega arith, w.best-is ∙ loop.invariant.3 ∙ rw (sym t ∙ w.if-reaches.false) at (largest_more m s.c loop.i loop.invariant.0))
     ]
-
-pub returns : goal.returns
-returns c =
-    let end : c.loop-i.i ≡ c.args.self.now.p = omega arith in
-    (rw end at c.loop-i.invariant.3, omega arith)

@@ -2,7 +2,7 @@
 use mathlib.Core.Path.{refl}
 use native.Mathlib.Omega.{arith}
 use lib.ListN.{length-set}
-use Rattle.least_squares.proofs.MatrixLoops.{row_more, row_whole}
+use Rattle.least_squares.proofs.MatrixLoops.{row_more}
 use Rattle.laws.specs.Tables.{row}
 use Rattle.least_squares.specs.LeastSquares.{coefficient_at}
 use Rattle.least_squares.proofs.equations.Equations.solution.Goals as goal
@@ -16,8 +16,3 @@ unfolding coefficient_at
 loop-i-preserved c =
     let loop = c.loop-i in
     (omega arith, simp length-set loop.invariant.1, row_more loop.beta _ loop.i _ loop.invariant.2 (omega arith) refl)
-
-pub returns : goal.returns
-returns c =
-    let loop = c.loop-i in
-    row_whole loop.beta _ loop.i c.args.self.now.p loop.invariant.2 (omega arith) loop.invariant.1

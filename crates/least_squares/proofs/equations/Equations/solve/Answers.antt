@@ -10,12 +10,6 @@ pub loop-c-init : goal.loop-c-init
 unfolding fine_in stage_in
 loop-c-init c = (omega arith, refl, refl, refl)
 
-pub pivot-q-requires : goal.pivot-q-requires
-pivot-q-requires c = omega (arith, c.loop-c.invariant.3)
-
-pub swap_rows-requires : goal.swap_rows-requires
-swap_rows-requires c = (omega (arith, c.loop-c.invariant.3), c.pivot-q.ensures.1)
-
 pub returns-then-too_small : goal.returns-then-too_small
 returns-then-too_small c =
     let s = c.args.self.now in
@@ -27,9 +21,6 @@ returns-then-too_small c =
       λ e. absurd (false≢true e),
       loop.invariant.3,
     )
-
-pub eliminate-requires : goal.eliminate-requires
-eliminate-requires c = omega (arith, c.swap_rows.ensures.1, c.loop-c.invariant.3)
 
 pub loop-c-preserved : goal.loop-c-preserved
 loop-c-preserved c =
@@ -45,8 +36,3 @@ loop-c-preserved c =
       stage_more s.p s.a loop.c loop.self.a q.result loop.invariant.2 largest_is _ _ (rw loop.invariant.3 at c.swap_rows.ensures.0) (rw same at c.eliminate.ensures.0),
       c.eliminate.ensures.1 ∙ same,
     )
-
-pub returns : goal.returns
-returns c =
-    let end : c.loop-c.c ≡ c.args.self.now.p = omega arith in
-    (sym (rw end at c.loop-c.invariant.1), λ e. rw end at c.loop-c.invariant.2, c.loop-c.invariant.3)

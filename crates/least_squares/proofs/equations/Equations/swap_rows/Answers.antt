@@ -1,7 +1,9 @@
 -- After k columns the array holds the matrix with the two rows swapped in these columns. Assumes nothing.
 use Rattle.least_squares.proofs.MatrixLoops.{holds_same, store_put, swapped_none, swapped_col, swapped_more}
-use mathlib.Core.Path.{◌≡◌, refl, ◌∙◌}
-use Prim.Native.Nat.{◌+◌}
+use mathlib.Core.Path.{◌≡◌, refl, sym, ◌∙◌}
+use Prim.Native.Nat.{◌+◌, ◌*◌}
+use lib.Ieee.{nan}
+use Rattle.std.proofs.lemmas.List.Edits.{swap_is}
 use native.Mathlib.Omega.{arith}
 use Rattle.least_squares.proofs.MatrixLoops.{as_it_is, whole}
 use Rattle.least_squares.specs.Flat.{view}
@@ -19,11 +21,12 @@ loop-k-preserved c =
     let m = view s.self.now.a in
     let h = loop.invariant.3 in
     let u = h.at s.c loop.k (omega arith) (omega arith) ∙ swapped_col s.c s.q loop.k m s.c in
-    let v = h.at s.q loop.k (omega arith) (omega arith) ∙ swapped_col s.c s.q loop.k m s.q in (
+    let v = h.at s.q loop.k (omega arith) (omega arith) ∙ swapped_col s.c s.q loop.k m s.q in
+    let is = c.swap.ensures.after ∙ sym (swap_is loop.self.a (s.c * 16 + loop.k) (s.q * 16 + loop.k) nan (omega (arith, h.long)) (omega (arith, h.long))) in (
       omega arith,
       refl,
       loop.invariant.2,
-      rw (u, v)
+      rw (is, u, v)
           (holds_same _ _ _
           (store_put _ _ s.q loop.k _ (omega arith) (omega arith) (store_put loop.self.a _ s.c loop.k _ (omega arith) (omega arith) h))
           (λ i j a b. swapped_more s.c s.q loop.k m i j)),
