@@ -1,9 +1,8 @@
--- Answers told in numbers: values stored in their places, and what is left there after a refusal. Assumes nothing.
-use Rattle.std.specs.Prelude.{◌≡◌, refl, List, [], ◌∷◌, ◌++◌, ℕ, suc, ◌+◌, ◌-◌, ◌<◌, ◌≤◌, length, take, replicate, Float, Option, Some, None}
-use Rattle.std.proofs.Common.{slice_set, ap, arith}
+-- Answers told in numbers: values stored in their places. Assumes nothing.
+use Rattle.std.specs.Prelude.{◌≡◌, refl, List, [], ◌∷◌, length, Float, Option, Some, None}
+use Rattle.std.proofs.Common.{slice_set, arith}
 use Rattle.std.specs.Option.{unwrap_or}
 use Rattle.laws.specs.Floats.{bits}
-use Rattle.laws.specs.Loops.{fill_turn, fill_done}
 use Rattle.legendre.specs.declared.Partials.{Partials}
 use Rattle.exports.specs.Answers.{one, four, time}
 
@@ -25,17 +24,3 @@ four_set (x ∷ y ∷ z ∷ w ∷ u ∷ out) p h = absurd (omega arith)
 pub time_set : (out : List Float) (o : Option Float) (z : Float) → length out ≡ 1 → z ≡ unwrap_or o (bits 0xBFF0000000000000) → slice_set out 0 z ≡ time o
 time_set out (Some x) z h e = rw e (one_set out x h)
 time_set out None z h e = rw e (one_set out (bits 0xBFF0000000000000) h)
-
--- ---- z in each place
-
-module _ {A : Type 0} (z : A) (a a₀ : List A) (i : ℕ) (l : length a ≡ length a₀) where
-  pub clear_turn : i < length a → take i a ++ replicate (length a₀ - i) z ≡ replicate (length a₀) z →
-      take (i + 1) (slice_set a i z) ++ replicate (length a₀ - (i + 1)) z ≡ replicate (length a₀) z
-  clear_turn h inv =
-      let e : length a₀ - i ≡ suc (length a₀ - (i + 1)) = omega arith in
-      fill_turn a _ (replicate (length a₀ - (i + 1)) z) _ i z h inv (rw e)
-
-  pub clear_done : length a ≤ i → take i a ++ replicate (length a₀ - i) z ≡ replicate (length a₀) z → a ≡ replicate (length a₀) z
-  clear_done h inv =
-      let e : length a₀ - i ≡ 0 = omega arith in
-      fill_done a _ _ i h (ap (λ (k : ℕ). replicate k z) e) inv

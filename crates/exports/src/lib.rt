@@ -156,8 +156,8 @@ pub extern "C" fn pozsmeteg_fit_orbit<'a>(
         keys,
         values: states,
     };
-    let answer = fit::fit_orbit(model, known, arc, out, scratch);
-    answers::store(answer, 0.0, rms)
+    let fitted = fit::fit_orbit(model, known, arc, out, scratch);
+    answers::store(fitted.answer(), 0.0, rms)
 }
 
 #[unsafe(no_mangle)]
@@ -310,7 +310,7 @@ pub extern "C" fn pozsmeteg_residuals<'a>(
         states: lent::pair(ckeys, cstates, dkeys, dstates),
         accs: lent::pair(cacckeys, caccs, dacckeys, daccs),
     };
-    let answer = residuals::residuals(
+    let counted = residuals::residuals(
         lent,
         lent::observed(obstimes, obsvalues, good),
         outtimes,
@@ -320,7 +320,7 @@ pub extern "C" fn pozsmeteg_residuals<'a>(
         outvels,
         scratch,
     );
-    answers::store(answer, 0, counts)
+    answers::store(counted, 0, counts)
 }
 
 // The whole path; the counts of kept and of final epochs go into the two places of counts.

@@ -7,6 +7,8 @@ use Rattle.root.specs.Root.{sqrt}
 use Rattle.slices.specs.declared.refusal.Refusal.{Refusal}
 use Rattle.slices.specs.declared.refusal.Refusal.TheVariants.{Uncovered, TooFew, NoStart, Singular}
 use Rattle.inputs.specs.Inputs.{Keyed}
+use Rattle.fit.specs.declared.kernel.Fitted.{Fitted}
+use Rattle.fit.specs.declared.kernel.Fitted.TheVariants.{Fitted as Rms, Refused}
 use Rattle.vectors.specs.declared.Vector.{Vector}
 use Rattle.integrate.specs.declared.kernel.State.{State}
 use Rattle.integrate.specs.declared.kernel.Arc.{Arc}
@@ -29,6 +31,11 @@ use Rattle.least_squares.specs.LeastSquares.{solvable, solved}
 -- an arc's fit: the rms of its misfits, or why there is none
 abbrev pub Fit : Type 0
 Fit = Result Float Refusal
+
+-- document 01's enum as such an answer, of which the number is `answer_number` and the value `answer_value` (specs/Answers.antt of `slices`)
+abbrev pub answer_of : Fitted → Fit
+answer_of (Rms x) = Ok x
+answer_of (Refused e) = Err e
 
 -- the state at the whole second of a time, where it is known
 unfoldable pub state_for : Keyed → Float → Option State

@@ -10,7 +10,7 @@ ghost use Rattle.inputs.specs.Inputs.{front_size};
 ghost use Rattle.inputs.specs.Lent.{model_of, keyed_of};
 ghost use Rattle.integrate.specs.Force.{full_force, attraction_of, run_of};
 ghost use Rattle.integrate.specs.declared.kernel.Force.TheVariants.{Full, J2};
-ghost use Rattle.fit.specs.Fit.{state_for, seen, observed, start_of, scale_of, moved_of, updated_of, rms_of};
+ghost use Rattle.fit.specs.Fit.{answer_of, state_for, seen, observed, start_of, scale_of, moved_of, updated_of, rms_of};
 ghost use Rattle.fit.specs.Room.{base_part, work_size, place_at, run_at};
 ghost use Rattle.fit.specs.WorkLeaves.{Measured, Based, Columned, Stored, Noted, Observing, Designed, Linearised, Rounded};
 ghost use Rattle.fit.specs.WorkLeaves.{Finished, FitFrom, Fits, arc_serves, Serving, ArcFit};
@@ -30,6 +30,34 @@ const DESIGN: usize = 42_428;
 
 // The end of the work.
 const WORK: usize = 90_173;
+
+// How a fit ends: with the rms of its misfits, or refused; the number of a refusal is that of `slices` (`number_of`).
+#[derive(Clone, Copy)]
+pub enum Fitted {
+    Fitted(f64),
+    Refused(Refusal),
+}
+
+impl Fitted {
+    fn of(answer: Result<f64, Refusal>) -> Fitted
+        ensures { answer_of result ≡ answer }
+    {
+        match answer {
+            Ok(rms) => Fitted::Fitted(rms),
+            Err(refusal) => Fitted::Refused(refusal),
+        }
+    }
+
+    // The same as a `Result`.
+    pub fn answer(self) -> Result<f64, Refusal>
+        ensures { result ≡ answer_of self }
+    {
+        match self {
+            Fitted::Fitted(rms) => Ok(rms),
+            Fitted::Refused(refusal) => Err(refusal),
+        }
+    }
+}
 
 // What the functions of a fit share: the model, the states that are known, the arc, and where in the lent numbers the states of a run begin.
 #[derive(Clone, Copy)]
@@ -328,11 +356,11 @@ pub fn fit_arc(
     states: inputs::Keyed<'_>,
     arc: integrate::kernel::Arc,
     s: &mut [f64],
-) -> Result<f64, Refusal>
+) -> Fitted
     ensures { ArcFit
         (arc_serves model.entry.degree arc.steps states.entry.keys.now (length states.entry.values.now) (length s.old))
         (covers (model_of model.entry).fields.field_times) (full_force (model_of model.entry))
-        (state_for (keyed_of states.entry)) arc s.old s.new (front_size model.entry.degree) result }
+        (state_for (keyed_of states.entry)) arc s.old s.new (front_size model.entry.degree) (answer_of result) }
 {
     if !arc_fits(
         model.degree,
@@ -341,7 +369,7 @@ pub fn fit_arc(
         states.values.len(),
         s.len(),
     ) {
-        return Err(Refusal::Length);
+        return Fitted::Refused(Refusal::Length);
     }
     let base = inputs::front_size(model.degree);
     let bench = Bench {
@@ -350,5 +378,5 @@ pub fn fit_arc(
         arc,
         base,
     };
-    fit_within(bench, s)
+    Fitted::of(fit_within(bench, s))
 }

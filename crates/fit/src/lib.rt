@@ -8,10 +8,12 @@ ghost use Rattle.slices.specs.Calls.{left};
 ghost use Rattle.slices.specs.Slices.{copied};
 ghost use Rattle.inputs.specs.Inputs.{front_size};
 ghost use Rattle.inputs.specs.Lent.{model_of, keyed_of};
+ghost use Rattle.fit.specs.Fit.{answer_of};
 ghost use Rattle.fit.specs.Calls.{refusal as refusal_of, fit_call};
 ghost use Rattle.fit.specs.Handing.{Handed};
 ghost use Rattle.integrate.specs.Room.{run_size};
 
+use kernel::Fitted;
 use slices::Refusal;
 
 #[tactic(auto, unfolding(crate::specs::Calls::refusal))]
@@ -40,15 +42,9 @@ fn refusal(
 }
 
 // The fitted states into out, and the rms, where all are finite.
-fn hand_out(
-    x: f64,
-    degree: usize,
-    steps: usize,
-    out: &mut [f64],
-    scratch: &mut [f64],
-) -> Result<f64, Refusal>
+fn hand_out(x: f64, degree: usize, steps: usize, out: &mut [f64], scratch: &mut [f64]) -> Fitted
     requires { (degree ≤ 180) × (steps ≤ 5302) × (front_size degree + run_size ≤ length scratch.old) × (length out.old ≡ 6 * (steps + 1)) }
-    ensures { Handed x (take (6 * (steps + 1)) (drop (front_size degree) scratch.old)) out.old scratch.old result
+    ensures { Handed x (take (6 * (steps + 1)) (drop (front_size degree) scratch.old)) out.old scratch.old (answer_of result)
         out.new scratch.new }
 {
     let base = inputs::front_size(degree);
@@ -56,10 +52,10 @@ fn hand_out(
     slices::copy(&scratch[base..end], out);
     slices::clear(scratch);
     if numbers::is_finite(x) && slices::all_finite(&out[..]) {
-        return Ok(x);
+        return Fitted::Fitted(x);
     }
     slices::clear(out);
-    Err(Refusal::NotFinite)
+    Fitted::Refused(Refusal::NotFinite)
 }
 
 // A dynamic orbit fitted to the known positions of an arc: the rms of its misfits, and its states, six numbers each, in out.
@@ -69,17 +65,19 @@ pub fn fit_orbit(
     arc: integrate::kernel::Arc,
     out: &mut [f64],
     scratch: &mut [f64],
-) -> Result<f64, Refusal>
-    ensures { left result (out.new ∷ []) scratch.new ≡ fit_call (model_of model.entry) (keyed_of states.entry)
+) -> Fitted
+    ensures { left (answer_of result) (out.new ∷ []) scratch.new ≡ fit_call (model_of model.entry) (keyed_of states.entry)
         arc out.old scratch.old }
 {
-    refusal(model, states, arc, out.len(), scratch.len())?;
+    if let Err(refused) = refusal(model, states, arc, out.len(), scratch.len()) {
+        return Fitted::Refused(refused);
+    }
     match kernel::fit_arc(model, states, arc, scratch) {
-        Ok(x) => hand_out(x, model.degree, arc.steps, out, scratch),
-        Err(refused) => {
+        Fitted::Fitted(x) => hand_out(x, model.degree, arc.steps, out, scratch),
+        Fitted::Refused(refused) => {
             slices::clear(out);
             slices::clear(scratch);
-            Err(refused)
+            Fitted::Refused(refused)
         }
     }
 }

@@ -16,6 +16,7 @@ ghost use Rattle.fitted_orbits.specs.Orbits.{between};
 ghost use Rattle.fitted_orbits.specs.Calls.{given, outputs, listed, fitted_between, fitted_windows};
 ghost use Rattle.fitted_orbits.specs.Work.{put_six, read_run, Joins, SoFar, Room, Adds, Usable};
 
+use fit::kernel::Fitted;
 use windows::kernel::{Span, Track};
 
 // How many states and how many windows stand in the outputs.
@@ -109,7 +110,7 @@ fn window(
         return done;
     }
     let arc = windows::kernel::arc_between(span.from, span.to);
-    if let Ok(x) = fit::kernel::fit_arc(track.model, track.states, arc, s) {
+    if let Fitted::Fitted(x) = fit::kernel::fit_arc(track.model, track.states, arc, s) {
         let (base, first) = (track.base, done.states);
         let states = keep(arc.t0, span, arc.steps, s, base, first, outkeys, outstates);
         let windows = put_rms(x, rms, done.windows);

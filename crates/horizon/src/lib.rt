@@ -3,7 +3,7 @@
 
 ghost use Rattle.std.specs.Prelude.{◌≡◌, true};
 ghost use Rattle.horizon.specs.Horizon.{final_entries};
-ghost use Rattle.horizon.specs.Calls.{refusal_of, horizon_call, final_count_call};
+ghost use Rattle.horizon.specs.Calls.{counts_within, refusal_of, horizon_call, final_count_call};
 ghost use Rattle.horizon.specs.Lent.{given_in};
 
 pub mod kernel;
@@ -11,6 +11,27 @@ mod tracks;
 
 use slices::Refusal;
 pub use tracks::Tracks;
+
+// Whether there are not too many of each: nodes, states and accelerometer values of both satellites, fields, observations, kept epochs.
+// kept: counts one by one, for a caller that has no lists yet.
+#[tactic(auto, unfolding(crate::specs::Calls::counts_within))]
+pub fn counts_within(
+    nodes: usize,
+    cstates: usize,
+    dstates: usize,
+    caccs: usize,
+    daccs: usize,
+    fields: usize,
+    observed: usize,
+    kept: usize,
+) -> bool
+    ensures { result ≡ counts_within nodes cstates dstates caccs daccs fields observed kept }
+{
+    let times = (nodes <= 64 && fields <= 32) && (observed <= 100000 && kept <= 100000);
+    let states = cstates <= 200000 && dstates <= 200000;
+    let accs = caccs <= 200000 && daccs <= 200000;
+    times && (states && accs)
+}
 
 fn refusal(nodes: &[f64], tracks: Tracks<'_>, kept: &[f64]) -> Result<(), Refusal>
     ensures { result ≡ refusal_of true (given_in nodes.now tracks.entry) kept.now }

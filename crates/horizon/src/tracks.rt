@@ -61,17 +61,21 @@ impl<'a> Tracks<'a> {
     }
 
     // Whether there are not too many of each, so many nodes and kept epochs included.
-    #[tactic(auto, unfolding(crate::specs::Calls::counts_within))]
     pub fn are_counted(self, nodes: usize, kept: usize) -> bool
         ensures { result ≡ counts_within nodes (length self.entry.states_c.now) (length self.entry.states_d.now)
             (length self.entry.acc_c.now) (length self.entry.acc_d.now) (length self.entry.fields.now)
             (length self.entry.observed.now) kept }
     {
-        let times = (nodes <= 64 && self.fields.len() <= 32)
-            && (self.observed.len() <= 100000 && kept <= 100000);
-        let states = self.states_c.len() <= 200000 && self.states_d.len() <= 200000;
-        let accs = self.acc_c.len() <= 200000 && self.acc_d.len() <= 200000;
-        times && (states && accs)
+        crate::counts_within(
+            nodes,
+            self.states_c.len(),
+            self.states_d.len(),
+            self.acc_c.len(),
+            self.acc_d.len(),
+            self.fields.len(),
+            self.observed.len(),
+            kept,
+        )
     }
 
     // Times and keys from 0 to 2^31, those of nodes and kept epochs included.

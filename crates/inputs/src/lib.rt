@@ -3,7 +3,7 @@
 
 ghost use Rattle.std.specs.Prelude.{◌≡◌, ◌&&◌, ℕ, ◌+◌, ◌-◌, ◌*◌, ◌≤◌, ◌<◌, length, leb, eqb};
 ghost use Rattle.laws.specs.Checks.{degree_fine};
-ghost use Rattle.inputs.specs.Inputs.{field_size, first_of, fields_fine, counts_fine, model_fits, states_fit, tables_fit, front_size, least_scratch};
+ghost use Rattle.inputs.specs.Inputs.{field_size, first_of, FirstOfOwn, fields_fine, counts_fine, model_fits, states_fit, tables_fit, front_size, least_scratch};
 ghost use Rattle.inputs.specs.Inputs.{scratch_fits, lengths_fit, whole_scratch_fits, keyed_fine, rise, window_room, kind};
 
 use slices::Refusal;
@@ -54,6 +54,21 @@ pub fn first_of(
     slices::tested(lengths, Refusal::Length)?;
     slices::tested(values, Refusal::Value)?;
     slices::tested(order, Refusal::Order)?;
+    rest
+}
+
+// The same for a caller with an error of its own, which has more cases than a refusal has: `rest` may be any of these.
+pub fn first_of_own<E: Copy + From<Refusal>>(
+    degree: bool,
+    counts: bool,
+    lengths: bool,
+    values: bool,
+    order: bool,
+    rest: Result<(), E>,
+) -> Result<(), E>
+    ensures { FirstOfOwn E.from_gives degree counts lengths values order rest result }
+{
+    first_of(degree, counts, lengths, values, order, Ok(()))?;
     rest
 }
 

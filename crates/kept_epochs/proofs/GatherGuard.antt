@@ -8,7 +8,7 @@ use lib.Dec.{leb, eqb}
 use lib.IntN.{ℤ}
 use lib.Ieee.{Float}
 use lib.ListN.{length, replicate, length-replicate}
-use Rattle.std.specs.Prelude.{None, Some}
+use Rattle.std.specs.Prelude.{Option, None, Some, unwrap_or}
 use borrow.Author.Tests.{leb-true, eqb-true}
 use Rattle.inputs.specs.Inputs.{front_size, Front}
 use Rattle.laws.specs.Floats.{zero64}
@@ -16,7 +16,7 @@ use Rattle.std.specs.List.{list_all}
 use Rattle.laws.specs.Checks.{is_time, rising_seconds}
 use Rattle.laws.specs.Bools.{both_true}
 use Rattle.epoch.specs.Work.{Opened}
-use Rattle.kept_epochs.specs.KeptEpochs.{Given, gather_serves, SoFar, Done, Gathered}
+use Rattle.kept_epochs.specs.KeptEpochs.{Given, gather_serves, Listed, kept_in, SoFar, Done, Gathered, Counted}
 use Rattle.kept_epochs.proofs.LookUps.{stand_stays}
 use Rattle.kept_epochs.proofs.Turns.{begins}
 
@@ -106,3 +106,15 @@ module _ (g : Given) (ok serves : Bool) (e : ok ≡ serves) (ts rs s : List Floa
 
   pub not_gathered : ok ≡ false → Gathered g serves ts rs s ts rs s None
   not_gathered h = record { long = refl; is = λ k. absurd (false≢true (sym h ∙ e ∙ k)); unfit = λ k. (refl, refl, refl, refl) }
+
+-- a count, or 0
+pub counted : (g : Given) (serves : Bool) (ts rs s ts' rs' s' : List Float) (r : Option ℕ) (n : ℕ) → Gathered g serves ts rs s ts' rs' s' r → n ≡ unwrap_or r 0 →
+    Counted g serves ts rs s ts' rs' s' n
+counted g serves ts rs s ts' rs' s' r n a e = record {
+  long = a.long;
+  is = λ k c d sc sd.
+      let done = a.is k in
+      let same : n ≡ done.0 = e ∙ ap (λ (o : Option ℕ). unwrap_or o 0) done.1 in
+      subst (λ (m : ℕ). Listed (length g.observed.obs_times) (kept_in g c d) ts' rs' m) (sym same) (done.2 c d sc sd);
+  unfit = λ k. (e ∙ ap (λ (o : Option ℕ). unwrap_or o 0) (a.unfit k).0, (a.unfit k).1, (a.unfit k).2, (a.unfit k).3);
+}

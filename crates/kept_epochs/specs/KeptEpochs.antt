@@ -56,13 +56,21 @@ pub record Listed (m : ℕ) (es : List Epoch) (ts rs : List Float) (n : ℕ) : T
   pub times : ts ≡ published m (map time es)
   pub raws : rs ≡ published m (map residual es)
 
--- `gather`: the kept epochs are listed and counted, whatever states the slots hold; no count, and nothing is done, where the slices do not serve
+-- `try_gather`: the kept epochs are listed and counted, whatever states the slots hold; no count, and nothing is done, where the slices do not serve
 pub record Gathered (g : Given) (serves : Bool) (outtimes outraws s outtimes' outraws' s' : List Float) (r : Option ℕ) : Type 0 where
   pub long : length s' ≡ length s
   pub is : serves ≡ true → (n : ℕ) × (r ≡ Some n) × ((c d : ℕ → Table State) → SlotsHold s (slot_at (front_size g.model.fixed.degree) 0 0) c g.windows
       → SlotsHold s (slot_at (front_size g.model.fixed.degree) 1 0) d g.windows →
       Listed (length g.observed.obs_times) (kept_in g c d) outtimes' outraws' n)
   pub unfit : serves ≡ false → (r ≡ None) × (outtimes' ≡ outtimes) × (outraws' ≡ outraws) × (s' ≡ s)
+
+-- `gather`: the same, with 0 for no count
+pub record Counted (g : Given) (serves : Bool) (outtimes outraws s outtimes' outraws' s' : List Float) (n : ℕ) : Type 0 where
+  pub long : length s' ≡ length s
+  pub is : serves ≡ true → (c d : ℕ → Table State) → SlotsHold s (slot_at (front_size g.model.fixed.degree) 0 0) c g.windows
+      → SlotsHold s (slot_at (front_size g.model.fixed.degree) 1 0) d g.windows →
+      Listed (length g.observed.obs_times) (kept_in g c d) outtimes' outraws' n
+  pub unfit : serves ≡ false → (n ≡ 0) × (outtimes' ≡ outtimes) × (outraws' ≡ outraws) × (s' ≡ s)
 
 -- ---- between the parts of the code
 

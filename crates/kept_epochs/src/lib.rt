@@ -6,7 +6,7 @@ ghost use Rattle.laws.specs.Checks.{rising_seconds};
 ghost use Rattle.inputs.specs.Inputs.{front_size};
 ghost use Rattle.inputs.specs.Lent.{pair_of};
 ghost use Rattle.kept_epochs.specs.Lent.{given_of, serves_of};
-ghost use Rattle.kept_epochs.specs.KeptEpochs.{Found, Added, Able, SoFar, Done, Gathered};
+ghost use Rattle.kept_epochs.specs.KeptEpochs.{Found, Added, Able, SoFar, Done, Gathered, Counted};
 
 // What an epoch is made from beside the slots: the model, both satellites' accelerometer values, how many windows there are, and the observations.
 #[derive(Clone, Copy)]
@@ -131,7 +131,7 @@ fn serves(given: Given<'_>, outtimes: usize, outraws: usize, room: usize) -> boo
 
 // Times and residuals of the kept epochs, in order, +0.0 after the last, and how many there are. None, and nothing is done, where the slices do not serve.
 #[tactic(auto, using(crate::proofs::GatherGuard::gathered, crate::proofs::GatherGuard::not_gathered))]
-pub fn gather(
+pub fn try_gather(
     given: Given<'_>,
     outtimes: &mut [f64],
     outraws: &mut [f64],
@@ -145,4 +145,14 @@ pub fn gather(
         return Some(gather_all(given, outtimes, outraws, s));
     }
     None
+}
+
+// The same, but 0 where the slices do not serve.
+#[tactic(auto, using(crate::proofs::GatherGuard::counted))]
+pub fn gather(given: Given<'_>, outtimes: &mut [f64], outraws: &mut [f64], s: &mut [f64]) -> usize
+    ensures { Counted (given_of given.entry)
+        (serves_of given.entry (length outtimes.old) (length outraws.old) (length s.old)) outtimes.old
+        outraws.old s.old outtimes.new outraws.new s.new result }
+{
+    try_gather(given, outtimes, outraws, s).unwrap_or(0)
 }

@@ -1,9 +1,12 @@
--- What one turn of a loop does to a list that is filled from the front. Stated as invariants and `ensures` give them. Assumes nothing.
-use Rattle.std.specs.Prelude.{◌≡◌, List, [], ◌∷◌, ◌++◌, ℕ, suc, ◌+◌, ◌-◌, ◌<◌, ◌≤◌, length, take, drop, get_or, set, replicate, Float}
-use Rattle.std.proofs.Common.{sym, ap, ◌∙◌, append-nil, append_assoc, add-one, le_refl, arith, length-append, take-suc-set, drop-set-lt, drop-cons, take_all, take_at}
+-- What one turn of a loop does to a list: filled, cleared or tested from the front. Stated as invariants, tests and `ensures` give them. Assumes nothing.
+use Rattle.std.specs.Prelude.{◌≡◌, refl, List, [], ◌∷◌, ◌++◌, Bool, true, false, not, ◌&&◌, ℕ, suc, ◌+◌, ◌-◌, ◌<◌, ◌≤◌, length, take, drop, get_or, set, replicate, Float}
+use Rattle.std.specs.List.{list_all}
+use Rattle.std.proofs.Common.{sym, ap, ◌∙◌, append-nil, append_assoc, add-one, le_refl, arith, drop_of_length-le, length-append, take-suc-set, drop-set-lt, drop-cons, take_all, take_at}
+use Rattle.std.proofs.lemmas.Bool.{not-true, not-false}
 use Rattle.std.proofs.lemmas.List.{length-replicate, set_at}
 use Rattle.std.proofs.Math.Seq.{append_snoc}
 use Rattle.laws.specs.Floats.{zero64}
+use Rattle.laws.specs.Checks.{ascending}
 
 -- +0.0 in each place of a list
 abbrev pub cleared : List Float → List Float
@@ -64,3 +67,65 @@ fill_turn {A = A} x rest rest' goal i y h inv e = turn (λ (l : List A). rest') 
 
 pub fill_done {ℓ} : {A : Type ℓ} (x rest goal : List A) (i : ℕ) → length x ≤ i → rest ≡ [] → take i x ++ rest ≡ goal → x ≡ goal
 fill_done x rest goal i h e inv = sym (turn_done x rest i h e) ∙ inv
+
+pub copy_turn {ℓ} : {A : Type ℓ} (d : A) (x out out₀ : List A) (k : ℕ) → length out ≡ length out₀ → length out₀ ≡ length x → k < length x
+    → take k out ++ drop k x ≡ x →
+    take (k + 1) (set out k (get_or x k d)) ++ drop (k + 1) x ≡ x
+copy_turn d x out out₀ k l l₀ h inv = fill_turn out (drop k x) (drop (k + 1) x) x k (get_or x k d) (omega arith) inv (head_at x k d h)
+
+pub copy_done {ℓ} : {A : Type ℓ} (x out out₀ : List A) (k : ℕ) → length out ≡ length out₀ → length out₀ ≡ length x → length x ≤ k → take k out ++ drop k x ≡ x
+    → out ≡ x
+copy_done x out out₀ k l l₀ h inv = fill_done out (drop k x) x k (omega arith) (drop_of_length-le x h) inv
+
+pub clear_turn {ℓ} : {A : Type ℓ} (z : A) (a a₀ : List A) (i : ℕ) → length a ≡ length a₀ → i < length a
+    → take i a ++ replicate (length a₀ - i) z ≡ replicate (length a₀) z →
+    take (i + 1) (set a i z) ++ replicate (length a₀ - (i + 1)) z ≡ replicate (length a₀) z
+clear_turn z a a₀ i l h inv = fill_turn a _ (replicate (length a₀ - (i + 1)) z) _ i z h inv (replicate_step (length a₀) i z (omega arith))
+
+pub clear_done {ℓ} : {A : Type ℓ} (z : A) (a a₀ : List A) (i : ℕ) → length a ≡ length a₀ → length a ≤ i
+    → take i a ++ replicate (length a₀ - i) z ≡ replicate (length a₀) z →
+    a ≡ replicate (length a₀) z
+clear_done z a a₀ i l h inv = fill_done a _ _ i h (replicate_none (length a₀) i z (omega arith)) inv
+
+-- ---- testing each element, by std's `list_all`, which is for types of the lowest universe
+
+all_at : {A : Type 0} (d : A) (p : A → Bool) (x : List A) (i : ℕ) → i < length x → list_all p (drop i x) ≡ (p (get_or x i d) && list_all p (drop (i + 1) x))
+all_at d p x i h = rw (head_at x i d h)
+
+pub all_stops : {A : Type 0} (d : A) (p : A → Bool) (x : List A) (b g : Bool) (i : ℕ) → i < length x → b ≡ p (get_or x i d) → not b ≡ true
+    → list_all p (drop i x) ≡ g → false ≡ g
+all_stops d p x b g i h e f inv = sym (all_at d p x i h ∙ ap (λ (b : Bool). b && list_all p (drop (i + 1) x)) (sym e ∙ not-true b f)) ∙ inv
+
+pub all_goes : {A : Type 0} (d : A) (p : A → Bool) (x : List A) (b g : Bool) (i : ℕ) → i < length x → b ≡ p (get_or x i d) → not b ≡ false
+    → list_all p (drop i x) ≡ g → list_all p (drop (i + 1) x) ≡ g
+all_goes d p x b g i h e f inv = sym (all_at d p x i h ∙ ap (λ (b : Bool). b && list_all p (drop (i + 1) x)) (sym e ∙ not-false b f)) ∙ inv
+
+pub all_done : {A : Type 0} (p : A → Bool) (x : List A) (b : Bool) (i : ℕ) → length x ≤ i → list_all p (drop i x) ≡ b → true ≡ b
+all_done p x b i h e = sym (ap (list_all p) (drop_of_length-le x h)) ∙ e
+
+-- ---- testing neighbours
+
+ascending_at {ℓ} : {A : Type ℓ} (d : A) (below : A → A → Bool) (x : List A) (i : ℕ) → i + 1 < length x →
+    ascending below (drop i x) ≡ (below (get_or x i d) (get_or x (i + 1) d) && ascending below (drop (i + 1) x))
+ascending_at {A = A} d below x i h =
+    let u : A = get_or x (i + 1) d in
+    let s : drop (i + 1) x ≡ u ∷ drop (i + 1 + 1) x = head_at x (i + 1) d h in
+    rw (head_at x i d (omega arith), s)
+
+pub ascending_goes {ℓ} : {A : Type ℓ} (d : A) (below : A → A → Bool) (x : List A) (g : Bool) (i : ℕ) → i + 1 < length x
+    → below (get_or x i d) (get_or x (i + 1) d) ≡ true →
+    ascending below (drop i x) ≡ g → ascending below (drop (i + 1) x) ≡ g
+ascending_goes d below x g i h e inv = sym (ascending_at d below x i h ∙ ap (λ (b : Bool). b && ascending below (drop (i + 1) x)) e) ∙ inv
+
+pub ascending_stops {ℓ} : {A : Type ℓ} (d : A) (below : A → A → Bool) (x : List A) (g : Bool) (i : ℕ) → i + 1 < length x
+    → below (get_or x i d) (get_or x (i + 1) d) ≡ false →
+    ascending below (drop i x) ≡ g → false ≡ g
+ascending_stops d below x g i h e inv = sym (ascending_at d below x i h ∙ ap (λ (b : Bool). b && ascending below (drop (i + 1) x)) e) ∙ inv
+
+pub ascending_done {ℓ} : {A : Type ℓ} (d : A) (below : A → A → Bool) (x : List A) (g : Bool) (i : ℕ) → i < length x → length x - i ≤ 1
+    → ascending below (drop i x) ≡ g → true ≡ g
+ascending_done d below x g i h k inv = sym (rw (head_at x i d h, drop_of_length-le x {i = i + 1} (omega arith))) ∙ inv
+
+pub ascending_none {ℓ} : {A : Type ℓ} (below : A → A → Bool) (x : List A) → length x ≡ 0 → true ≡ ascending below x
+ascending_none below [] h = refl
+ascending_none below (u ∷ x) h = absurd (omega arith)

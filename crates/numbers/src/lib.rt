@@ -345,11 +345,15 @@ pub fn is_finite(x: f64) -> bool
     d == d
 }
 
-// The float nearest a whole number.
+// The float nearest a whole number: itself below 2^32, by one conversion, where the library's call makes two, a product and a sum.
 pub fn float_of(n: usize) -> f64
     ensures { result ≡ number n }
 {
-    std::num::nearest_usize_to_f64(n)
+    if n < 4294967296 {
+        n as f64
+    } else {
+        std::num::nearest_usize_to_f64(n)
+    }
 }
 
 // A count that is kept as a float, without its fraction; 0 where that is below zero or above `most`, and for NaN.

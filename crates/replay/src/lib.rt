@@ -5,7 +5,7 @@
 // ends, or a line is malformed, there is no more to read.
 #![tactic(auto)]
 
-ghost use Rattle.std.specs.Prelude.{◌≡◌, ◌≤◌, ℕ, nat_eq, length, drop};
+ghost use Rattle.std.specs.Prelude.{◌≡◌, ◌≤◌, ℕ, nat_eq, length, take, drop};
 ghost use Rattle.std.specs.Float.{binary64};
 ghost use Rattle.std.specs.Float.Ieee.{to_bits};
 ghost use Rattle.std.specs.Int.{w64};
@@ -187,7 +187,9 @@ pub fn full_list<'a, T: Word>(room: &'a mut [T]) -> &'a [T]
 }
 
 // The first places of a room, as many as the next word says: an output or a scratch of that length.
-pub fn front<'a, T>(room: &'a mut [T]) -> &'a mut [T] {
+pub fn front<'a, T>(room: &'a mut [T]) -> &'a mut [T]
+    ensures { result.now ≡ take (length result.now) room.old }
+{
     let n = count(room.len());
     &mut room[..n]
 }
@@ -290,6 +292,7 @@ pub fn say_all<T: Said>(values: &[T]) {
 }
 
 // Writes 0 and the count, or the refusal's number and 0.
+// kept: without a contract, as all here that writes: no clause can say what was written.
 pub fn say_counted(answer: Result<usize, Refusal>) {
     match answer {
         Ok(count) => {

@@ -76,7 +76,9 @@ fn fit_orbit(model: Model<'_>, states: Keyed<'_>) {
     let out = replay::front(&mut x);
     let scratch = replay::front(&mut w);
     let between = replay::number();
-    fit::fit_orbit(model, states, arc, out, scratch).say();
+    fit::fit_orbit(model, states, arc, out, scratch)
+        .answer()
+        .say();
     say_output(out, between);
     replay::say_left(scratch, 7.0);
 }

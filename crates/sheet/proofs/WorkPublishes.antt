@@ -9,7 +9,6 @@ use lib.IntN.{ℤ}
 use lib.ListN.{length, take, get_or, length-map}
 use lib.Ieee.{Float, nan, lt}
 use borrow.Author.Tests.{le-leb, eq-eqb}
-use Rattle.std.specs.Prelude.{Option, unwrap_or}
 use Rattle.inputs.specs.Inputs.{window_room, front_size, Keyed, Fixed, Lists, model_in}
 use Rattle.laws.specs.Floats.{zero64}
 use Rattle.laws.specs.Lists.{All}
@@ -29,7 +28,7 @@ use Rattle.windows.specs.Slots.{Slot}
 use Rattle.windows.specs.Windows.{slot_at, states_left, windows_serve, Ends}
 use Rattle.windows.proofs.Filling.{served}
 use Rattle.slots.specs.LookUp.{joined, SlotsHold, BothFit}
-use Rattle.kept_epochs.specs.KeptEpochs.{Given, given, kept_in, gather_serves, Listed, Gathered}
+use Rattle.kept_epochs.specs.KeptEpochs.{Given, given, kept_in, gather_serves, Listed, Counted}
 use Rattle.columns.specs.Columns.{columns_serve, ColumnsFilled}
 use Rattle.sheet.specs.Submission.{stages, submission_of}
 use Rattle.sheet.specs.Calls.{sheet_refusal, columns_of, kept_count, Worked}
@@ -144,12 +143,12 @@ module _ (S : Fixed) (l : Lists) (outtimes outraws : List Float) (others : List 
       ) refl
 
   -- the fits and the epochs over them
-  listed : (s₁ s₂ t r : List Float) (b : Bool) (windows n : ℕ) (answer : Option ℕ) → windows ≡ length l.tracks.nodes - 1 →
+  listed : (s₁ s₂ t r : List Float) (b : Bool) (windows n : ℕ) → windows ≡ length l.tracks.nodes - 1 →
       BothFit both_serve (states_left (model_in S l) l.tracks.states.c) (states_left (model_in S l) l.tracks.states.d) l.tracks.nodes s s₁
       (front_size S.degree) b →
-      Gathered (as_given windows) (epochs_serve (length s₁)) outtimes outraws s₁ t r s₂ answer → n ≡ unwrap_or answer 0 →
+      Counted (as_given windows) (epochs_serve (length s₁)) outtimes outraws s₁ t r s₂ n →
       Listed m es t r n
-  listed s₁ s₂ t r b windows n answer w f g e =
+  listed s₁ s₂ t r b windows n w f g =
       let C : ℕ → Table State = tables S l outputs (length s) h l.tracks.states.c in
       let D : ℕ → Table State = tables S l outputs (length s) h l.tracks.states.d in
       let hold : (states : Keyed) (satellite : ℕ) → satellite ≤ 1 →
@@ -158,11 +157,8 @@ module _ (S : Fixed) (l : Lists) (outtimes outraws : List Float) (others : List 
       SlotsHold s₁ (slot_at (front_size S.degree) satellite 0) (tables S l outputs (length s) h states) windows =
       λ states satellite one slots. subst (λ (k : ℕ). SlotsHold s₁ (slot_at (front_size S.degree) satellite 0) (tables S l outputs (length s) h states) k) (sym w)
       (slots_hold S l outputs (length s) h states satellite s₁ one f.long slots) in
-      let done = g.is (gather_serves_law (length s₁) f.long) in
-      let count : n ≡ done.0 = e ∙ ap (λ (o : Option ℕ). unwrap_or o 0) done.1 in
       let got : Listed m (kept_in (as_given windows) C D) t r n =
-      subst (λ (k : ℕ). Listed m (kept_in (as_given windows) C D) t r k) (sym count)
-      (done.2 C D (hold l.tracks.states.c 0 (omega arith) (f.slots_c both_serve_law)) (hold l.tracks.states.d 1 (omega arith) (f.slots_d both_serve_law))) in
+      g.is (gather_serves_law (length s₁) f.long) C D (hold l.tracks.states.c 0 (omega arith) (f.slots_c both_serve_law)) (hold l.tracks.states.d 1 (omega arith) (f.slots_d both_serve_law)) in
       let joined_is : (states : Keyed) → joined (tables S l outputs (length s) h states) windows ≡ fitted (stages S) (submission_of S l) (states_in states) =
       λ states. ap (joined (tables S l outputs (length s) h states)) w ∙ tables_joined S l outputs (length s) h states in
       let same : kept_in (as_given windows) C D ≡ es =
@@ -177,15 +173,15 @@ module _ (S : Fixed) (l : Lists) (outtimes outraws : List Float) (others : List 
       let enough : n ≤ room / 8 = omega (arith, h.scratch) in
       rw (le-leb n (length t) (omega (arith, lt, few)), all_long (length t) m (r ∷ others) lt (lr, places.1.1), le-leb n (room / 8) enough) refl
 
-  pub worked : (s₁ s₂ s₃ t r : List Float) (others' : List (List Float)) (b c : Bool) (windows n : ℕ) (answer : Option ℕ) → windows ≡ length l.tracks.nodes - 1 →
+  pub worked : (s₁ s₂ s₃ t r : List Float) (others' : List (List Float)) (b c : Bool) (windows n : ℕ) → windows ≡ length l.tracks.nodes - 1 →
       BothFit both_serve (states_left (model_in S l) l.tracks.states.c) (states_left (model_in S l) l.tracks.states.d) l.tracks.nodes s s₁
       (front_size S.degree) b →
-      Gathered (as_given windows) (epochs_serve (length s₁)) outtimes outraws s₁ t r s₂ answer → n ≡ unwrap_or answer 0 →
+      Counted (as_given windows) (epochs_serve (length s₁)) outtimes outraws s₁ t r s₂ n →
       ColumnsFilled (columns_serve n (length t) (map length (r ∷ others)) (length s₂)) l.tracks.nodes n t r others others' s₂ s₃ c →
       Worked S l n (t ∷ r ∷ others') s s₃
   unfolding columns_of kept_count
-  worked s₁ s₂ s₃ t r others' b c windows n answer w f g e k =
-      let q : Listed m es t r n = listed s₁ s₂ t r b windows n answer w f g e in
+  worked s₁ s₂ s₃ t r others' b c windows n w f g k =
+      let q : Listed m es t r n = listed s₁ s₂ t r b windows n w f g in
       let few : length es ≤ m = length_kept S l in
       let lt : length t ≡ m = ap length q.times ∙ filled_length zero64 m (map time es) (omega (arith, length-map es time)) in
       let lr : length r ≡ m = ap length q.raws ∙ filled_length zero64 m (map residual es) (omega (arith, length-map es residual)) in

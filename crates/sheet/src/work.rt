@@ -33,7 +33,7 @@ pub(crate) fn work(
         windows: nodes.len().saturating_sub(1),
         observed: submission.observed,
     };
-    let kept = kept_epochs::gather(given, outtimes, outraws, s).unwrap_or(0);
+    let kept = kept_epochs::gather(given, outtimes, outraws, s);
     columns::fill(nodes, kept, outtimes, outraws, outdetrended, outpassed, s);
     kept
 }

@@ -15,6 +15,8 @@ ghost use Rattle.integrate.specs.Room.{run_size, Run, state_in};
 ghost use Rattle.windows.specs.Windows.{states_left, window_fine, arc_between, room_for, windows_serve, Leaves, Windowed, Ends, Filled, WindowsFit};
 ghost use Rattle.windows.specs.Slots.{entries_room, lowest, highest, within, Entered, Keeps};
 
+use fit::kernel::Fitted;
+
 // The least whole number that is not below x.
 fn ceil(x: f64) -> u64
     requires { T (le zero64 x) × T (le x highest) }
@@ -161,8 +163,8 @@ fn leave(track: Track<'_>, span: Span, s: &mut [f64], at: usize) -> usize
     }
     let arc = arc_between(span.from, span.to);
     match fit::kernel::fit_arc(track.model, track.states, arc, s) {
-        Ok(_) => keep(arc.t0, span, arc.steps, s, track.base, at),
-        Err(_) => 0,
+        Fitted::Fitted(_) => keep(arc.t0, span, arc.steps, s, track.base, at),
+        Fitted::Refused(_) => 0,
     }
 }
 

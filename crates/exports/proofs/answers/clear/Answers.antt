@@ -1,5 +1,5 @@
 use Rattle.std.proofs.Common.{rules}
-use Rattle.exports.proofs.AnswersTold.{clear_turn, clear_done}
+use Rattle.laws.specs.Loops.{clear_turn, clear_done}
 use Rattle.exports.proofs.answers.clear.Goals as goal
 
 pub loop-place-init : goal.loop-place-init

@@ -1,5 +1,6 @@
 -- `fitted_orbits::work::window`: a long window and a refused fit add nothing, any other fit its states inside and its rms; by proofs/Windows.antt. Assumes nothing.
-use Rattle.std.proofs.Common.{T, sym, subst, arith}
+use Rattle.std.proofs.Common.{T, sym, ap, subst, arith}
+use Rattle.fit.specs.Fit.{answer_of}
 use Rattle.fitted_orbits.specs.Calls.{outputs}
 use Rattle.windows.proofs.Arcs.{Fine}
 use Rattle.windows.proofs.Filling.{arc_few, arc_inside}
@@ -21,12 +22,12 @@ keep-states-requires c =
       omega (arith, c.requires.1.states),
     )
 
-pub returns-in-Ok : goal.returns-in-Ok
-returns-in-Ok c =
+pub returns-in-Fitted : goal.returns-in-Fitted
+returns-in-Fitted c =
     let a = c.args in
     let short : Fine a.span.from a.span.to = record { ends = a.span.ends; short = subst T (sym c.if-not-span.false) tt } in
     let fits = track_fits a.track a.span.from a.span.to short a.s.now _ _ _ c.requires.0 c.arc_between-arc.ensures c.fit_arc.ensures in
-    fitted_adds_at _ _ _ a.span.from a.span.to short a.track.model.degree a.s.now _ _ _ a.done (outputs a.outkeys.now a.outstates.now a.rms.now) _ c.in-Ok.x _ _ _ _ _ c.in-Ok.is
+    fitted_adds_at _ _ _ a.span.from a.span.to short a.track.model.degree a.s.now _ _ _ a.done (outputs a.outkeys.now a.outstates.now a.rms.now) _ c.in-Fitted.x _ _ _ _ _ (ap answer_of c.in-Fitted.is)
     a.track.placed c.arc_between-arc.ensures fits c.keep-states.ensures c.put_rms-windows.ensures.0 c.put_rms-windows.ensures.1
 
 pub returns : goal.returns
@@ -34,4 +35,4 @@ returns c =
     let a = c.args in
     let short : Fine a.span.from a.span.to = record { ends = a.span.ends; short = subst T (sym c.if-not-span.false) tt } in
     let fits = track_fits a.track a.span.from a.span.to short a.s.now _ _ _ c.requires.0 c.arc_between-arc.ensures c.fit_arc.ensures in
-    refused_adds _ _ _ a.span.from a.span.to short a.track.model.degree a.s.now _ a.done (outputs a.outkeys.now a.outstates.now a.rms.now) _ _ c.in_default.is fits
+    refused_adds _ _ _ a.span.from a.span.to short a.track.model.degree a.s.now _ a.done (outputs a.outkeys.now a.outstates.now a.rms.now) _ _ (ap answer_of c.in_default.is) fits
