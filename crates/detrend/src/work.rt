@@ -12,7 +12,7 @@ use crate::Parts;
 use std::f64::consts::PI;
 
 // A bias, a trend, and cosines and sines of one and two turns a revolution.
-#[tactic(auto, unfolding(crate::specs::Fit::row_of, numbers::specs::Numbers::sine_cosine))]
+#[tactic(auto, using(slices::proofs::SliceLoops::copied_all), unfolding(crate::specs::Fit::row_of, numbers::specs::Numbers::sine_cosine))]
 fn write_row(row: &mut [f64], t: f64, start: f64, period: f64)
     requires { length row.old ≡ 6 }
     ensures { row.new ≡ row_of start period t }
@@ -21,14 +21,17 @@ fn write_row(row: &mut [f64], t: f64, start: f64, period: f64)
     let angle = 2.0 * PI * since / period;
     let once = numbers::sine_cosine(angle);
     let twice = numbers::sine_cosine(2.0 * angle);
-    row.copy_from_slice(&[
-        1.0,
-        since / period,
-        once.cosine,
-        once.sine,
-        twice.cosine,
-        twice.sine,
-    ]);
+    slices::copy(
+        &[
+            1.0,
+            since / period,
+            once.cosine,
+            once.sine,
+            twice.cosine,
+            twice.sine,
+        ],
+        row,
+    );
 }
 
 // The rows of the count times from `from` on, written from `to` on.

@@ -8,7 +8,7 @@ use native.Mathlib.Numerals.{add-one}
 use native.Mathlib.Omega.{arith}
 use borrow.Rule.Slice.PartMut.{mid_of, post_of, put_mid, Post-is, mid_len}
 use borrow.Author.Tests.{ltb-true, lt-ltb, le-ltb, le-leb, lt-leb, eq-eqb, ne_eqb}
-use lib.Ieee.{Float, nan, inf, fin, binary64, is_nan, of_bits, nan_bits, to_bits}
+use lib.Ieee.{Float, nan, inf, fin, binary64, is_nan, of_bits, nan_bits, ne, to_bits}
 use lib.Ieee.Bits.{nan_bits_above, nan_bits_is}
 use lib.Dec.{T, ltb, eqb}
 use lib.ListN.{length, take, drop, get_or, set, length-set, length-append, length-drop, drop_of_length-le}
@@ -16,6 +16,7 @@ use lib.Seq.{take_all, length-take-le, drop-cons, get_or-set_same, drop-set-lt}
 use Rattle.std.specs.List.{list_all}
 use Rattle.laws.specs.Loops.{head_at}
 use Rattle.laws.specs.Bools.{left_true, right_true}
+use Rattle.laws.specs.SameBits.{ne_is_nan}
 use Rattle.std.specs.Prelude.{Option, Some, None, ◌⊎◌}
 use Rattle.std.proofs.Common.{inl, inr}
 use Rattle.std.proofs.lemmas.Bool.Decides.{nat_tests}
@@ -244,3 +245,6 @@ nan_pattern = refl
 
 pub pattern_nan : (x : Float) → is_nan x ≡ true → 9221120237041090560 ≡ to_bits binary64 x
 pattern_nan x h = let e : x ≡ nan = is_nan_law x h in rw e (sym nan_pattern)
+
+pub pattern_no_nan : (x : Float) → ne x x ≡ false → T (not (is_nan x))
+pattern_no_nan x h = let e : is_nan x ≡ false = sym (ne_is_nan x) ∙ h in rw e tt

@@ -1,11 +1,11 @@
 -- What the calls of modules 3 to 5 and the whole path are lent, as records of three parts, and what is tested of it (document 01, "Outcomes" and "Bounds").
 -- Assumes nothing.
-use Rattle.std.specs.Prelude.{◌≡◌, ℕ, ◌+◌, ◌-◌, ◌*◌, ◌≤◌, ◌<◌, Bool, ◌&&◌, cond, List, leb, eqb, ℤ, Float, length, Result, Err, MatchResult, IsErrAnd}
+use Rattle.std.specs.Prelude.{◌≡◌, ℕ, ◌+◌, ◌-◌, ◌*◌, ◌≤◌, ◌<◌, Bool, ◌&&◌, cond, List, leb, eqb, ℤ, Float, length, Err}
 use Rattle.std.specs.Float.Ieee.Scale.{finite}
 use Rattle.std.specs.List.{list_all}
 use Rattle.laws.specs.Checks.{is_time, is_key, rising, rising_seconds}
 use Rattle.laws.specs.Tables.{tri}
-use Rattle.slices.specs.Calls.{Verdict, accepted}
+use Rattle.slices.specs.Calls.{Verdict}
 use Rattle.slices.specs.declared.refusal.Refusal.{Refusal}
 use Rattle.slices.specs.declared.refusal.Refusal.TheVariants.{Degree, Count, Length, Value, Order}
 
@@ -94,15 +94,13 @@ lists M states accs nodes obs =
 
 -- ---- tests
 
--- the refusal of the first of five tests that fails; `rest` is what the tests behind them say
-abbrev pub first_of : Bool → Bool → Bool → Bool → Bool → Verdict → Verdict
-first_of degree counts lengths values order rest =
-    cond degree (cond counts (cond lengths (cond values (cond order rest (Err Order)) (Err Value)) (Err Length)) (Err Count)) (Err Degree)
+-- what is said of the first of five tests that fails, where `refused` says each refusal; `rest` is what the tests behind them say
+abbrev pub first_said : {A : Type 0} → (Refusal → A) → Bool → Bool → Bool → Bool → Bool → A → A
+first_said refused degree counts lengths values order rest =
+    cond degree (cond counts (cond lengths (cond values (cond order rest (refused Order)) (refused Value)) (refused Length)) (refused Count)) (refused Degree)
 
--- the same with an error of the caller's own: where the five tests pass `rest`, else an error that the refusal turns into
-abbrev pub FirstOfOwn : {E : Type 0} → (Refusal → E → Type 0) → Bool → Bool → Bool → Bool → Bool → Result (Unit {0}) E → Result (Unit {0}) E → Type 0
-FirstOfOwn gives degree counts lengths values order rest result =
-    MatchResult (first_of degree counts lengths values order accepted) (λ _. result ≡ rest) (λ refusal. IsErrAnd result (gives refusal))
+abbrev pub first_of : Bool → Bool → Bool → Bool → Bool → Verdict → Verdict
+first_of = first_said Err
 
 -- how many coefficients of one kind a field of degree N has, and how many numbers
 abbrev pub kind : ℕ → ℕ

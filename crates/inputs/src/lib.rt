@@ -1,9 +1,11 @@
 // The lists that the calls of modules 3 to 5 and the whole path are lent, and the tests of them.
 #![tactic(auto)]
 
-ghost use Rattle.std.specs.Prelude.{◌≡◌, ◌&&◌, ℕ, ◌+◌, ◌-◌, ◌*◌, ◌≤◌, ◌<◌, length, leb, eqb};
+ghost use Rattle.std.specs.Prelude.{◌≡◌, ◌&&◌, ℕ, Err, ◌+◌, ◌-◌, ◌*◌, ◌≤◌, ◌<◌, length, leb, eqb};
 ghost use Rattle.laws.specs.Checks.{degree_fine};
-ghost use Rattle.inputs.specs.Inputs.{field_size, first_of, FirstOfOwn, fields_fine, counts_fine, model_fits, states_fit, tables_fit, front_size, least_scratch};
+ghost use Rattle.slices.specs.Answers.{number_of};
+ghost use Rattle.slices.specs.declared.refusal.Refusal.{Refusal};
+ghost use Rattle.inputs.specs.Inputs.{field_size, first_said, fields_fine, counts_fine, model_fits, states_fit, tables_fit, front_size, least_scratch};
 ghost use Rattle.inputs.specs.Inputs.{scratch_fits, lengths_fit, whole_scratch_fits, keyed_fine, rise, window_room, kind};
 
 use slices::Refusal;
@@ -38,38 +40,55 @@ pub fn degree_fine(degree: usize) -> bool
     2 <= degree && degree <= 180
 }
 
-// The refusal of the first test that fails; `rest` is that of the tests behind these.
-pub fn first_of(
-    degree: bool,
-    counts: bool,
-    lengths: bool,
-    values: bool,
-    order: bool,
-    rest: Result<(), Refusal>,
-) -> Result<(), Refusal>
-    ensures { result ≡ first_of degree counts lengths values order rest }
-{
-    slices::tested(degree, Refusal::Degree)?;
-    slices::tested(counts, Refusal::Count)?;
-    slices::tested(lengths, Refusal::Length)?;
-    slices::tested(values, Refusal::Value)?;
-    slices::tested(order, Refusal::Order)?;
-    rest
+// What a call may answer: each refusal, and what else it says.
+pub trait Outcome: Copy {
+    ghost refused_by: { Refusal → Self };
+
+    fn refused(refusal: Refusal) -> Self
+        ensures { result ≡ refused_by refusal };
 }
 
-// The same for a caller with an error of its own, which has more cases than a refusal has: `rest` may be any of these.
-pub fn first_of_own<E: Copy + From<Refusal>>(
+impl Outcome for Result<(), Refusal> {
+    ghost refused_by = { Err };
+
+    fn refused(refusal: Refusal) -> Self {
+        Err(refusal)
+    }
+}
+
+// Document 01's number of a refusal, where any other number says something else.
+impl Outcome for u8 {
+    ghost refused_by = { number_of };
+
+    fn refused(refusal: Refusal) -> Self {
+        u8::from(refusal)
+    }
+}
+
+// What is said of the first test that fails; `rest` is what the tests behind these say.
+pub fn first_of<A: Outcome>(
     degree: bool,
     counts: bool,
     lengths: bool,
     values: bool,
     order: bool,
-    rest: Result<(), E>,
-) -> Result<(), E>
-    ensures { FirstOfOwn E.from_gives degree counts lengths values order rest result }
+    rest: A,
+) -> A
+    ensures { result ≡ first_said A.refused_by degree counts lengths values order rest }
 {
-    first_of(degree, counts, lengths, values, order, Ok(()))?;
-    rest
+    if !degree {
+        A::refused(Refusal::Degree)
+    } else if !counts {
+        A::refused(Refusal::Count)
+    } else if !lengths {
+        A::refused(Refusal::Length)
+    } else if !values {
+        A::refused(Refusal::Value)
+    } else if !order {
+        A::refused(Refusal::Order)
+    } else {
+        rest
+    }
 }
 
 // How many numbers stand before a run's states; none for a degree above 180.

@@ -1,7 +1,8 @@
 -- Laws of the numbers before the states: the field at a time, written over that of another, and the gravity of the field that they hold. Assumes nothing.
-use Rattle.std.proofs.Common.{◌≡◌, ℕ, ◌+◌, ◌-◌, ◌*◌, ◌/◌, ◌<◌, ◌≤◌, true, false, ◌&&◌, eqb, leb, List, ◌++◌, length, get_or, take, drop, replicate, sym, refl, ap, ◌∙◌, arith, length-append, length-drop, take-append-drop, length-take-le, get_or-drop, get_or-take, take_at, get_or-append-add, ext_get_or, drop_at, le-leb, leb-true}
+use Rattle.std.proofs.Common.{◌≡◌, ℕ, ◌+◌, ◌-◌, ◌*◌, ◌/◌, ◌<◌, ◌≤◌, true, false, not, ◌&&◌, T, eqb, leb, List, ◌++◌, length, get_or, take, drop, replicate, sym, refl, ap, ◌∙◌, arith, length-append, length-drop, take-append-drop, length-take-le, get_or-drop, get_or-take, take_at, get_or-append-add, ext_get_or, drop_at, le-leb, leb-true}
+use mathlib.Core.Bool.{false≢true}
 use native.Mathlib.Decide.{dec_le}
-use lib.Ieee.{Float, nan}
+use lib.Ieee.{Float, nan, inf, fin, eq, is_nan}
 use lib.ListN.{length-replicate, replicate-append-replicate}
 use borrow.Rule.Slice.PartMut.{put_mid}
 use Rattle.inputs.specs.Inputs.{Model, kind, field_size, front_size}
@@ -20,6 +21,13 @@ use Rattle.legendre.proofs.Published.{prepared_length as long, prepared_field, p
 use Rattle.integrate.specs.Force.{coefficients_at, gravity_at}
 use Rattle.integrate.specs.Room.{Only}
 use Rattle.integrate.specs.Work.{front_at}
+
+-- a number that equals itself is no NaN
+pub eq_no_nan : (x : Float) → eq x x ≡ true → T (not (is_nan x))
+unfolding eq is_nan
+eq_no_nan nan h = absurd (false≢true h)
+eq_no_nan (inf s) h = tt
+eq_no_nan (fin s m e) h = tt
 
 -- ---- the field written over another
 

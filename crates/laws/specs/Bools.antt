@@ -1,5 +1,5 @@
 -- Bools: by cases, both sides of a conjunction that holds, a test that holds. Assumes nothing.
-use Rattle.std.specs.Prelude.{◌≡◌, refl, Bool, true, false, ◌&&◌, T}
+use Rattle.std.specs.Prelude.{◌≡◌, refl, Bool, true, false, not, ◌&&◌, T}
 use Rattle.std.proofs.Common.{sym, ◌∙◌, subst}
 use Rattle.std.proofs.lemmas.Bool.{false≢true}
 
@@ -10,6 +10,9 @@ by false f g = g refl
 
 pub holds : (b : Bool) → b ≡ true → T b
 holds b e = subst T (sym e) tt
+
+pub fails : (b : Bool) → b ≡ false → T (not b)
+fails b e = subst (λ (t : Bool). T (not t)) (sym e) tt
 
 pub no : {P : Type 0} → false ≡ true → P
 no e = absurd (false≢true e)

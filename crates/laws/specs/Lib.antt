@@ -2,7 +2,7 @@
 --
 -- want                                                                  look in         names
 -- ⊕ ⊖ ⊗ ⊘ over binary64; a literal as `bits`; 0.0, 1.0, 2.0             Floats          ◌⊕◌ ◌⊖◌ ◌⊗◌ ◌⊘◌, bits, zero64, one64, two64, zero⁺, zero_bits
--- by the cases of a Bool; both sides of a && b ≡ true                    Bools           by, both_true, left_true, right_true, holds, no, clash
+-- by the cases of a Bool; both sides of a && b ≡ true                    Bools           by, both_true, left_true, right_true, holds, fails, no, clash
 -- a property of each element; map over ++; Bool, `cond`                 Lists           All, all_append, all_left, all_right, all_map, all_images,
 --                                                                                       map_append, map_map,
 --                                                                                       cond_ind, decide, same_bool, put_length
@@ -22,9 +22,12 @@
 -- what a call tests of its lists, as Bools                              Checks          is_time, is_key, degree_fine, ascending, rising, rising_seconds
 -- what those tests say of each element                                  Checks          all_says_each, all_says, time_says, times_say_each, times_say,
 --                                                                                       rising_says, rising_times_say, seconds_say
--- one turn of a loop that fills a list                                  Loops           head_at, turn, turn_done, take_set, fill_turn, fill_done, cleared,
---                                                                                       same_cleared
+-- one turn of a loop that fills, copies or clears a list                Loops           head_at, turn, turn_done, take_set, fill_turn, fill_done, copy_turn,
+--                                                                                       copy_done, cleared, same_cleared, clear_turn, clear_done
 -- values at the front of m places, one more value; +0.0 or 0 in the rest Loops           filled_up, filled_length, filled_front, filled_none, filled_set
+-- one turn of a loop that tests elements or neighbours                  Loops           all_goes, all_stops, all_done, all_goes_each, all_stops_each,
+--                                                                                       all_done_each, each_holds, ascending_goes, ascending_stops,
+--                                                                                       ascending_done, ascending_none
 -- a triangular table as a list: index, rows, filling by rows            Tables          tri, row, rows, tri_next, tri_mono, row_at, rows_at, row_none,
 --                                                                                       row_turn, rows_turn,
 --                                                                                       rows_done

@@ -1,9 +1,10 @@
 -- What one turn of a loop does to a list: filled, cleared or tested from the front. Stated as invariants, tests and `ensures` give them. Assumes nothing.
-use Rattle.std.specs.Prelude.{◌≡◌, refl, List, [], ◌∷◌, ◌++◌, Bool, true, false, not, ◌&&◌, ℕ, suc, ◌+◌, ◌-◌, ◌<◌, ◌≤◌, length, take, drop, get_or, set, replicate, Float}
+use Rattle.std.specs.Prelude.{◌≡◌, refl, List, [], ◌∷◌, ◌++◌, map, Bool, true, false, not, ◌&&◌, ℕ, suc, ◌+◌, ◌-◌, ◌<◌, ◌≤◌, length, take, drop, get_or, set, replicate, Float}
 use Rattle.std.specs.List.{list_all}
 use Rattle.std.proofs.Common.{sym, ap, ◌∙◌, append-nil, append_assoc, add-one, le_refl, arith, drop_of_length-le, length-append, take-suc-set, drop-set-lt, drop-cons, take_all, take_at}
 use Rattle.std.proofs.lemmas.Bool.{not-true, not-false}
 use Rattle.std.proofs.lemmas.List.{length-replicate, set_at}
+use Rattle.std.proofs.lemmas.List.Folds.{list_all-map}
 use Rattle.std.proofs.Math.Seq.{append_snoc}
 use Rattle.laws.specs.Floats.{zero64}
 use Rattle.laws.specs.Checks.{ascending}
@@ -87,21 +88,38 @@ pub clear_done {ℓ} : {A : Type ℓ} (z : A) (a a₀ : List A) (i : ℕ) → le
     a ≡ replicate (length a₀) z
 clear_done z a a₀ i l h inv = fill_done a _ _ i h (replicate_none (length a₀) i z (omega arith)) inv
 
--- ---- testing each element, by std's `list_all`, which is for types of the lowest universe
+-- ---- testing each element, in any universe: std's `list_all`, which is for the lowest, is asked of the answers
 
-all_at : {A : Type 0} (d : A) (p : A → Bool) (x : List A) (i : ℕ) → i < length x → list_all p (drop i x) ≡ (p (get_or x i d) && list_all p (drop (i + 1) x))
-all_at d p x i h = rw (head_at x i d h)
+abbrev pub each_holds {ℓ} : {A : Type ℓ} → (A → Bool) → List A → Bool
+each_holds p x = list_all (λ (b : Bool). b) (map p x)
+
+each_at {ℓ} : {A : Type ℓ} (d : A) (p : A → Bool) (x : List A) (i : ℕ) → i < length x → each_holds p (drop i x) ≡ (p (get_or x i d) && each_holds p (drop (i + 1) x))
+each_at d p x i h = rw (head_at x i d h)
+
+pub all_stops_each {ℓ} : {A : Type ℓ} (d : A) (p : A → Bool) (x : List A) (b g : Bool) (i : ℕ) → i < length x → b ≡ p (get_or x i d) → not b ≡ true
+    → each_holds p (drop i x) ≡ g → false ≡ g
+all_stops_each d p x b g i h e f inv = sym (each_at d p x i h ∙ ap (λ (b : Bool). b && each_holds p (drop (i + 1) x)) (sym e ∙ not-true b f)) ∙ inv
+
+pub all_goes_each {ℓ} : {A : Type ℓ} (d : A) (p : A → Bool) (x : List A) (b g : Bool) (i : ℕ) → i < length x → b ≡ p (get_or x i d) → not b ≡ false
+    → each_holds p (drop i x) ≡ g → each_holds p (drop (i + 1) x) ≡ g
+all_goes_each d p x b g i h e f inv = sym (each_at d p x i h ∙ ap (λ (b : Bool). b && each_holds p (drop (i + 1) x)) (sym e ∙ not-false b f)) ∙ inv
+
+pub all_done_each {ℓ} : {A : Type ℓ} (p : A → Bool) (x : List A) (b : Bool) (i : ℕ) → length x ≤ i → each_holds p (drop i x) ≡ b → true ≡ b
+all_done_each p x b i h e = sym (ap (each_holds p) (drop_of_length-le x h)) ∙ e
+
+each_is : {A : Type 0} (p : A → Bool) (x : List A) → each_holds p x ≡ list_all p x
+each_is p x = list_all-map (λ (b : Bool). b) p x
 
 pub all_stops : {A : Type 0} (d : A) (p : A → Bool) (x : List A) (b g : Bool) (i : ℕ) → i < length x → b ≡ p (get_or x i d) → not b ≡ true
     → list_all p (drop i x) ≡ g → false ≡ g
-all_stops d p x b g i h e f inv = sym (all_at d p x i h ∙ ap (λ (b : Bool). b && list_all p (drop (i + 1) x)) (sym e ∙ not-true b f)) ∙ inv
+all_stops d p x b g i h e f inv = all_stops_each d p x b g i h e f (each_is p (drop i x) ∙ inv)
 
 pub all_goes : {A : Type 0} (d : A) (p : A → Bool) (x : List A) (b g : Bool) (i : ℕ) → i < length x → b ≡ p (get_or x i d) → not b ≡ false
     → list_all p (drop i x) ≡ g → list_all p (drop (i + 1) x) ≡ g
-all_goes d p x b g i h e f inv = sym (all_at d p x i h ∙ ap (λ (b : Bool). b && list_all p (drop (i + 1) x)) (sym e ∙ not-false b f)) ∙ inv
+all_goes d p x b g i h e f inv = sym (each_is p (drop (i + 1) x)) ∙ all_goes_each d p x b g i h e f (each_is p (drop i x) ∙ inv)
 
 pub all_done : {A : Type 0} (p : A → Bool) (x : List A) (b : Bool) (i : ℕ) → length x ≤ i → list_all p (drop i x) ≡ b → true ≡ b
-all_done p x b i h e = sym (ap (list_all p) (drop_of_length-le x h)) ∙ e
+all_done p x b i h e = all_done_each p x b i h (each_is p (drop i x) ∙ e)
 
 -- ---- testing neighbours
 

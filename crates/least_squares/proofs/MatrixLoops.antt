@@ -61,6 +61,10 @@ flat_holds m = record {
       ∙ ap (λ (n : ℕ). m n ((i * 16 + j) % 16)) (omega arith) ∙ ap (λ (n : ℕ). m i n) (omega arith);
 }
 
+-- an element of a flat list of n rows of p
+pub row_in : (r n p j : ℕ) → r < n → j < p → r * p + j < n * p
+row_in r n p j a b = omega (arith, mul-le-mul_right p a, suc-mul r p)
+
 pub ltb_step : (j k : ℕ) → (j ≡ k → ⊥) → ltb j k ≡ ltb j (k + 1)
 ltb_step j k h =
     by (ltb j k)

@@ -65,6 +65,10 @@ pub row_sums_are : (f : Evaluation) (n : ℕ) (x y : List Float) {p d : List Flo
     → RowSums (degree_of (from f.c (tri n)) (from f.s (tri n)) (at x) (at y) (at p) (at d)) (n + 1) v lat lon → RowSums (degrees f n) (n + 1) v lat lon
 row_sums_are f n x y hx hy hp hd s = sums_as (λ m h. hx m (omega arith)) (λ m h. hy m (omega arith)) hp.set hd.set s
 
+-- what an array has up to a degree it has up to a lower one
+pub has_less : {g : ℕ → Float} {w : List Float} (N n : ℕ) → Has (N + 1) g w → n ≤ N → Has (n + 1) g w
+has_less N n h l = record { len = h.len; set = λ i lt. h.set i (omega arith) }
+
 -- the arrays as they are made hold the two rows before the first
 pub zero_row : (T : Tables) (t : Float) (j : ℕ) → j ≤ 1 → Holds T t j (replicate 184 zero64)
 zero_row T t j h =

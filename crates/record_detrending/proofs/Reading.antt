@@ -22,6 +22,10 @@ abbrev pub reading : List Epoch → List Float → ℕ → List Float
 reading xs vs zero = vs
 reading xs vs (suc i) = set (set (reading xs vs i) i (get_or xs i none).t) (length xs + i) (get_or xs i none).residual
 
+pub length_reading : (xs : List Epoch) (vs : List Float) (i : ℕ) → length (reading xs vs i) ≡ length vs
+length_reading xs vs zero = refl
+length_reading xs vs (suc i) = simp length-set (length_reading xs vs i)
+
 field_at : (f : Epoch → Float) (xs : List Epoch) (i : ℕ) → i < length xs → f (get_or xs i none) ≡ get_or (map f xs) i nan
 field_at f [] i h = absurd (omega arith)
 field_at f (x ∷ xs) zero h = refl

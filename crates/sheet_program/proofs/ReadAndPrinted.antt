@@ -63,6 +63,9 @@ places_are numbers c a1 a2 a3 a4 a5 a6 a7 a8 e1 e2 e3 e4 e5 e6 e7 e8 =
 
 -- ---- lists from lines
 
+pub step_far : (step i : ℕ) → step ≤ 185 → i < 100000 → step * i ≤ 18500000
+step_far step i h k = mul-le-mul h (let q : i ≤ 100000 = omega arith in q)
+
 pub lines_far : (i step width : ℕ) → i < 100000 → step ≤ 185 → 0 < width → step * (i / width) ≤ 18500000
 lines_far i step width k h w = mul-le-mul h (let q : i / width ≤ 100000 = omega (arith, div-le_self i width) in q)
 

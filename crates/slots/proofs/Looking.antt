@@ -1,19 +1,19 @@
 -- A second is looked up by its float: exact for keys, so that halving over the floats finds what the table has. Assumes nothing.
-use Rattle.std.proofs.Common.{◌≡◌, ℕ, zero, suc, ◌+◌, ◌*◌, ◌<◌, ◌≤◌, take, drop, Bool, true, false, not, T, eqb, ltb, List, [], ◌∷◌, ◌++◌, map, length, get_or, ℤ, pos, negsuc, sym, refl, ap, ◌∙◌, subst, arith, ltb→lt, leb→le, ltb-false, eqb-true}
+use Rattle.std.proofs.Common.{◌≡◌, ℕ, zero, suc, ◌+◌, ◌*◌, ◌^◌, ◌<◌, ◌≤◌, take, drop, Bool, true, false, not, T, eqb, ltb, List, [], ◌∷◌, ◌++◌, map, length, get_or, ℤ, pos, negsuc, sym, refl, ap, ◌∙◌, subst, arith, ltb→lt, leb→le, ltb-false, eqb-true}
 use Rattle.std.specs.Prelude.{Option, None, Some}
 use Rattle.std.specs.Simd.{first_chunks}
 use Rattle.std.specs.List.Sorted.{IsPartitionedBy, IsPartitionPoint}
 use Rattle.std.proofs.lemmas.List.{get_or-take, get_or-drop}
 use lib.Dec.{not_T}
 use lib.Signed.{lt_z, le_z}
-use lib.Ieee.{Float, nan, lt}
+use lib.Ieee.{Float, nan, fin, lt}
 use lib.Ieee.Fits.{and_l, and_r}
 use lib.Ieee.Bits.{is_false, is_true}
 use borrow.Author.Tests.{eqb-false}
 use Rattle.laws.specs.Lists.{All, all_of_images}
 use Rattle.laws.specs.Checks.{is_key, below_tr}
 use Rattle.laws.specs.Times.{RisingSeconds, second_time, second_below}
-use Rattle.laws.specs.WholeNumbers.{number, number_is, is_lt}
+use Rattle.laws.specs.WholeNumbers.{Is, number, number_is, is_lt}
 use Rattle.laws.specs.Bools.{by, holds}
 use Rattle.finality.specs.Tables.{Table, find, key_of, same_second}
 use Rattle.finality.proofs.Lookup.{same_second_law}
@@ -24,6 +24,20 @@ use Rattle.slots.specs.LookUp.{joined, SlotsHold, Looked, Sought, Searched, InSl
 use Rattle.inputs.specs.Inputs.{window_room}
 use Rattle.numbers.specs.Numbers.{count_of}
 use Rattle.numbers.proofs.Counts.{counted}
+
+-- ---- the count, as a float between −1 and 2^64
+
+minus_one : Is (fin true 1 (pos 0)) 0 1
+minus_one = record { is_finite = tt; value = refl }
+
+two_64 : Is (fin false 1 (pos 64)) (2 ^ 64) 0
+two_64 = record { is_finite = tt; value = refl }
+
+pub count_above : (n : ℕ) → n ≤ 3500 → T (lt (fin true 1 (pos 0)) (number n))
+count_above n h = is_lt (fin true 1 (pos 0)) (number n) 0 1 n 0 minus_one (number_is n (omega arith)) (omega arith)
+
+pub count_below : (n : ℕ) → n ≤ 3500 → T (lt (number n) (fin false 1 (pos 64)))
+count_below n h = is_lt (number n) (fin false 1 (pos 64)) n 0 (2 ^ 64) 0 (number_is n (omega arith)) two_64 (omega arith)
 
 -- ---- keys as floats
 

@@ -3,6 +3,7 @@ use mathlib.Core.Path.{◌≡◌, refl, sym, ap, ◌∙◌, subst}
 use mathlib.Core.Bool.{Bool, true, false, cond, not, ◌&&◌}
 use mathlib.Core.List.{List, [], ◌∷◌, ◌++◌, append-nil, append_assoc}
 use Prim.Native.Nat.{ℕ, zero, suc, ◌+◌, ◌-◌, ◌*◌, ◌<◌, ◌≤◌}
+use native.Mathlib.Nat.{mul-le-mul}
 use native.Mathlib.Omega.{arith}
 use borrow.Author.Tests.{not-true, not-false, leb-true}
 use lib.Pointwise.{pointwise}
@@ -34,6 +35,9 @@ begins_is (n ∷ name) [] = refl
 begins_is (n ∷ name) (b ∷ line) = (λ i. eqb_flips n b i && begins_is name line i)
 
 -- ---- rows
+
+pub few_coefficients : (degree : ℕ) → degree < 13 → (degree + 1) * (degree + 2) ≤ 182
+few_coefficients degree h = mul-le-mul (let h1 : degree + 1 ≤ 13 = omega arith in h1) (let h2 : degree + 2 ≤ 14 = omega arith in h2)
 
 module _ (line : List ℕ) (words : ℕ) (goal : Bool) where
   pub row_bad : (k : ℕ) (b : Bool) → k < words → b ≡ is_term line (17 * k) (words - k) → not b ≡ true → is_row line (17 * k) (words - k) ≡ goal → false ≡ goal
