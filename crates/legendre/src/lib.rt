@@ -130,6 +130,19 @@ pub fn tabulate_b(degree: usize, out: &mut [f64])
     tabulate(b_of, degree, out);
 }
 
+// The tables of the derivative's factors.
+pub fn tabulate_lower(degree: usize, out: &mut [f64])
+    ensures { out.new ≡ tabulated lower_of degree out.old }
+{
+    tabulate(lower_of, degree, out);
+}
+
+pub fn tabulate_upper(degree: usize, out: &mut [f64])
+    ensures { out.new ≡ tabulated upper_of degree out.old }
+{
+    tabulate(upper_of, degree, out);
+}
+
 // The diagonal's next.
 fn diagonal_next(m: usize, pmm: f64) -> f64
     requires { (0 < m) × (m ≤ 181) }
